@@ -46,6 +46,13 @@ pub record ToCheck : Type 0 where
   pub proof : Text
   pub mode : Mode
 
+-- to judge the LRAT proof in a file over the formula in another one, read in a mode, and to write the DRAT proof that it becomes to a third one
+pub record ToConvert : Type 0 where
+  pub file : Text
+  pub proof : Text
+  pub mode : Mode
+  pub out : Text
+
 -- to write an order of the variables of the formula in a file, read in a mode, found by a method, to another file
 pub record ToOrder : Type 0 where
   pub file : Text
@@ -71,6 +78,7 @@ pub data Command : Type 0 where
   Bench : ToBench → Command
   Make : ToMake → Command
   Arrange : ToOrder → Command
+  Convert : ToConvert → Command
 
 -- the formula's file, where one is named
 abbrev pub formula_file : Command → Option Text
@@ -79,6 +87,7 @@ formula_file (Check task) = Some task.file
 formula_file (Bench task) = None
 formula_file (Make task) = None
 formula_file (Arrange task) = Some task.file
+formula_file (Convert task) = Some task.file
 
 -- the mode in which the formula's file is read, where one is named
 abbrev pub mode_of : Command → Mode
@@ -87,6 +96,7 @@ mode_of (Check task) = task.mode
 mode_of (Bench task) = Strict
 mode_of (Make task) = Strict
 mode_of (Arrange task) = task.mode
+mode_of (Convert task) = task.mode
 
 -- the limits where the words give none
 abbrev pub default_limits : Limits
@@ -99,6 +109,7 @@ limits_of (Check task) = default_limits
 limits_of (Bench task) = task.limits
 limits_of (Make task) = default_limits
 limits_of (Arrange task) = default_limits
+limits_of (Convert task) = default_limits
 
 -- the sizes of boards
 abbrev pub IsSize : ℕ → Type 0
@@ -111,6 +122,7 @@ size_of (Check task) = None
 size_of (Bench task) = Some task.size
 size_of (Make task) = Some task.size
 size_of (Arrange task) = None
+size_of (Convert task) = None
 
 -- the plan where the words name none
 abbrev pub default_plan : PlanName
@@ -221,6 +233,12 @@ abbrev pub to_check : Option (Text × Text) → Mode → Meaning
 to_check (Some names) mode = Asks (Check (record { file = names.0; proof = names.1; mode = mode }))
 to_check None mode = Misuse
 
+-- two files, one to write the DRAT proof to, and a mode
+abbrev pub to_convert : Option (Text × Text) → Option Text → Mode → Meaning
+to_convert (Some names) (Some out) mode =
+    Asks (Convert (record { file = names.0; proof = names.1; mode = mode; out = out }))
+to_convert _ _ _ = Misuse
+
 -- a formula's file and an order's, a method, and a mode
 abbrev pub to_order : Option (Text × Text) → Option OrderMethod → Mode → Meaning
 to_order (Some names) (Some method) mode = Asks (Arrange (record { file = names.0; method = method; mode = mode; out = names.1 }))
@@ -261,6 +279,11 @@ abbrev pub check_means : List Row → Meaning
 check_means rows = to_check (two_names (first_of (codes "FILE") rows) (first_of (codes "PROOF") rows) [])
     (mode_given (first_of (codes "lax") rows))
 
+abbrev pub convert_means : List Row → Meaning
+convert_means rows =
+    to_convert (two_names (first_of (codes "FILE") rows) (first_of (codes "PROOF") rows) (first_of (codes "out") rows ∷ []))
+    (first_of (codes "out") rows) (mode_given (first_of (codes "lax") rows))
+
 abbrev pub order_means : List Row → Meaning
 order_means rows =
     to_order (two_names (first_of (codes "FILE") rows) (first_of (codes "out") rows) [])
@@ -285,7 +308,7 @@ board_means name rows = if bytes_eq name (codes "bench") then bench_means rows e
 abbrev pub command_means : Text → List Row → Meaning
 command_means name rows =
     if bytes_eq name (codes "solve") then solve_means rows else if bytes_eq name (codes "check") then check_means rows else if bytes_eq name
-    (codes "order") then order_means rows else board_means name rows
+    (codes "order") then order_means rows else if bytes_eq name (codes "drat") then convert_means rows else board_means name rows
 
 -- what words mean that the parser takes; a command must be among them
 abbrev pub taken_means : Option (Text × List Row) → Meaning

@@ -58,6 +58,10 @@ proof_file_rule = record (new_rule (codes "PROOF")) { required = true }
 abbrev pub check_app : App
 check_app = with_rules (new_app (codes "check")) (file_rule ∷ proof_file_rule ∷ lax_rule ∷ [])
 
+-- `drat FILE PROOF --out P [--lax]`
+abbrev pub drat_app : App
+drat_app = with_rules (new_app (codes "drat")) (file_rule ∷ proof_file_rule ∷ needed_rule (codes "out") ∷ lax_rule ∷ [])
+
 -- `order FILE --by METHOD --out F [--lax]`
 abbrev pub order_app : App
 order_app =
@@ -79,11 +83,15 @@ bench_app = with_rules (with_rules (new_app (codes "bench")) board_rules) (proof
 abbrev pub make_app : App
 make_app = with_rules (with_rules (new_app (codes "make")) board_rules) (needed_rule (codes "part") ∷ needed_rule (codes "out") ∷ [])
 
--- the commands about a formula's file, `solve`, `check` and `order`, after the program's name
-abbrev pub file_commands : App
-file_commands =
-    with_subcommand (with_subcommand (with_subcommand (new_app (codes "bddsat")) solve_app.top) check_app.top) order_app.top
+-- the commands about a proof's file, `solve`, `check` and `drat`, after the program's name
+abbrev pub proof_commands : App
+proof_commands =
+    with_subcommand (with_subcommand (with_subcommand (new_app (codes "bddsat")) solve_app.top) check_app.top) drat_app.top
 
--- the program: one of five commands after its name
+-- those about a formula's file, with `order`
+abbrev pub file_commands : App
+file_commands = with_subcommand proof_commands order_app.top
+
+-- the program: one of six commands after its name
 abbrev pub the_app : App
 the_app = with_subcommand (with_subcommand file_commands bench_app.top) make_app.top

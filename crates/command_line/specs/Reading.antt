@@ -11,7 +11,7 @@ use Rattle.command_line.specs.declared.words.Asked.{Asked}
 use Rattle.command_line.specs.declared.words.Asked.TheVariants as asked
 use Rattle.command_line.specs.declared.words.Refusal.{Refusal}
 use Rattle.command_line.specs.declared.words.Refusal.TheVariants as refusal
-use Rattle.command_line.specs.Command.{Command, Solve, Check, Bench, Make, Arrange, Planned, ByName, ByFile, ByBuckets, Found}
+use Rattle.command_line.specs.Command.{Command, Solve, Check, Bench, Make, Arrange, Convert, Planned, ByName, ByFile, ByBuckets, Found}
 use Rattle.command_line.specs.Command.{Asks, AsksHelp, Misuse, MayMean, IsSize, limits_of, refusal_means, size_of, taken_means}
 
 -- the text behind a reference that may be there
@@ -41,6 +41,8 @@ command_of (asked.Bench task) = Bench (record { size = task.size; proof = task.p
 command_of (asked.Make task) = Make (record { size = task.size; part = task.part; file = task.file.now })
 command_of (asked.Order task) =
     Arrange (record { file = task.formula.now; method = task.method; mode = task.mode; out = task.out.now })
+command_of (asked.Convert task) =
+    Convert (record { file = task.files.formula.now; proof = task.files.proof.now; mode = task.mode; out = task.out.now })
 
 -- its limits are ones that a run may have, and the board that it is about has one of the sizes
 abbrev pub IsWithin : Command → Type 0

@@ -2,8 +2,8 @@
 ghost use Rattle.std.specs.Prelude.{◌≡◌, IfOk, false};
 ghost use Rattle.clap.specs.Words.{app_of, new_app, rule_of};
 ghost use Rattle.clap.specs.declared.Command.TheViews.{out-Command};
-ghost use Rattle.command_line.specs.Parser.{file_rule, flag_rule, lax_rule, limit_rules, needed_rule, option_rule, proof_rule};
-ghost use Rattle.command_line.specs.Parser.{with_rules, word_rule};
+ghost use Rattle.command_line.specs.Parser.{file_rule, flag_rule, lax_rule, limit_rules, needed_rule, option_rule, proof_file_rule};
+ghost use Rattle.command_line.specs.Parser.{proof_rule, with_rules, word_rule};
 
 use clap::{Arg, ArgAction, Command};
 use std::alloc::{AllocError, Global};
@@ -55,6 +55,15 @@ pub fn formula_arg<'a>(alloc: Global) -> Arg<'a>
     Arg::new(alloc, "FILE")
         .required(true)
         .help("The formula, in DIMACS CNF")
+}
+
+pub fn proof_file_arg<'a>(alloc: Global) -> Arg<'a>
+    ensures rule { rule_of result ≡ proof_file_rule }
+    ensures local { result.global ≡ false }
+{
+    Arg::new(alloc, "PROOF")
+        .required(true)
+        .help("The proof, in LRAT")
 }
 
 pub fn lax_arg<'a>(alloc: Global) -> Arg<'a>

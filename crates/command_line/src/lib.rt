@@ -5,6 +5,8 @@
 mod args;
 mod board;
 mod board_parser;
+mod drat;
+mod drat_parser;
 mod limits;
 mod method;
 mod mode;
@@ -17,6 +19,7 @@ mod plan;
 mod words;
 
 pub use board::{BenchTask, MakeTask};
+pub use drat::ConvertTask;
 pub use method::OrderMethod;
 pub use names::FileNames;
 pub use order::OrderTask;

@@ -1,16 +1,18 @@
 // The parser of the command line, with its texts of help.
 ghost use Rattle.std.specs.Prelude.{◌≡◌, IfOk, MatchResult, false};
-ghost use Rattle.clap.specs.Words.{app_of, rule_of, shape_of, with_subcommand};
+ghost use Rattle.clap.specs.Words.{app_of, shape_of, with_subcommand};
 ghost use Rattle.clap.specs.declared.Command.TheViews.{out-Command};
-ghost use Rattle.command_line.specs.Parser.{check_app, file_commands, order_rules, plan_rules, proof_file_rule, solve_app, the_app};
+ghost use Rattle.command_line.specs.Parser.{check_app, file_commands, order_rules, plan_rules, proof_commands, solve_app, the_app};
 ghost use Rattle.command_line.specs.Parser.{with_rules};
 
 use crate::args::{
-    Texts, command, flag_arg, formula_arg, lax_arg, option_arg, proof_arg, with_limits,
+    Texts, command, flag_arg, formula_arg, lax_arg, option_arg, proof_arg, proof_file_arg,
+    with_limits,
 };
 use crate::board_parser::{bench_parser, make_parser};
+use crate::drat_parser::drat_parser;
 use crate::order_parser::order_parser;
-use clap::{Arg, Command};
+use clap::Command;
 use std::alloc::{AllocError, Global};
 
 const ALL: Texts<'static> = Texts {
@@ -20,6 +22,7 @@ bddsat solve FILE --proof P [--lax] [--order F]
                     [--search | --buckets F | --schedule F | --plan PLAN]
                     [--max-nodes N] [--max-ids N] [--cache N]
        bddsat check FILE PROOF [--lax]
+       bddsat drat FILE PROOF --out P [--lax]
        bddsat order FILE --by METHOD --out F [--lax]
        bddsat bench board N --proof P [--max-nodes N] [--max-ids N] [--cache N]
        bddsat make board N --part PART --out F",
@@ -28,8 +31,8 @@ Exit codes:
   10  solve: satisfiable; the values are on standard output
   20  solve, bench: unsatisfiable; the proof is in P
    0  solve, bench: undecided, since a limit was reached; P has the steps so far
-   0  check: the proof is verified
-   1  check: the proof is not verified; standard output has the line and why
+   0  check, drat: the proof is verified
+   1  check, drat: it is not verified; standard output has the line and why
    0  make, order: the text is in F
    0  help was shown
    2  a file's text is not of its format, or too large
@@ -41,6 +44,7 @@ Exit codes:
 Example:
   bddsat solve formula.cnf --search --proof formula.lrat
   bddsat check formula.cnf formula.lrat
+  bddsat drat formula.cnf formula.lrat --out formula.drat
   bddsat order formula.cnf --by degree --out formula.order
   bddsat bench board 8 --proof board.lrat
   bddsat make board 8 --part cnf --out board.cnf",
@@ -75,7 +79,7 @@ const SCHEDULE_HELP: &str = "A file with the plan, as lines of commands c, a and
 
 const PLAN_HELP: &str = "bucket quantifies early, conjoin never [default: bucket]";
 
-/// The parser: one of five commands after the program's name.
+/// The parser: one of six commands after the program's name.
 pub fn parser<'a>(alloc: Global) -> Result<Command<'a>, AllocError>
     ensures { IfOk result (λ command. app_of command ≡ the_app) }
 {
@@ -88,9 +92,17 @@ pub fn parser<'a>(alloc: Global) -> Result<Command<'a>, AllocError>
 fn file_commands<'a>(alloc: Global) -> Result<Command<'a>, AllocError>
     ensures { IfOk result (λ command. app_of command ≡ file_commands) }
 {
+    let drat = proof_commands(alloc)?;
+    with_command(drat, order_parser(alloc))
+}
+
+// The program's name with those of them that are about a proof's file too.
+fn proof_commands<'a>(alloc: Global) -> Result<Command<'a>, AllocError>
+    ensures { IfOk result (λ command. app_of command ≡ proof_commands) }
+{
     let solve = with_command(command(alloc, "bddsat", ALL), solve_parser(alloc))?;
     let check = with_command(solve, check_parser(alloc))?;
-    with_command(check, order_parser(alloc))
+    with_command(check, drat_parser(alloc))
 }
 
 // The command with this one behind its commands, where there was memory to make it.
@@ -147,13 +159,4 @@ fn check_parser<'a>(alloc: Global) -> Result<Command<'a>, AllocError>
         .arg(formula_arg(alloc))?
         .arg(proof_file_arg(alloc))?
         .arg(lax_arg(alloc))
-}
-
-fn proof_file_arg<'a>(alloc: Global) -> Arg<'a>
-    ensures rule { rule_of result ≡ proof_file_rule }
-    ensures local { result.global ≡ false }
-{
-    Arg::new(alloc, "PROOF")
-        .required(true)
-        .help("The proof, in LRAT")
 }

@@ -11,6 +11,7 @@ ghost use Rattle.command_line.specs.Command.{solve_means, taken_means};
 ghost use Rattle.command_line.specs.Reading.{IsRefusal, IsRefusalOf, IsTaken, IsWithin, command_of};
 
 use crate::board::{BenchTask, MakeTask, bench_asked, make_asked};
+use crate::drat::{ConvertTask, convert_asked};
 use crate::limits::limits_among;
 use crate::mode::mode_given;
 use crate::names::{FileNames, names_among, two_names};
@@ -37,6 +38,8 @@ pub enum Asked<'a> {
     Make(MakeTask<'a>),
     /// To write an order of a formula's variables.
     Order(OrderTask<'a>),
+    /// To judge the proof over the formula, and to write it as a DRAT proof.
+    Convert(ConvertTask<'a>),
 }
 
 /// What is to be decided, by what and how far.
@@ -131,6 +134,8 @@ fn command_named<'a>(name: &str, values: &ArgMatches<'a>) -> Option<Asked<'a>>
         check_asked(values)
     } else if name == "order" {
         order_asked(values)
+    } else if name == "drat" {
+        convert_asked(values)
     } else {
         board_command(name, values)
     }

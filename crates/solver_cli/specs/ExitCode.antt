@@ -8,6 +8,9 @@ use Rattle.host_io.specs.declared.role.Role.TheVariants.{Cnf, Order, Buckets, Sc
 use Rattle.lrat_checker.specs.declared.verdict.CheckError.{CheckError}
 use Rattle.lrat_checker.specs.declared.verdict.CheckError.TheVariants.{ReadFault as CheckReadFault, TooLong as CheckTooLong}
 use Rattle.lrat_checker.specs.declared.verdict.CheckError.TheVariants.{OutOfMemory as CheckOutOfMemory}
+use Rattle.drat_proof.specs.declared.error.ConvertError.{ConvertError}
+use Rattle.drat_proof.specs.declared.error.ConvertError.TheVariants.{ReadFault as ConvertReadFault, TooLong as ConvertTooLong}
+use Rattle.drat_proof.specs.declared.error.ConvertError.TheVariants.{OutOfMemory as ConvertOutOfMemory, WriteFault as ConvertWriteFault}
 use Rattle.schedule_plan.specs.declared.order_error.OrderError.{OrderError}
 use Rattle.schedule_plan.specs.declared.order_error.OrderError.TheVariants.{Refused as OrderIsRefused, ReadFault as OrderReadFault}
 use Rattle.schedule_plan.specs.declared.order_error.OrderError.TheVariants.{TooLong as OrderTooLong, OutOfMemory as OrderOutOfMemory}
@@ -67,6 +70,12 @@ abbrev pub status_of_check : CheckError → Status
 status_of_check CheckReadFault = ReadFault
 status_of_check CheckTooLong = TooLong ProofIn
 status_of_check CheckOutOfMemory = OutOfMemory
+
+abbrev pub status_of_convert : ConvertError → Status
+status_of_convert ConvertReadFault = ReadFault
+status_of_convert ConvertTooLong = TooLong ProofIn
+status_of_convert ConvertOutOfMemory = OutOfMemory
+status_of_convert ConvertWriteFault = WriteFault
 
 abbrev pub status_of_run : RunError → Status
 status_of_run RunOutOfMemory = OutOfMemory

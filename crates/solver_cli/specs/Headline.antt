@@ -14,6 +14,8 @@ use Rattle.lrat_rules.specs.declared.outcome.Reason.{Reason}
 use Rattle.lrat_checker.specs.TextVerdict.{max_bytes, text_verdict, verdict_so_far}
 use Rattle.lrat_checker.specs.declared.verdict.Verdict.{Verdict}
 use Rattle.lrat_checker.specs.declared.verdict.Verdict.TheVariants as judgement
+use Rattle.drat_proof.specs.Drat.{drat, drat_steps}
+use Rattle.drat_proof.specs.Conversion.{AreFirstLines}
 use Rattle.schedule_plan.specs.OrderText.{OrderText, order as given_order, refusal as order_refusal, overlong as overlong_order}
 use Rattle.schedule_plan.specs.OrderText.{order_text, order_so_far}
 use Rattle.schedule_plan.specs.ScheduleText.{ScheduleText, refusal as schedule_refusal, overlong as overlong_schedule, schedule}
@@ -29,7 +31,8 @@ use Rattle.term_runner.specs.Width.{HasWidth}
 use Rattle.term_runner.specs.Ends.{Says, Shows}
 use Rattle.term_runner.specs.Recovered.{IsRecovered}
 use Rattle.answer_text.specs.Status.{verified_line, refused_text}
-use Rattle.command_line.specs.Command.{Command, ToSolve, ToCheck, ToBench, ToMake, ToOrder, Solve, Check, Bench, Make, Arrange, Planned}
+use Rattle.command_line.specs.Command.{Command, ToSolve, ToBench, ToMake, ToOrder, ToConvert, Solve, Check, Bench, Make}
+use Rattle.command_line.specs.Command.{Arrange, Convert, Planned}
 use Rattle.command_line.specs.Command.{ByName, ByFile}
 use Rattle.command_line.specs.Command.{ByBuckets, Found, formula_file}
 use Rattle.command_line.specs.Command.{mode_of, AsksHelp, Misuse, MayMean, CanOnlyMean, command, limits_asked}
@@ -82,18 +85,18 @@ OutputFailed run = (role : Role) × (IsCreated role ⊎ (role ≡ Out)) × HasFa
 abbrev pub IsUnharmed : Run → Type 0
 IsUnharmed run = (InputFailed run → ⊥) × (OutputFailed run → ⊥)
 
--- the words give a command; they give `solve`; they give `check`; they give `make`
+-- the words give a command; they give `solve`; they give `make`; they give `drat`
 abbrev pub GivesCommand : Run → Type 0
 GivesCommand run = (asked : Command) × (command run.words ≡ Some asked)
 
 abbrev pub GivesSolve : Run → Type 0
 GivesSolve run = (task : ToSolve) × (command run.words ≡ Some (Solve task))
 
-abbrev pub GivesCheck : Run → Type 0
-GivesCheck run = (task : ToCheck) × (command run.words ≡ Some (Check task))
-
 abbrev pub GivesMake : Run → Type 0
 GivesMake run = (task : ToMake) × (command run.words ≡ Some (Make task))
+
+abbrev pub GivesConversion : Run → Type 0
+GivesConversion run = (task : ToConvert) × (command run.words ≡ Some (Convert task))
 
 -- they give `solve` or `bench`, which decide a formula
 abbrev pub decides : Command → Bool
@@ -102,6 +105,7 @@ decides (Check task) = false
 decides (Bench task) = true
 decides (Make task) = false
 decides (Arrange task) = false
+decides (Convert task) = false
 
 abbrev pub GivesDecision : Run → Type 0
 GivesDecision run = (asked : Command) × (command run.words ≡ Some asked) × IsTrue (decides asked)
@@ -123,9 +127,11 @@ name_given Buckets _ = None
 name_given Schedule (Solve task) = schedule_file task.plan
 name_given Schedule _ = None
 name_given ProofIn (Check task) = Some task.proof
+name_given ProofIn (Convert task) = Some task.proof
 name_given ProofIn _ = None
 name_given ProofOut (Solve task) = Some task.proof
 name_given ProofOut (Bench task) = Some task.proof
+name_given ProofOut (Convert task) = Some task.out
 name_given ProofOut _ = None
 name_given Made (Make task) = Some task.file
 name_given Made (Arrange task) = Some task.out
@@ -136,6 +142,10 @@ name_given Err asked = None
 -- they name a formula's file; with `solve` they name the file of an order, that of an order of the buckets, or a schedule's
 abbrev pub GivesFormula : Run → Type 0
 GivesFormula run = (asked : Command) × (command run.words ≡ Some asked) × (file : List ℕ) × (formula_file asked ≡ Some file)
+
+-- With `check` and `drat` they name a proof's file, which is to be judged.
+abbrev pub GivesProof : Run → Type 0
+GivesProof run = (asked : Command) × (command run.words ≡ Some asked) × (file : List ℕ) × (name_given ProofIn asked ≡ Some file)
 
 abbrev pub GivesOrder : Run → Type 0
 GivesOrder run = (task : ToSolve) × (command run.words ≡ Some (Solve task)) × (file : List ℕ) × (task.order ≡ Some file)
@@ -203,14 +213,25 @@ pub record AsksFor (run : Run) (problem : Formula) : Type 0 where
 
 -- they ask to judge this proof over this formula
 pub record AsksToJudge (run : Run) (problem : Formula) (bytes : List ℕ) : Type 0 where
-  pub task : ToCheck
-  pub asks : AsksOver run (Check task) (formula problem)
-  pub stands : run.files task.proof ≡ Some bytes
+  pub asked : Command
+  pub asks : AsksOver run asked (formula problem)
+  pub file : List ℕ
+  pub named : name_given ProofIn asked ≡ Some file
+  pub stands : run.files file ≡ Some bytes
 
 -- and this is the verdict on it
 pub record HasVerdict (run : Run) (problem : Formula) (bytes : List ℕ) (verdict : Verdict) : Type 0 where
   pub asked : AsksToJudge run problem bytes
   pub judged : text_verdict problem.clauses bytes ≡ Some verdict
+
+-- They ask to judge a proof over this formula, and to write it as a DRAT proof.
+abbrev pub AsksToConvert : Run → Type 0
+AsksToConvert run = (task : ToConvert) × (problem : Formula) × AsksOver run (Convert task) (formula problem)
+
+-- the file that the DRAT proof goes to gained exactly what this proof over the formula becomes, and that is flushed
+pub record IsConverted (run : Run) (problem : Formula) (bytes : List ℕ) : Type 0 where
+  pub written : written_in run ProofOut ≡ drat problem.clauses bytes
+  pub flushed : (run.after ProofOut).flushed ≡ length (run.after ProofOut).written
 
 -- what is printed for an outcome of the formula that is asked for, by the proof's bytes
 abbrev pub text_for : Run → Formula → Outcome → List ℕ
@@ -282,26 +303,30 @@ pub record IsUndecided (run : Run) (why : Why) : Type 0 where
 abbrev pub LimitsAreReached : Run → Type 0
 LimitsAreReached run = (why : Why) → run.status ≡ Unknown why → IsUndecided run why
 
--- Verified: the very bytes of the proof's file refute the formula's clauses, so that no assignment satisfies them.
+-- Verified: the very bytes of the proof's file refute the formula's clauses, so that no assignment satisfies them. With `drat`
+-- the proof was converted, whole.
 pub record IsVerified (run : Run) : Type 0 where
   pub problem : Formula
   pub bytes : List ℕ
   pub has : HasVerdict run problem bytes judgement.Verified
+  pub converted : GivesConversion run → IsConverted run problem bytes
   pub refuted : Refutes problem.clauses bytes
   pub unsatisfiable : AreUnsatisfiable problem.clauses
   pub printed : written_in run Out ≡ verified_line
 
--- Not verified: this is the first bad line of the proof, or that of its end, and why it is refused.
+-- Not verified: this is the first bad line of the proof, or that of its end, and why it is refused. With `drat` what comes
+-- before it was converted, whole.
 pub record IsNotVerified (run : Run) (line : ℕ) (reason : Reason) : Type 0 where
   pub problem : Formula
   pub bytes : List ℕ
   pub has : HasVerdict run problem bytes (judgement.Refused line reason)
+  pub converted : GivesConversion run → IsConverted run problem bytes
   pub refused : verdict problem.clauses bytes ≡ Some (line, reason)
   pub printed : written_in run Out ≡ refused_text line reason
 
 pub record VerdictIsTrue (run : Run) : Type 0 where
-  pub verified : run.status ≡ Verified → GivesCheck run × (IsTrue run.tells → IsVerified run)
-  pub not_verified : (line : ℕ) (reason : Reason) → run.status ≡ NotVerified line reason → GivesCheck run
+  pub verified : run.status ≡ Verified → GivesProof run × (IsTrue run.tells → IsVerified run)
+  pub not_verified : (line : ℕ) (reason : Reason) → run.status ≡ NotVerified line reason → GivesProof run
       × (IsTrue run.tells → IsNotVerified run line reason)
 
 -- Done: the words give `make`, and the text of the board was written to the file that they name, and flushed.
@@ -442,11 +467,13 @@ pub record DecisionWantsMemory (run : Run) : Type 0 where
 
 -- For judging a proof, once the formula was accepted: its text may want it, or none of it was taken yet. Or for making an order.
 pub record VerdictWantsMemory (run : Run) : Type 0 where
-  pub task : ToCheck
-  pub given : command run.words ≡ Some (Check task)
+  pub asked : Command
+  pub given : command run.words ≡ Some asked
+  pub file : List ℕ
+  pub named : name_given ProofIn asked ≡ Some file
   pub problem : Formula
-  pub asks : IsTrue run.tells → AsksOver run (Check task) (formula problem)
-  pub wants : IsTrue run.tells → (bytes : List ℕ) × (run.files task.proof ≡ Some bytes)
+  pub asks : IsTrue run.tells → AsksOver run asked (formula problem)
+  pub wants : IsTrue run.tells → (bytes : List ℕ) × (run.files file ≡ Some bytes)
       × WantsProof problem.clauses bytes (taken_in run ProofIn)
   pub before_answer : run.after Out ≡ run.before Out
 
@@ -480,7 +507,7 @@ IsDue run (TooLong Cnf) = GivesFormula run × (IsTrue run.tells → IsRefusedBy 
 IsDue run (TooLong Order) = GivesOrder run × (IsTrue run.tells → OrderIsRefusedBy run overlong_order)
 IsDue run (TooLong Buckets) = GivesBuckets run × (IsTrue run.tells → BucketsAreRefusedBy run overlong_order)
 IsDue run (TooLong Schedule) = GivesSchedule run × (IsTrue run.tells → ScheduleIsRefusedBy run overlong_schedule)
-IsDue run (TooLong ProofIn) = GivesCheck run × (IsTrue run.tells → IsLongProof run)
+IsDue run (TooLong ProofIn) = GivesProof run × (IsTrue run.tells → IsLongProof run)
 IsDue run (TooLong ProofOut) = ⊥
 IsDue run (TooLong Made) = ⊥
 IsDue run (TooLong Out) = ⊥
@@ -493,12 +520,13 @@ abbrev pub RefusalsAreDue : Run → Type 0
 RefusalsAreDue run = IsDue run run.status
 
 -- the formula that is to be decided was accepted, or the proof was judged, or none is read, or the formula was accepted of which an order is
--- to be made
+-- to be made, or over which a proof is to be converted
 abbrev pub TextsAreRead : Run → Type 0
 TextsAreRead run = ((problem : Formula) × AsksFor run problem)
     ⊎ (((problem : Formula) × (bytes : List ℕ) × (judged : Verdict) × HasVerdict run problem bytes judged)
     ⊎ (GivesMake run
-    ⊎ ((task : ToOrder) × (problem : Formula) × AsksOver run (Arrange task) (formula problem))))
+    ⊎ (((task : ToOrder) × (problem : Formula) × AsksOver run (Arrange task) (formula problem))
+    ⊎ AsksToConvert run)))
 
 -- A call on the formula's file failed where the bytes taken of it decide nothing yet, and none of another file was taken.
 pub record IsOpenFormula (run : Run) : Type 0 where
@@ -546,12 +574,14 @@ pub record IsOpenSchedule (run : Run) : Type 0 where
   pub failed : HasFault run Schedule
   pub undecided : schedule_so_far problem (taken_in run Schedule) ≡ overlong_schedule
 
--- The words give `check`, the formula was accepted, and a call on the proof's file failed where the bytes taken of it
+-- The words name a proof, the formula was accepted, and a call on the proof's file failed where the bytes taken of it
 -- decide nothing yet over the formula. That file may be missing: then none was taken.
 pub record IsOpenProof (run : Run) : Type 0 where
-  pub task : ToCheck
+  pub asked : Command
   pub problem : Formula
-  pub asks : AsksOver run (Check task) (formula problem)
+  pub asks : AsksOver run asked (formula problem)
+  pub file : List ℕ
+  pub named : name_given ProofIn asked ≡ Some file
   pub failed : HasFault run ProofIn
   pub undecided : verdict_so_far problem.clauses (taken_in run ProofIn) ≡ None
 
@@ -570,14 +600,47 @@ abbrev pub NamedOutputFailed : Run → Type 0
 NamedOutputFailed run = HasFault run Out ⊎ ((role : Role) × IsCreated role × HasFault run role × (asked : Command) × (file : List ℕ)
     × (command run.words ≡ Some asked) × (name_given role asked ≡ Some file))
 
+-- a status with which `drat` ends when it has read its proof: a verdict, or that the proof is too long
+abbrev pub ends_in_proof : Status → Bool
+ends_in_proof Sat = false
+ends_in_proof Unsat = false
+ends_in_proof (Unknown why) = false
+ends_in_proof Verified = true
+ends_in_proof (NotVerified line reason) = true
+ends_in_proof Done = false
+ends_in_proof Help = false
+ends_in_proof Usage = false
+ends_in_proof (CnfRefused kind line) = false
+ends_in_proof (OrderRefused kind line) = false
+ends_in_proof (BucketsRefused kind line) = false
+ends_in_proof (PlanRefused kind line) = false
+ends_in_proof (TooLong Cnf) = false
+ends_in_proof (TooLong Order) = false
+ends_in_proof (TooLong Buckets) = false
+ends_in_proof (TooLong Schedule) = false
+ends_in_proof (TooLong ProofIn) = true
+ends_in_proof (TooLong ProofOut) = false
+ends_in_proof (TooLong Made) = false
+ends_in_proof (TooLong Out) = false
+ends_in_proof (TooLong Err) = false
+ends_in_proof ReadFault = false
+ends_in_proof WriteFault = false
+ends_in_proof OutOfMemory = false
+
+-- The words give `drat`, and it came to the reading of the proof: a call on that failed, or it was read.
+abbrev pub ConvertsAsItReads : Run → Type 0
+ConvertsAsItReads run = GivesConversion run × (HasFault run ProofIn ⊎ IsTrue (ends_in_proof run.status))
+
 -- Faults: a read fault comes only where a call on a file that is read and that the words name failed, and what was taken decides
--- nothing yet, and then nothing was written but on standard error; a write fault only where all texts were read and accepted, or the
--- words may ask for help, and a call on standard output, or on a created file that they name, failed.
+-- nothing yet, and then nothing was written but on standard error, and by `drat`, where the proof's file failed, of the DRAT proof; a write
+-- fault only where all texts were read and accepted (of `drat` the formula), or the words may ask for help, and a call on standard
+-- output, or on a created file that they name, failed.
 pub record FaultsAreCounted (run : Run) : Type 0 where
   pub read : run.status ≡ ReadFault → GivesCommand run × InputFailed run
   pub named : run.status ≡ ReadFault → NamedInputFailed run
   pub undecided : run.status ≡ ReadFault → IsTrue run.tells → IsStillOpen run
-  pub quiet : run.status ≡ ReadFault → IsTrue run.tells → (role : Role) → role ≢ Err → written_in run role ≡ []
+  pub quiet : run.status ≡ ReadFault → IsTrue run.tells → (role : Role) → role ≢ Err → (written_in run role ≡ [])
+      ⊎ ((role ≡ ProofOut) × ConvertsAsItReads run)
   pub write : run.status ≡ WriteFault → OutputFailed run
   pub created : run.status ≡ WriteFault → NamedOutputFailed run
   pub accepted : run.status ≡ WriteFault → MayMean run.words AsksHelp ⊎ (GivesCommand run × (IsTrue run.tells → TextsAreRead run))
@@ -604,10 +667,15 @@ pub record IsAnswerTo (run : Run) (problem : Formula) (outcome : Outcome) : Type
   pub proof : IsProof problem (limits_given run) (written_in run ProofOut)
   pub flushed : (run.after ProofOut).flushed ≡ length (run.after ProofOut).written
 
+-- the verdict on the proof that the words name, by `drat` after a flushed DRAT proof, which is whole
+pub record IsJudged (run : Run) (problem : Formula) (bytes : List ℕ) (judged : Verdict) : Type 0 where
+  pub has : HasVerdict run problem bytes judged
+  pub converted : GivesConversion run → IsConverted run problem bytes
+
 -- it is true, and is what the words ask for
 abbrev pub IsFound : Run → Finding → Type 0
 IsFound run (AnswerTo problem outcome) = IsAnswerTo run problem outcome
-IsFound run (VerdictOn problem bytes judged) = HasVerdict run problem bytes judged
+IsFound run (VerdictOn problem bytes judged) = IsJudged run problem bytes judged
 
 abbrev pub text_found : Run → Finding → List ℕ
 text_found run (AnswerTo problem outcome) = text_for run problem outcome
@@ -665,7 +733,31 @@ pub record ProofStands (run : Run) : Type 0 where
       × ((width price : ℕ) → HasWidth problem asked.order asked.moves width → IsMovePrice problem.vars (limits_given run).cache width price
       → IsProofSoFarOfKind problem.clauses (IsPaidFor problem (limits_given run) asked.moves width price) (written_in run ProofOut)))
 
--- a status with which a run ends that creates no file, or before it does
+-- The DRAT proof that `drat` writes: nothing, or what the first lines of the proof become, in turn. A front of one more line may stand
+-- behind it only after a failed write.
+pub record IsFrontOfDrat (run : Run) : Type 0 where
+  pub problem : Formula
+  pub bytes : List ℕ
+  pub asked : AsksToJudge run problem bytes
+  pub rest : List ℕ
+  pub front : drat problem.clauses bytes ≡ written_in run ProofOut ++ rest
+
+pub record AreLinesOfDrat (run : Run) : Type 0 where
+  pub problem : Formula
+  pub bytes : List ℕ
+  pub asked : AsksToJudge run problem bytes
+  pub lines : AreFirstLines (written_in run ProofOut) (drat_steps problem.clauses bytes)
+
+pub record DratStands (run : Run) : Type 0 where
+  pub so_far : IsTrue run.tells → (written_in run ProofOut ≡ []) ⊎ IsFrontOfDrat run
+  pub whole : run.status ≢ WriteFault → IsTrue run.tells → (written_in run ProofOut ≡ []) ⊎ AreLinesOfDrat run
+
+-- what stands in a written proof: of `drat`, and of every other command
+pub record WrittenStands (run : Run) : Type 0 where
+  pub converted : GivesConversion run → DratStands run
+  pub proved : (GivesConversion run → ⊥) → ProofStands run
+
+-- a status with which a run ends that creates no file, or before it does; but `drat` creates its own before it reads the proof
 abbrev pub ends_before_proof : Status → Bool
 ends_before_proof Sat = false
 ends_before_proof Unsat = false
@@ -686,14 +778,16 @@ ends_before_proof OutOfMemory = false
 
 -- Names: a role has none, or the one that the words give it. Files: none changed but the proof's, which is created only
 -- once all reading is over and all texts were accepted, however the run ends, and the made one, which is created only
--- where its text was written or a call of it failed.
+-- where its text was written or a call of it failed. `drat` creates its proof once the formula was accepted and the proof opened.
 pub record NamesAreGiven (run : Run) : Type 0 where
   pub names : (role : Role) → ((run.after role).name ≡ None) ⊎ ((asked : Command) × (command run.words ≡ Some asked)
       × ((run.after role).name ≡ name_given role asked))
   pub files : (file : List ℕ) → (run.after ProofOut).name ≢ Some file → (run.after Made).name ≢ Some file → run.files_after file
       ≡ run.files file
-  pub read_first : IsTrue (ends_before_proof run.status) → (run.after ProofOut).name ≡ None
-  pub accepted : (run.after ProofOut).name ≢ None → GivesDecision run × (IsTrue run.tells → (problem : Formula) × AsksFor run problem)
+  pub read_first : IsTrue (ends_before_proof run.status) → ((run.after ProofOut).name ≡ None) ⊎ ConvertsAsItReads run
+  pub accepted : (run.after ProofOut).name ≢ None → (GivesDecision run × (IsTrue run.tells → (problem : Formula) × AsksFor run problem))
+      ⊎ (GivesConversion run × (IsTrue run.tells → AsksToConvert run))
+  pub opened : (run.after ProofOut).name ≢ None → GivesConversion run → (run.after ProofIn).name ≢ None
   pub made : (run.after Made).name ≢ None → (run.status ≡ Done) ⊎ (run.status ≡ WriteFault)
 
 -- The words and the texts call for this refusal: it is that of the first text in turn that isn't accepted.
@@ -725,8 +819,8 @@ CallsFor run WriteFault = ⊥
 CallsFor run OutOfMemory = ⊥
 
 -- Complete: what is asked for is answered, unless a call of the host failed or memory ran out; a text that isn't accepted
--- is refused, unless a read failed or memory ran out; words that can mean nothing else are refused, or answered by help, and
--- words that give no command by one of both.
+-- is refused, unless a read failed or memory ran out, or, where it is a proof that `drat` converts, a write failed; words that can mean
+-- nothing else are refused, or answered by help, and words that give no command by one of both.
 pub record IsComplete (run : Run) : Type 0 where
   pub misused : CanOnlyMean run.words Misuse → (run.status ≡ Usage) ⊎ (run.status ≡ OutOfMemory)
   pub helped : CanOnlyMean run.words AsksHelp → (HasFault run Out → ⊥) → (run.status ≡ Help) ⊎ (run.status ≡ OutOfMemory)
@@ -740,8 +834,8 @@ pub record IsComplete (run : Run) : Type 0 where
   pub makes : GivesMake run → IsUnharmed run → (run.status ≡ Done) ⊎ (run.status ≡ OutOfMemory)
   pub arranges : (task : ToOrder) (problem : Formula) → AsksOver run (Arrange task) (formula problem) → IsTrue run.tells → IsUnharmed run
       → (run.status ≡ Done) ⊎ (run.status ≡ OutOfMemory)
-  pub refuses : (status : Status) → CallsFor run status → IsTrue run.tells → (InputFailed run → ⊥) → (run.status ≡ status)
-      ⊎ (run.status ≡ OutOfMemory)
+  pub refuses : (status : Status) → CallsFor run status → IsTrue run.tells → (InputFailed run → ⊥)
+      → (status ≡ TooLong ProofIn → GivesConversion run → OutputFailed run → ⊥) → (run.status ≡ status) ⊎ (run.status ≡ OutOfMemory)
 
 -- All that the program promises of a run.
 pub record Promises (run : Run) : Type 0 where
@@ -756,6 +850,6 @@ pub record Promises (run : Run) : Type 0 where
   pub failures : FailuresAreTold run
   pub output : OutputStands run
   pub error : ErrorStands run
-  pub proof : ProofStands run
+  pub proof : WrittenStands run
   pub names : NamesAreGiven run
   pub complete : IsComplete run

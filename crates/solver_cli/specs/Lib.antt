@@ -5,6 +5,7 @@ pub mod MadeText
 pub mod Verdict
 pub mod Headline
 pub mod Phases
+pub mod DratProof
 pub mod Stages
 pub mod Start
 pub mod SolveThenCheck

@@ -8,6 +8,7 @@ use Rattle.host_io.specs.Channel.{Channel}
 use Rattle.host_io.specs.Files.{Files, Opens}
 use Rattle.lrat_checker.specs.declared.verdict.Verdict.{Verdict}
 use Rattle.lrat_checker.specs.declared.verdict.CheckError.{CheckError}
+use Rattle.drat_proof.specs.declared.error.ConvertError.{ConvertError}
 use Rattle.solver_cli.specs.declared.answer.Shape.{Shape}
 use Rattle.solver_cli.specs.declared.job.Job.{Job as HeldJob}
 use Rattle.solver_cli.specs.declared.status.Status.{Status}
@@ -24,16 +25,19 @@ use Rattle.solver_cli.specs.Answer.{AreOfBoard, IsOrderOf, ending_text, shape_of
 use Rattle.solver_cli.specs.MadeText.{made_text, order_line}
 use Rattle.solver_cli.specs.Verdict.{verdict_text, status_of_verdict}
 use Rattle.solver_cli.specs.ExitCode.{status_of_buckets, status_of_check, status_of_error, status_of_order, status_of_plan}
-use Rattle.solver_cli.specs.ExitCode.{status_of_run}
+use Rattle.solver_cli.specs.ExitCode.{status_of_convert, status_of_run}
 use Rattle.command_line.specs.Reading.{text_of, planned_of}
 use Rattle.command_line.specs.declared.words.SolveTask.{SolveTask}
 use Rattle.command_line.specs.declared.words.CheckTask.{CheckTask}
 use Rattle.command_line.specs.declared.order.OrderTask.{OrderTask}
+use Rattle.command_line.specs.declared.drat.ConvertTask.{ConvertTask}
 use Rattle.command_line.specs.declared.board.BenchTask.{BenchTask}
 use Rattle.command_line.specs.declared.board.MakeTask.{MakeTask}
-use Rattle.command_line.specs.Command.{ToSolve, ToCheck, ToBench, ToMake, ToOrder, Solve, Check, Bench, Make, Arrange, AsksHelp, Misuse}
+use Rattle.command_line.specs.Command.{ToSolve, ToCheck, ToBench, ToMake, ToOrder, ToConvert, Solve, Check, Bench, Make, Arrange}
+use Rattle.command_line.specs.Command.{Convert, AsksHelp, Misuse}
 use Rattle.command_line.specs.Command.{MayMean, command}
 use Rattle.solver_cli.specs.Phases.{TakesFormula, HasOrder, HasBuckets, HasPlan, JudgesProof, WritesProof, PutsText, basis_of, buckets_file}
+use Rattle.solver_cli.specs.DratProof.{RewritesProof}
 
 -- the files of the formula, of its order, of the buckets' order and of a schedule, the proof that is judged, the proof that is written, the text
 -- that is made, and standard output
@@ -252,7 +256,7 @@ pub record LeavesInputs (old new : Role → Channel) : Type 0 where
 abbrev pub FilesBeside : Option (List ℕ) → Option (List ℕ) → Files → Files → Type 0
 FilesBeside one other old new = (file : List ℕ) → one ≢ Some file → other ≢ Some file → new file ≡ old file
 
--- what `solve` is asked to do, what `check` is, and what `order` is
+-- what `solve` is asked to do, what `check` is, what `order` is, and what `drat` is
 abbrev pub task_of : SolveTask → ToSolve
 task_of task = record {
   file = task.files.formula.now;
@@ -268,6 +272,9 @@ check_of task = record { file = task.files.formula.now; proof = task.files.proof
 
 abbrev pub arrange_of : OrderTask → ToOrder
 arrange_of task = record { file = task.formula.now; method = task.method; mode = task.mode; out = task.out.now }
+
+abbrev pub convert_of : ConvertTask → ToConvert
+convert_of task = record { file = task.files.formula.now; proof = task.files.proof.now; mode = task.mode; out = task.out.now }
 
 -- how far `solve` came
 abbrev pub Came : Bool → Streams → Streams → Files → ToSolve → Status → Type 0
@@ -315,6 +322,38 @@ pub record Judged (tells : Bool) (old new : Streams) (files : Files) (task : ToC
 abbrev pub CameToCheck : Bool → Streams → Streams → Files → ToCheck → Status → Type 0
 CameToCheck tells old new files task status = Untaken task.mode tells old new files task.file status
     ⊎ (Unjudged tells old new files task status ⊎ Judged tells old new files task status)
+
+-- the proof was not converted
+pub record Unconverted (tells : Bool) (old new : Streams) (files : Files) (task : ToConvert) (status : Status) : Type 0 where
+  pub problem : Formula
+  pub takes : TakesFormula task.mode tells old.cnf new.cnf files task.file (Ok problem)
+  pub order : new.order ≡ old.order
+  pub buckets : new.buckets ≡ old.buckets
+  pub schedule : new.schedule ≡ old.schedule
+  pub error : ConvertError
+  pub rewrites : RewritesProof tells old.judged new.judged old.proof new.proof files task.proof task.out problem.clauses (Err error)
+  pub made : new.made ≡ old.made
+  pub out : new.out ≡ old.out
+  pub ends : status ≡ status_of_convert error
+
+-- it was converted, and the verdict was printed or not
+pub record Converted (tells : Bool) (old new : Streams) (files : Files) (task : ToConvert) (status : Status) : Type 0 where
+  pub problem : Formula
+  pub takes : TakesFormula task.mode tells old.cnf new.cnf files task.file (Ok problem)
+  pub order : new.order ≡ old.order
+  pub buckets : new.buckets ≡ old.buckets
+  pub schedule : new.schedule ≡ old.schedule
+  pub verdict : Verdict
+  pub rewrites : RewritesProof tells old.judged new.judged old.proof new.proof files task.proof task.out problem.clauses (Ok verdict)
+  pub made : new.made ≡ old.made
+  pub printed : Result ⊤ Failed
+  pub puts : PutsText tells old.out new.out (verdict_text verdict) printed
+  pub ends : status ≡ status_of_printed verdict printed
+
+-- how far `drat` came
+abbrev pub CameToConvert : Bool → Streams → Streams → Files → ToConvert → Status → Type 0
+CameToConvert tells old new files task status = Untaken task.mode tells old new files task.file status
+    ⊎ (Unconverted tells old new files task status ⊎ Converted tells old new files task status)
 
 -- the board was not made: memory ran out
 pub record Unmade (old new : Streams) (status : Status) : Type 0 where
@@ -440,6 +479,12 @@ pub record Arranging (tells : Bool) (words : List (List ℕ)) (old new : Streams
   pub asked : command words ≡ Some (Arrange task)
   pub came : CameToArrange tells old new files task status
 
+-- `drat` was tried
+pub record Converting (tells : Bool) (words : List (List ℕ)) (old new : Streams) (files : Files) (status : Status) : Type 0 where
+  pub task : ToConvert
+  pub asked : command words ≡ Some (Convert task)
+  pub came : CameToConvert tells old new files task status
+
 abbrev pub Stages : Bool → List (List ℕ) → Streams → Streams → Files → Status → Type 0
 Stages tells words old new files status = Misused words old new status
     ⊎ (Helped tells words old new status
@@ -447,4 +492,5 @@ Stages tells words old new files status = Misused words old new status
     ⊎ (Checked tells words old new files status
     ⊎ (Tested tells words old new status
     ⊎ (Making tells words old new status
-    ⊎ Arranging tells words old new files status)))))
+    ⊎ (Arranging tells words old new files status
+    ⊎ Converting tells words old new files status))))))

@@ -15,12 +15,14 @@ ghost use Rattle.solver_cli.specs.ExitCode.{exit_code};
 ghost use Rattle.solver_cli.specs.Start.{OnlyTold, status_of_kind};
 ghost use Rattle.solver_cli.specs.declared.status.Status.{Status};
 ghost use Rattle.solver_cli.specs.declared.status.Status.TheVariants.{OutOfMemory};
-ghost use Rattle.solver_cli.specs.Stages.{Came, CameToAnswer, CameToArrange, CameToBench, CameToCheck, CameToMake, FilesBeside};
+ghost use Rattle.solver_cli.specs.Stages.{Came, CameToAnswer, CameToArrange, CameToBench, CameToCheck, CameToConvert, CameToMake};
+ghost use Rattle.solver_cli.specs.Stages.{FilesBeside, convert_of};
 ghost use Rattle.solver_cli.specs.Stages.{LeavesInputs, ShowsHelp, Stages, arrange_of, bench_of, check_of, job_of, make_of, streams_of, task_of};
 
 use crate::answer::{Shape, status_of};
 use crate::arrangement::{order_by, put_order};
 use crate::complaint::complain;
+use crate::conversion::rewrite;
 use crate::formula::take_formula;
 use crate::job::Job;
 use crate::judgement::judge;
@@ -33,7 +35,8 @@ use crate::status::{Status, buckets_status};
 use crate::verdict::{put_verdict, verdict_status};
 use cnf_base::Cnf;
 use command_line::{
-    Asked, BenchTask, CheckTask, MakeTask, OrderTask, Refusal, SolveTask, gather, read_words,
+    Asked, BenchTask, CheckTask, ConvertTask, MakeTask, OrderTask, Refusal, SolveTask, gather,
+    read_words,
 };
 use host_io::{Host, MemoryHost, Role as HostRole};
 use lrat_checker::check_law;
@@ -56,6 +59,7 @@ fn work<H: Host>(alloc: Global, words: &[String], host: &mut H) -> Status
         Ok(Asked::Bench(task)) => bench(alloc, &task, host),
         Ok(Asked::Make(task)) => make(alloc, &task, host),
         Ok(Asked::Order(task)) => arrange(alloc, &task, host),
+        Ok(Asked::Convert(task)) => drat(alloc, &task, host),
         Err(Refusal::Help(text)) => show_help(&text, host),
         Err(Refusal::Usage) => Status::Usage,
         Err(Refusal::OutOfMemory) => Status::OutOfMemory,
@@ -240,8 +244,30 @@ fn check<H: Host>(alloc: Global, asked: &CheckTask<'_>, host: &mut H) -> Status
     }
 }
 
+// Reads the formula, judges the proof over it, writes it as a DRAT proof and prints the verdict.
+fn drat<H: Host>(alloc: Global, asked: &ConvertTask<'_>, host: &mut H) -> Status
+    requires unnamed { (role : Role) → (H.channel host.old role).name ≡ None }
+    ensures came { CameToConvert H.tells (streams_of (H.channel host.old)) (streams_of (H.channel host.new)) (H.files host.old)
+        (convert_of asked.now) result }
+    ensures error { H.channel host.new ErrRole ≡ H.channel host.old ErrRole }
+    ensures files { FilesBut (H.channel host.new ProofOut).name (H.files host.old) (H.files host.new) }
+{
+    let problem = match take_formula(alloc, host, asked.files.formula, asked.mode) {
+        Ok(problem) => problem,
+        Err(error) => return Status::from(error),
+    };
+    let verdict = match rewrite(alloc, host, &problem, asked.files.proof, asked.out) {
+        Ok(verdict) => verdict,
+        Err(error) => return Status::from(error),
+    };
+    match put_verdict(host, verdict) {
+        Ok(()) => verdict_status(verdict),
+        Err(_) => Status::WriteFault,
+    }
+}
+
 /// Does all that the program does: reads the words (the program's own name first), decides the formula and writes the
-/// proof, judges a proof, or makes a text, prints the answer or what went wrong, and says how the run ends.
+/// proof, judges a proof, or writes it in DRAT, or makes a text, prints the answer or what went wrong, and says how the run ends.
 pub fn run<H: Host>(alloc: Global, words: &[String], host: &mut H) -> Status
     requires unnamed { (role : Role) → (H.channel host.old role).name ≡ None }
     ensures promises { Promises (record {

@@ -3,6 +3,7 @@ ghost use Rattle.std.specs.Prelude.{◌≡◌};
 ghost use Rattle.solver_cli.specs.ExitCode.{exit_code, status_of_buckets};
 
 use dimacs_reader::{CnfError, CnfKind};
+use drat_proof::ConvertError;
 use host_io::Role;
 use lrat_checker::CheckError;
 use lrat_rules::Reason;
@@ -146,6 +147,21 @@ impl From<CheckError> for Status {
             CheckError::ReadFault => Status::ReadFault,
             CheckError::TooLong => Status::TooLong(Role::ProofIn),
             CheckError::OutOfMemory => Status::OutOfMemory,
+        }
+    }
+}
+
+impl From<ConvertError> for Status {
+    ghost use Rattle.solver_cli.specs.ExitCode.{status_of_convert};
+
+    ghost from_gives = { λ e status. status ≡ status_of_convert e };
+
+    fn from(e: ConvertError) -> Status {
+        match e {
+            ConvertError::ReadFault => Status::ReadFault,
+            ConvertError::TooLong => Status::TooLong(Role::ProofIn),
+            ConvertError::OutOfMemory => Status::OutOfMemory,
+            ConvertError::WriteFault => Status::WriteFault,
         }
     }
 }
