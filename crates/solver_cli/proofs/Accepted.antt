@@ -22,8 +22,9 @@ use Rattle.solver_cli.specs.ExitCode.{status_of_run}
 use Rattle.solver_cli.specs.Phases.{WritesProof}
 use Rattle.solver_cli.specs.Stages.{Job, streams_of, Prepared, Uncreated, Undecided, bench_job, solve_job}
 use Rattle.solver_cli.specs.Headline.{Run, written_in, limits_given, decides, OutputFailed, IsUnharmed, GivesDecision, AsksBy, AsksFor}
-use Rattle.solver_cli.specs.Headline.{IsComplete, IsPlanAsked, MemoryIsWanted, NamedOutputFailed, name_given, RefusalsAreDue, ProofStands}
+use Rattle.solver_cli.specs.Headline.{IsComplete, IsPlanAsked, MemoryIsWanted, NamedOutputFailed, name_given, RefusalsAreDue, ProofStands, WrittenStands}
 use Rattle.solver_cli.proofs.Facts.{whole_of, no_answer, write_ends, same_command, not_unasked, only_misuse, only_help, decided_apart}
+use Rattle.solver_cli.proofs.Facts.{decided_unjudged, judged_apart}
 use Rattle.solver_cli.proofs.Reading.{rose_since}
 use Rattle.solver_cli.proofs.CallsFor.{no_call}
 use Rattle.solver_cli.proofs.Promised.{Core, due, quiet_output, no_proof, no_text, no_verdict, same_written}
@@ -106,10 +107,19 @@ solve_complete run {problem = problem} posed answers = record {
   helped = λ only _. absurd (only_help run.words posed.gives only);
   unasked = λ none _. absurd (not_unasked posed.gives none);
   answers = λ other asks t unharmed. answers unharmed;
-  judges = λ other bytes judged has. absurd (decided_apart posed.gives posed.decides has.asked.asks.command refl);
+  judges = λ other bytes judged has. absurd (judged_apart has.asked.asks.command has.asked.named posed.gives
+      (decided_unjudged posed.asked posed.decides));
   makes = λ given. absurd (decided_apart posed.gives posed.decides given.1 refl);
   arranges = λ task other asks. absurd (decided_apart posed.gives posed.decides asks.command refl);
   refuses = λ status calls t unfailed. absurd (no_call run problem (asks_for run posed t) status calls);
+}
+
+-- what was written is the proof's steps
+pub steps_stand : (run : Run) {problem : Formula} {order : List ℕ} {moves : List Move} {job : Job} → Posed run problem order moves job
+    → ProofStands run → WrittenStands run
+steps_stand run posed stands = record {
+  converted = λ given. absurd (decided_apart posed.gives posed.decides given.1 refl);
+  proved = λ _. stands;
 }
 
 -- statuses that no accepted text leads to
@@ -250,7 +260,7 @@ undecided run {problem = problem} {order = order} {moves = moves} {job = job} po
       accepted = λ e. inr ((posed.asked, posed.gives), λ t. inl (problem, asks_for run posed t));
     };
     output = quiet_output run unanswered accepts.help (same_written u.same);
-    proof = stands;
+    proof = steps_stand run posed stands;
     complete = solve_complete run posed (λ unharmed. inr (memory unharmed));
   }
 

@@ -12,14 +12,15 @@ use Rattle.schedule_plan.specs.OrderText.{OrderText, order as given_order, refus
 use Rattle.schedule_plan.specs.ScheduleText.{ScheduleText, plan as given_plan, refusal as schedule_refusal, overlong as overlong_schedule}
 use Rattle.schedule_plan.specs.ScheduleText.{schedule}
 use Rattle.schedule_plan.specs.declared.plan.Move.{Move}
-use Rattle.command_line.specs.Command.{Command, ToOrder, Solve, Check, Bench, Make, Arrange, Planned, ByName, ByFile, ByBuckets, Found}
+use Rattle.command_line.specs.Command.{Command, ToOrder, ToConvert, Solve, Check, Bench, Make, Arrange, Convert, Planned, ByName, ByFile}
+use Rattle.command_line.specs.Command.{ByBuckets, Found}
 use Rattle.command_line.specs.Command.{formula_file, mode_of, command}
 use Rattle.solver_cli.specs.declared.status.Status.{Status}
 use Rattle.solver_cli.specs.declared.status.Status.TheVariants.{Sat, Unsat, Unknown, Verified, NotVerified, Done, Help, Usage, CnfRefused}
 use Rattle.solver_cli.specs.declared.status.Status.TheVariants.{OrderRefused, BucketsRefused, PlanRefused, TooLong, ReadFault, WriteFault, OutOfMemory}
 use Rattle.solver_cli.specs.Answer.{AreGiven, IsRead, IsOrdered, IsPlanned}
 use Rattle.solver_cli.specs.Headline.{Run, GivesCommand, GivesMake, AsksOver, AsksFor, AsksByOrder, AsksByBuckets, AsksBySchedule}
-use Rattle.solver_cli.specs.Headline.{AsksToJudge, HasVerdict}
+use Rattle.solver_cli.specs.Headline.{AsksToJudge, HasVerdict, name_given}
 use Rattle.solver_cli.specs.Headline.{CallsFor}
 use Rattle.solver_cli.proofs.Facts.{one_text, same_command}
 
@@ -75,6 +76,7 @@ after_formula run (Bench task) problem = None
 after_formula run (Make task) problem = None
 after_formula run (Arrange task) problem = None
 after_formula run (Check task) problem = in_file (run.files task.proof) (λ bytes. by_proof (text_verdict problem.clauses bytes))
+after_formula run (Convert task) problem = in_file (run.files task.proof) (λ bytes. by_proof (text_verdict problem.clauses bytes))
 
 abbrev pub by_words : Run → Option Command → Option Status
 by_words run None = None
@@ -133,11 +135,29 @@ by_its_schedule run problem text a =
     ∙ ap (λ (plan : Planned). after_order run plan problem) a.named
     ∙ reads run.files by_schedule a.read
 
+-- what stands in the named file decides
+in_named : (run : Run) (own : List ℕ) (problem : Formula) {file bytes : List ℕ} → ◌≡◌ {A = Option (List ℕ)} (Some own) (Some file)
+    → run.files file ≡ Some bytes
+    → in_file (run.files own) (λ bytes. by_proof (text_verdict problem.clauses bytes)) ≡ by_proof (text_verdict problem.clauses bytes)
+in_named run own problem {file = file} named stands =
+    ap (λ (b : Option (List ℕ)). in_file b (λ bytes. by_proof (text_verdict problem.clauses bytes))) (ap run.files (inner named) ∙ stands) where
+      inner : ◌≡◌ {A = Option (List ℕ)} (Some own) (Some file) → own ≡ file
+      inner e = cc
+
+-- a command that names a proof's file goes by that
+after_judged : (run : Run) (asked : Command) (problem : Formula) {file bytes : List ℕ} → name_given ProofIn asked ≡ Some file
+    → run.files file ≡ Some bytes → after_formula run asked problem ≡ by_proof (text_verdict problem.clauses bytes)
+after_judged run (Solve task) problem named stands = cc
+after_judged run (Bench task) problem named stands = cc
+after_judged run (Make task) problem named stands = cc
+after_judged run (Arrange task) problem named stands = cc
+after_judged run (Check task) problem named stands = in_named run task.proof problem named stands
+after_judged run (Convert task) problem named stands = in_named run task.proof problem named stands
+
 to_judge : (run : Run) (problem : Formula) (bytes : List ℕ) → AsksToJudge run problem bytes → refusal_due run
     ≡ by_proof (text_verdict problem.clauses bytes)
 to_judge run problem bytes a =
-    asks run (Check a.task) (formula problem) a.asks
-    ∙ ap (λ (b : Option (List ℕ)). in_file b (λ bytes. by_proof (text_verdict problem.clauses bytes))) a.stands
+    asks run a.asked (formula problem) a.asks ∙ after_judged run a.asked problem a.named a.stands
 
 -- the refusal that is called for is this one
 pub called : (run : Run) (status : Status) → CallsFor run status → refusal_due run ≡ Some status
@@ -197,6 +217,7 @@ no_call run problem a status is = some_none (called run status is) (due a.by.ask
   due (Bench task) gives given = ap (by_words run) gives
   due (Make task) gives given = absurd given
   due (Arrange task) gives given = absurd given
+  due (Convert task) gives given = absurd given
 
 -- or where an order is made of a formula that is accepted
 pub no_call_arranged : (run : Run) (task : ToOrder) (problem : Formula) → AsksOver run (Arrange task) (formula problem) → (status : Status)
@@ -212,6 +233,20 @@ pub no_call_judged : (run : Run) (problem : Formula) (bytes : List ℕ) (judged 
     → (status : Status) → CallsFor run status → ⊥
 no_call_judged run problem bytes judged has status is = some_none (called run status is) (to_judge run problem bytes has.asked
     ∙ ap by_proof has.judged)
+
+-- or only that of a proof that is too long, where one is converted over a formula that is accepted
+long_only : (file : Option (List ℕ)) (verdict : List ℕ → Option Verdict) {status : Status}
+    → in_file file (λ bytes. by_proof (verdict bytes)) ≡ Some status → status ≡ TooLong ProofIn
+long_only None verdict e = cc
+long_only (Some bytes) verdict e = inner (verdict bytes) e where
+  inner : (judged : Option Verdict) {status : Status} → by_proof judged ≡ Some status → status ≡ TooLong ProofIn
+  inner None e = cc
+  inner (Some judged) e = cc
+
+pub calls_long : (run : Run) (task : ToConvert) (problem : Formula) → AsksOver run (Convert task) (formula problem) → (status : Status)
+    → CallsFor run status → status ≡ TooLong ProofIn
+calls_long run task problem a status is = long_only (run.files task.proof) (λ bytes. text_verdict problem.clauses bytes)
+    (sym (asks run (Convert task) (formula problem) a) ∙ called run status is)
 
 -- a refusal is called for only where the words give a command
 pub calls_give : (run : Run) (status : Status) → CallsFor run status → GivesCommand run
@@ -231,7 +266,7 @@ calls_give run (TooLong Cnf) is = (is.0, is.1.command)
 calls_give run (TooLong Order) is = (Solve is.1.task, is.1.asks.command)
 calls_give run (TooLong Buckets) is = (Solve is.1.task, is.1.asks.command)
 calls_give run (TooLong Schedule) is = (Solve is.1.task, is.1.asks.command)
-calls_give run (TooLong ProofIn) is = (Check is.2.task, is.2.asks.command)
+calls_give run (TooLong ProofIn) is = (is.2.asked, is.2.asks.command)
 calls_give run (TooLong ProofOut) is = absurd is
 calls_give run (TooLong Made) is = absurd is
 calls_give run (TooLong Out) is = absurd is

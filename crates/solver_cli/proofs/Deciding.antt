@@ -3,7 +3,7 @@ use Rattle.std.proofs.Common.{ℕ, List, refl, IsTrue}
 use Rattle.cnf_base.specs.Formula.{Formula}
 use Rattle.host_io.specs.Files.{Files}
 use Rattle.schedule_plan.specs.declared.plan.Move.{Move}
-use Rattle.command_line.specs.Command.{Command, Solve, Check, Bench, Make, Arrange}
+use Rattle.command_line.specs.Command.{Command, Solve, Check, Bench, Make, Arrange, Convert}
 use Rattle.solver_cli.specs.Answer.{AreGiven}
 use Rattle.solver_cli.specs.Headline.{Run, GivesDecision, AsksFor, decides}
 
@@ -14,6 +14,7 @@ given_decides files (Check task) problem order moves given = absurd given
 given_decides files (Bench task) problem order moves given = refl
 given_decides files (Make task) problem order moves given = absurd given
 given_decides files (Arrange task) problem order moves given = absurd given
+given_decides files (Convert task) problem order moves given = absurd given
 
 pub deciding : (run : Run) (problem : Formula) → AsksFor run problem → GivesDecision run
 deciding run problem asks = (

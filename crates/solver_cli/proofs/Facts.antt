@@ -12,10 +12,12 @@ use Rattle.dimacs_reader.specs.Cnf.{CnfText, formula}
 use Rattle.solver_cli.specs.declared.status.Status.{Status}
 use Rattle.solver_cli.specs.declared.status.Status.TheVariants.{WriteFault, OutOfMemory}
 use Rattle.solver_cli.specs.ErrorText.{is_answer}
-use Rattle.command_line.specs.Command.{Command, ToSolve, ToCheck, ToMake, ToOrder, Solve, Check, Make, Arrange, formula_file, Meaning, Asks}
+use Rattle.command_line.specs.Command.{Command, ToSolve, ToCheck, ToMake, ToOrder, Solve, Check, Bench, Make, Arrange, Convert, formula_file}
+use Rattle.command_line.specs.Command.{Meaning, Asks}
 use Rattle.command_line.specs.Command.{AsksHelp, Misuse, IsOneOf, MayMean, CanOnlyMean, meanings, only_command, command}
 use Rattle.solver_cli.specs.ExitCode.{status_of_run}
-use Rattle.solver_cli.specs.Headline.{decides}
+use Rattle.host_io.specs.declared.role.Role.TheVariants.{ProofIn}
+use Rattle.solver_cli.specs.Headline.{decides, name_given}
 
 -- what was written behind what stood there
 pub behind : (old new : Channel) (part : List ℕ) → new.written ≡ old.written ++ part → drop (length old.written) new.written ≡ part
@@ -57,12 +59,12 @@ pub one_text : (files : List ℕ → Option (List ℕ)) {words : Option Command}
 one_text files here there named named_there stands stands_there =
     same_some (sym stands ∙ ap files (same_some (sym named ∙ ap formula_file (same_command here there) ∙ named_there)) ∙ stands_there)
 
-pub one_proof : (files : List ℕ → Option (List ℕ)) {words : Option Command} {task other : ToCheck} {bytes text : List ℕ}
-    → words ≡ Some (Check task) → words ≡ Some (Check other) → files task.proof ≡ Some bytes → files other.proof ≡ Some text → bytes ≡ text
-one_proof files here there stands stands_there = same_some (sym stands
-    ∙ ap (λ (t : ToCheck). files t.proof) (same_task _ _ (sym here ∙ there)) ∙ stands_there) where
-      same_task : (a b : ToCheck) → ◌≡◌ {A = Option Command} (Some (Check a)) (Some (Check b)) → a ≡ b
-      same_task a b e = cc
+pub one_proof : (files : List ℕ → Option (List ℕ)) {words : Option Command} {asked other : Command} {file name bytes text : List ℕ}
+    → words ≡ Some asked → words ≡ Some other → name_given ProofIn asked ≡ Some file → name_given ProofIn other ≡ Some name
+    → files file ≡ Some bytes → files name ≡ Some text → bytes ≡ text
+one_proof files here there named named_there stands stands_there =
+    same_some (sym stands ∙ ap files (same_some (sym named ∙ ap (name_given ProofIn) (same_command here there) ∙ named_there))
+    ∙ stands_there)
 
 pub two_commands : {words : Option Command} {task : ToSolve} {other : ToCheck} → words ≡ Some (Solve task) → words ≡ Some (Check other) → ⊥
 two_commands {task = task} {other = other} here there = apart (sym here ∙ there) where
@@ -74,16 +76,21 @@ pub decided_apart : {words : Option Command} {asked other : Command} → words �
     → decides other ≡ false → ⊥
 decided_apart here is there never = true≢false (sym is ∙ ap decides (same_command here there) ∙ never)
 
-pub checks_apart : {words : Option Command} {task : ToCheck} {other : ToMake} → words ≡ Some (Check task) → words ≡ Some (Make other) → ⊥
-checks_apart {task = task} {other = other} here there = apart (sym here ∙ there) where
-  apart : ◌≡◌ {A = Option Command} (Some (Check task)) (Some (Make other)) → ⊥
-  apart e = cc
+-- a command that judges a proof, and one that doesn't
+pub judged_apart : {words : Option Command} {asked other : Command} {file : List ℕ} → words ≡ Some asked → name_given ProofIn asked
+    ≡ Some file → words ≡ Some other → name_given ProofIn other ≡ None → ⊥
+judged_apart {file = file} here named there none =
+    apart (sym named ∙ ap (name_given ProofIn) (same_command here there) ∙ none) where
+      apart : ◌≡◌ {A = Option (List ℕ)} (Some file) None → ⊥
+      apart e = cc
 
-pub checks_no_order : {words : Option Command} {task : ToCheck} {other : ToOrder} → words ≡ Some (Check task) → words ≡ Some (Arrange other)
-    → ⊥
-checks_no_order {task = task} {other = other} here there = apart (sym here ∙ there) where
-  apart : ◌≡◌ {A = Option Command} (Some (Check task)) (Some (Arrange other)) → ⊥
-  apart e = cc
+pub decided_unjudged : (asked : Command) → IsTrue (decides asked) → name_given ProofIn asked ≡ None
+decided_unjudged (Solve task) is = refl
+decided_unjudged (Check task) is = cc
+decided_unjudged (Bench task) is = refl
+decided_unjudged (Make task) is = refl
+decided_unjudged (Arrange task) is = refl
+decided_unjudged (Convert task) is = cc
 
 pub makes_no_order : {words : Option Command} {task : ToMake} {other : ToOrder} → words ≡ Some (Make task) → words ≡ Some (Arrange other) → ⊥
 makes_no_order {task = task} {other = other} here there = apart (sym here ∙ there) where

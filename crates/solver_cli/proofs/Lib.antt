@@ -2,6 +2,8 @@ pub mod Reading
 pub mod Judging
 pub mod Staged
 pub mod StagedCheck
+pub mod Converting
+pub mod StagedConversion
 pub mod Answering
 pub mod Complaints
 pub mod Facts
@@ -14,6 +16,7 @@ pub mod Printed
 pub mod Deciding
 pub mod Unjudged
 pub mod Verdicts
+pub mod Conversions
 pub mod Texts
 pub mod Served
 pub mod Named

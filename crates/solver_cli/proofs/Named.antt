@@ -1,13 +1,13 @@
 -- The names of a run's roles, its files and its standard error.
-use Rattle.std.proofs.Common.{◌≡◌, ℕ, Bool, false, List, ◌++◌, refl, sym, ap, ◌∙◌, Some, None, Ok, Err, IsTrue, inl, inr, true≢false}
+use Rattle.std.proofs.Common.{◌≡◌, ℕ, ℤ, Bool, true, false, List, ◌++◌, refl, sym, ap, ◌∙◌, Some, None, Ok, Err, IsTrue, inl, inr, true≢false}
 use Rattle.std.specs.Prelude.{Option, Result, ⊤, ◌⊎◌, ◌≢◌}
 use Rattle.host_io.specs.Channel.{Channel}
 use Rattle.host_io.specs.declared.role.Role.{Role}
 use Rattle.host_io.specs.declared.role.Role.TheVariants.{Cnf, Order, Buckets, Schedule, ProofIn, ProofOut, Made, Out, Err as ErrRole}
 use Rattle.host_io.specs.declared.source.Failed.{Failed}
 use Rattle.cnf_base.specs.Formula.{Formula}
-use Rattle.command_line.specs.Command.{Command, ToSolve, ToCheck, ToBench, ToMake, ToOrder, Solve, Check, Bench, Make, Arrange, formula_file}
-use Rattle.command_line.specs.Command.{mode_of}
+use Rattle.command_line.specs.Command.{Command, ToSolve, ToCheck, ToBench, ToMake, ToOrder, ToConvert, Solve, Check, Bench, Make, Arrange}
+use Rattle.command_line.specs.Command.{Convert, formula_file, mode_of}
 use Rattle.command_line.specs.Command.{command}
 use Rattle.term_runner.specs.declared.outcome.Outcome.{Outcome}
 use Rattle.term_runner.specs.declared.outcome.Outcome.TheVariants as outcome
@@ -17,16 +17,26 @@ use Rattle.term_runner.specs.declared.error.RunError.TheVariants as run_error
 use Rattle.solver_cli.specs.declared.status.Status.{Status}
 use Rattle.solver_cli.specs.declared.status.Status.TheVariants.{Done, WriteFault}
 use Rattle.solver_cli.specs.Answer.{status_of}
-use Rattle.solver_cli.specs.ExitCode.{status_of_run}
+use Rattle.solver_cli.specs.ExitCode.{status_of_convert, status_of_run}
+use Rattle.solver_cli.specs.Verdict.{status_of_verdict}
+use Rattle.lrat_checker.specs.declared.verdict.Verdict.{Verdict}
+use Rattle.lrat_checker.specs.declared.verdict.Verdict.TheVariants as judgement
+use Rattle.lrat_checker.specs.declared.verdict.CheckError.TheVariants as check_error
+use Rattle.drat_proof.specs.declared.error.ConvertError.{ConvertError}
+use Rattle.drat_proof.specs.declared.error.ConvertError.TheVariants as convert_error
+use Rattle.solver_cli.specs.DratProof.{RewritesProof}
 use Rattle.schedule_plan.specs.declared.plan.Move.{Move}
 use Rattle.schedule_plan.specs.declared.order_error.OrderError.{OrderError}
 use Rattle.schedule_plan.specs.declared.schedule.error.PlanError.{PlanError}
 use Rattle.solver_cli.specs.declared.basis.Basis.{Basis}
 use Rattle.solver_cli.specs.Phases.{HasOrder, HasBuckets, HasPlan, Complains, buckets_file}
 use Rattle.solver_cli.specs.Stages.{Streams, FilesBeside, Helped, Job, NoneRead, Untaken, streams_of, Came, CameToAnswer, CameToArrange}
-use Rattle.solver_cli.specs.Stages.{CameToBench, CameToCheck, CameToMake, CameToWrite, Stages, status_after, status_of_written}
-use Rattle.solver_cli.specs.Headline.{Run, GivesDecision, AsksFor, ErrorStands, NamesAreGiven, name_given, ends_before_proof}
-use Rattle.solver_cli.proofs.Facts.{behind, grown_by}
+use Rattle.solver_cli.specs.Stages.{CameToBench, CameToCheck, CameToConvert, CameToMake, CameToWrite, Stages, status_after}
+use Rattle.solver_cli.specs.Stages.{status_of_printed, status_of_written}
+use Rattle.solver_cli.specs.Headline.{Run, GivesConversion, GivesDecision, AsksFor, AsksToConvert, ConvertsAsItReads, ErrorStands}
+use Rattle.solver_cli.specs.Headline.{NamesAreGiven, ends_before_proof, ends_in_proof, name_given}
+use Rattle.solver_cli.proofs.Facts.{behind, decided_apart, grown_by}
+use Rattle.solver_cli.proofs.Untaken.{took}
 use Rattle.solver_cli.proofs.Served.{order_name, buckets_name, plan_name}
 use Rattle.solver_cli.proofs.Accepted.{Posed, asks_for, decision, posed_by_board, posed_by_files}
 
@@ -35,9 +45,18 @@ abbrev pub IsNamed : Run → Role → Type 0
 IsNamed run role = ((run.after role).name ≡ None) ⊎ ((asked : Command) × (command run.words ≡ Some asked)
     × ((run.after role).name ≡ name_given role asked))
 
--- the proof has a name only where the words give a command that decides a formula and this was accepted
+-- the proof has a name only where the words give a command that writes one and the formula was accepted
 abbrev pub IsAccepted : Run → Type 0
-IsAccepted run = (run.after ProofOut).name ≢ None → GivesDecision run × (IsTrue run.tells → (problem : Formula) × AsksFor run problem)
+IsAccepted run = (run.after ProofOut).name ≢ None → (GivesDecision run × (IsTrue run.tells → (problem : Formula) × AsksFor run problem))
+    ⊎ (GivesConversion run × (IsTrue run.tells → AsksToConvert run))
+
+-- and where it is a DRAT proof, only where the proof that it is made of was opened
+abbrev pub IsOpened : Run → Type 0
+IsOpened run = (run.after ProofOut).name ≢ None → GivesConversion run → (run.after ProofIn).name ≢ None
+
+-- it has none yet, by how the run ended, or a proof is being converted
+abbrev pub IsReadFirst : Run → Type 0
+IsReadFirst run = IsTrue (ends_before_proof run.status) → ((run.after ProofOut).name ≡ None) ⊎ ConvertsAsItReads run
 
 -- the made file has a name only where the text was written, or a call failed
 abbrev pub IsFinished : Run → Type 0
@@ -52,8 +71,9 @@ pub record StreamNames (run : Run) : Type 0 where
   pub proof : IsNamed run ProofOut
   pub made : IsNamed run Made
   pub out : IsNamed run Out
-  pub read_first : IsTrue (ends_before_proof run.status) → (run.after ProofOut).name ≡ None
+  pub read_first : IsReadFirst run
   pub accepted : IsAccepted run
+  pub opened : IsOpened run
   pub finished : IsFinished run
 
 name_of : {old new : Channel} → new ≡ old → old.name ≡ None → new.name ≡ None
@@ -64,10 +84,10 @@ given : (run : Run) (asked : Command) (file : List ℕ) → command run.words �
 given run asked file gives named (inl some) = inr (asked, gives, some ∙ sym named)
 given run asked file gives named (inr none) = inl none
 
-given_judged : (run : Run) (task : ToCheck) → command run.words ≡ Some (Check task) → ((run.after ProofIn).name ≡ Some task.proof)
-    ⊎ ((run.after ProofIn).name ≡ None) → IsNamed run ProofIn
-given_judged run task asked (inl some) = inr (Check task, asked, some)
-given_judged run task asked (inr none) = inl none
+given_judged : (run : Run) (asked : Command) (file : List ℕ) → command run.words ≡ Some asked → name_given ProofIn asked ≡ Some file
+    → ((run.after ProofIn).name ≡ Some file) ⊎ ((run.after ProofIn).name ≡ None) → IsNamed run ProofIn
+given_judged run asked file gives named (inl some) = inr (asked, gives, some ∙ sym named)
+given_judged run asked file gives named (inr none) = inl none
 
 given_proof : (run : Run) (asked : Command) (file : List ℕ) → command run.words ≡ Some asked → name_given ProofOut asked ≡ Some file
     → ((run.after ProofOut).name ≡ Some file) ⊎ ((run.after ProofOut).name ≡ None) → IsNamed run ProofOut
@@ -76,6 +96,9 @@ given_proof run asked file gives named (inr none) = inl none
 
 unnamed_proof : (run : Run) → (run.after ProofOut).name ≡ None → IsAccepted run
 unnamed_proof run none named = absurd (named none)
+
+unnamed_opened : (run : Run) → (run.after ProofOut).name ≡ None → IsOpened run
+unnamed_opened run none named _ = absurd (named none)
 
 unnamed_made : (run : Run) → (run.after Made).name ≡ None → IsFinished run
 unnamed_made run none named = absurd (named none)
@@ -134,7 +157,7 @@ run_later run_error.WriteFault = refl
 record AnswerNames (run : Run) : Type 0 where
   pub proof : IsNamed run ProofOut
   pub out : IsNamed run Out
-  pub read_first : IsTrue (ends_before_proof run.status) → (run.after ProofOut).name ≡ None
+  pub read_first : IsReadFirst run
 
 answer_names : (run : Run) {problem : Formula} {order : List ℕ} {moves : List Move} {job : Job} (asked : Command) → command run.words
     ≡ Some asked → name_given ProofOut asked ≡ Some job.proof → (run.before Out).name ≡ None
@@ -158,7 +181,11 @@ answer_names run {job = job} asked gives named unnamed (inr (inr a)) = record {
 
 accepted_for : (run : Run) {problem : Formula} {order : List ℕ} {moves : List Move} {job : Job} → Posed run problem order moves job
     → IsAccepted run
-accepted_for run {problem = problem} posed named = (decision run posed, λ t. (problem, asks_for run posed t))
+accepted_for run {problem = problem} posed named = inl (decision run posed, λ t. (problem, asks_for run posed t))
+
+opened_for : (run : Run) {problem : Formula} {order : List ℕ} {moves : List Move} {job : Job} → Posed run problem order moves job
+    → IsOpened run
+opened_for run posed named given = absurd (decided_apart posed.gives posed.decides given.1 refl)
 
 -- nothing was created, and nothing printed
 record NoneCreated (run : Run) : Type 0 where
@@ -187,8 +214,9 @@ quiet_names run unnamed none inputs =
       proof = inl proof;
       made = unmade.named;
       out = inl (name_of none.out (unnamed Out));
-      read_first = λ _. proof;
+      read_first = λ _. inl proof;
       accepted = unnamed_proof run proof;
+      opened = unnamed_opened run proof;
       finished = unmade.finished;
     }
 
@@ -223,6 +251,7 @@ answered_names run unnamed posed asked gives named inputs came =
       out = names.out;
       read_first = names.read_first;
       accepted = accepted_for run posed;
+      opened = opened_for run posed;
       finished = unmade.finished;
     }
 
@@ -261,8 +290,9 @@ helped_names run unnamed h =
       proof = inl (name_of h.proof (unnamed ProofOut));
       made = unmade.named;
       out = inl (h.shows.puts.only.name ∙ unnamed Out);
-      read_first = λ _. name_of h.proof (unnamed ProofOut);
+      read_first = λ _. inl (name_of h.proof (unnamed ProofOut));
       accepted = unnamed_proof run (name_of h.proof (unnamed ProofOut));
+      opened = unnamed_opened run (name_of h.proof (unnamed ProofOut));
       finished = unmade.finished;
     }
 
@@ -326,7 +356,7 @@ check_names run task unnamed asked (inr (inl u)) = quiet_names run unnamed (reco
       order = inl (name_of u.order (unnamed Order));
       buckets = inl (name_of u.buckets (unnamed Buckets));
       schedule = inl (name_of u.schedule (unnamed Schedule));
-      judged = given_judged run task asked u.judges.name;
+      judged = given_judged run (Check task) task.proof asked refl u.judges.name;
     })
 check_names run task unnamed asked (inr (inr j)) =
     let unmade = left_made run j.made (unnamed Made) in
@@ -335,12 +365,13 @@ check_names run task unnamed asked (inr (inr j)) =
       order = inl (name_of j.order (unnamed Order));
       buckets = inl (name_of j.buckets (unnamed Buckets));
       schedule = inl (name_of j.schedule (unnamed Schedule));
-      judged = given_judged run task asked j.judges.name;
+      judged = given_judged run (Check task) task.proof asked refl j.judges.name;
       proof = inl (name_of j.proof (unnamed ProofOut));
       made = unmade.named;
       out = inl (j.puts.only.name ∙ unnamed Out);
-      read_first = λ _. name_of j.proof (unnamed ProofOut);
+      read_first = λ _. inl (name_of j.proof (unnamed ProofOut));
       accepted = unnamed_proof run (name_of j.proof (unnamed ProofOut));
+      opened = unnamed_opened run (name_of j.proof (unnamed ProofOut));
       finished = unmade.finished;
     }
 
@@ -383,8 +414,9 @@ made_names run asked {file = file} unnamed gives named inputs proof out came = r
   proof = inl (name_of proof (unnamed ProofOut));
   made = given_made run asked file gives named (write_named came);
   out = inl (name_of out (unnamed Out));
-  read_first = λ _. name_of proof (unnamed ProofOut);
+  read_first = λ _. inl (name_of proof (unnamed ProofOut));
   accepted = unnamed_proof run (name_of proof (unnamed ProofOut));
+  opened = unnamed_opened run (name_of proof (unnamed ProofOut));
   finished = λ _. write_ends came;
 }
 
@@ -416,6 +448,62 @@ arrange_names run task unnamed asked (inr (inr a)) = made_names run (Arrange tas
     })
     a.alone.proof a.alone.out a.came
 
+-- how a conversion ends that came to no verdict, and one that did
+unconverted_first : (run : Run) {task : ToConvert} {clauses : List (List ℤ)} → command run.words ≡ Some (Convert task)
+    → (error : ConvertError)
+    → RewritesProof run.tells (run.before ProofIn) (run.after ProofIn) (run.before ProofOut) (run.after ProofOut) run.files task.proof task.out
+    clauses (Err error) → run.status ≡ status_of_convert error → IsReadFirst run
+unconverted_first run {task = task} asked convert_error.ReadFault rewrites ends before =
+    inr ((task, asked), inl ((rewrites.judges (Err check_error.ReadFault) refl).fault refl))
+unconverted_first run {task = task} asked convert_error.TooLong rewrites ends before = inr ((task, asked), inr (ap ends_in_proof ends))
+unconverted_first run asked convert_error.OutOfMemory rewrites ends before = later run.status (ap ends_before_proof ends) before
+unconverted_first run asked convert_error.WriteFault rewrites ends before = later run.status (ap ends_before_proof ends) before
+
+ends_judged : (verdict : Verdict) → ends_in_proof (status_of_verdict verdict) ≡ true
+ends_judged judgement.Verified = refl
+ends_judged (judgement.Refused line reason) = refl
+
+converted_first : (run : Run) {task : ToConvert} → command run.words ≡ Some (Convert task) → (verdict : Verdict)
+    → (printed : Result ⊤ Failed) → run.status ≡ status_of_printed verdict printed → IsReadFirst run
+converted_first run {task = task} asked verdict (Ok x) ends before = inr ((task, asked), inr (ap ends_in_proof ends ∙ ends_judged verdict))
+converted_first run asked verdict (Err e) ends before = later run.status (ap ends_before_proof ends) before
+
+convert_names : (run : Run) (task : ToConvert) → ((role : Role) → (run.before role).name ≡ None) → command run.words ≡ Some (Convert task)
+    → CameToConvert run.tells (streams_of run.before) (streams_of run.after) run.files task run.status → StreamNames run
+convert_names run task unnamed asked (inl u) = untaken_names run (Convert task) task.file unnamed asked refl u
+convert_names run task unnamed asked (inr (inl u)) =
+    let unmade = left_made run u.made (unnamed Made) in
+    record {
+      cnf = given run (Convert task) task.file asked refl u.takes.name;
+      order = inl (name_of u.order (unnamed Order));
+      buckets = inl (name_of u.buckets (unnamed Buckets));
+      schedule = inl (name_of u.schedule (unnamed Schedule));
+      judged = given_judged run (Convert task) task.proof asked refl u.rewrites.read_name;
+      proof = given_proof run (Convert task) task.out asked refl u.rewrites.name;
+      made = unmade.named;
+      out = inl (name_of u.out (unnamed Out));
+      read_first = unconverted_first run asked u.error u.rewrites u.ends;
+      accepted = λ _. inr ((task, asked), λ t. (task, u.problem, took run (Convert task) task.file u.problem asked refl u.takes t));
+      opened = λ named _. u.rewrites.opened named;
+      finished = unmade.finished;
+    }
+convert_names run task unnamed asked (inr (inr c)) =
+    let unmade = left_made run c.made (unnamed Made) in
+    record {
+      cnf = given run (Convert task) task.file asked refl c.takes.name;
+      order = inl (name_of c.order (unnamed Order));
+      buckets = inl (name_of c.buckets (unnamed Buckets));
+      schedule = inl (name_of c.schedule (unnamed Schedule));
+      judged = given_judged run (Convert task) task.proof asked refl c.rewrites.read_name;
+      proof = given_proof run (Convert task) task.out asked refl c.rewrites.name;
+      made = unmade.named;
+      out = inl (c.puts.only.name ∙ unnamed Out);
+      read_first = converted_first run asked c.verdict c.printed c.ends;
+      accepted = λ _. inr ((task, asked), λ t. (task, c.problem, took run (Convert task) task.file c.problem asked refl c.takes t));
+      opened = λ named _. c.rewrites.opened named;
+      finished = unmade.finished;
+    }
+
 pub stream_names : (run : Run) → ((role : Role) → (run.before role).name ≡ None)
     → Stages run.tells run.words (streams_of run.before) (streams_of run.after) run.files run.status → StreamNames run
 stream_names run unnamed (inl m) = same_names run unnamed m.same
@@ -424,7 +512,8 @@ stream_names run unnamed (inr (inr (inl t))) = solve_names run t.task unnamed t.
 stream_names run unnamed (inr (inr (inr (inl c)))) = check_names run c.task unnamed c.asked c.came
 stream_names run unnamed (inr (inr (inr (inr (inl b))))) = bench_names run b.task unnamed b.asked b.came
 stream_names run unnamed (inr (inr (inr (inr (inr (inl m)))))) = make_names run m.task unnamed m.asked m.came
-stream_names run unnamed (inr (inr (inr (inr (inr (inr a)))))) = arrange_names run a.task unnamed a.asked a.came
+stream_names run unnamed (inr (inr (inr (inr (inr (inr (inl a))))))) = arrange_names run a.task unnamed a.asked a.came
+stream_names run unnamed (inr (inr (inr (inr (inr (inr (inr d))))))) = convert_names run d.task unnamed d.asked d.came
 
 -- the names of all roles
 pub names : (run : Run) → StreamNames run → (run.after ErrRole).name ≡ None
@@ -434,6 +523,7 @@ names run streams error files = record {
   files = files;
   read_first = streams.read_first;
   accepted = streams.accepted;
+  opened = streams.opened;
   made = streams.finished;
 } where
   each : (role : Role) → IsNamed run role

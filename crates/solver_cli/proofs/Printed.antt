@@ -30,7 +30,7 @@ use Rattle.solver_cli.specs.Headline.{IsUndecided, IsTrueAnswer, ProofStands}
 use Rattle.solver_cli.proofs.Facts.{behind, grown_by, whole_of, no_answer}
 use Rattle.solver_cli.proofs.Promised.{Core, due, no_text, no_verdict}
 use Rattle.solver_cli.proofs.Accepted.{Posed, asks_by, asks_for, decision, same_limits, solve_complete, answer_due, Accepts, accepts_write}
-use Rattle.solver_cli.proofs.Accepted.{accepts_answer, proof_whole, so_far_of_kind}
+use Rattle.solver_cli.proofs.Accepted.{accepts_answer, proof_whole, so_far_of_kind, steps_stand}
 
 is_unsat : (found : Outcome) → status_of found ≡ Unsat → found ≡ outcome.Unsat
 is_unsat (outcome.Sat values) e = cc
@@ -243,7 +243,7 @@ answered run {problem = problem} {order = order} {moves = moves} {job = job} pos
           flushed = λ _ t. puts.flushed t refl;
           silent = λ unanswered. absurd (true≢false (sym yes_answer ∙ unanswered));
         };
-        proof = stands;
+        proof = steps_stand run posed stands;
         complete = solve_complete run posed (λ unharmed. inl yes_answer);
       }
 
@@ -281,7 +281,7 @@ answered run {problem = problem} {order = order} {moves = moves} {job = job} pos
           ];
           silent = λ _ _ unfaulted. absurd (unfaulted ends);
         };
-        proof = stands;
+        proof = steps_stand run posed stands;
         complete = solve_complete run posed (λ unharmed. absurd (unharmed.1 failure));
       }
 

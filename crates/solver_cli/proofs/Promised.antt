@@ -15,13 +15,14 @@ use Rattle.solver_cli.specs.Stages.{Streams, streams_of, Misused}
 use Rattle.solver_cli.specs.Headline.{Run, written_in, taken_in, InputFailed, NamedInputFailed, UnsatisfiableIsProved, SatisfiableIsTrue}
 use Rattle.solver_cli.specs.Headline.{LimitsAreReached, IsIdle, MemoryIsWanted}
 use Rattle.solver_cli.specs.Headline.{VerdictIsTrue, TextIsMade, MadeStands, GivesMake, IsDue, RefusalsAreDue, IsStillOpen}
-use Rattle.solver_cli.specs.Headline.{FaultsAreCounted, OutputStands, ProofStands, CallsFor, IsComplete}
+use Rattle.solver_cli.specs.Headline.{ConvertsAsItReads, FaultsAreCounted, OutputStands, WrittenStands, CallsFor, IsComplete}
 use Rattle.solver_cli.proofs.Facts.{behind, grown_by, nothing_more, no_answer, not_unasked, no_misuse, only_misuse, only_help}
 use Rattle.solver_cli.proofs.CallsFor.{one_call, no_call, no_call_arranged, no_call_judged, calls_give}
 
--- after a read fault no role but standard error gained a byte
+-- after a read fault no role but standard error gained a byte, but for a proof that was being converted
 abbrev pub QuietAtFaults : Run → Type 0
-QuietAtFaults run = run.status ≡ ReadFault → IsTrue run.tells → (role : Role) → role ≢ ErrRole → written_in run role ≡ []
+QuietAtFaults run = run.status ≡ ReadFault → IsTrue run.tells → (role : Role) → role ≢ ErrRole → (written_in run role ≡ [])
+    ⊎ ((role ≡ ProofOut) × ConvertsAsItReads run)
 
 -- The promises on streams and statuses, without names, files and standard error, and without what was written by other roles.
 pub record Core (run : Run) : Type 0 where
@@ -34,7 +35,7 @@ pub record Core (run : Run) : Type 0 where
   pub refusals : RefusalsAreDue run
   pub faults : QuietAtFaults run → FaultsAreCounted run
   pub output : OutputStands run
-  pub proof : ProofStands run
+  pub proof : WrittenStands run
   pub complete : IsComplete run
 
 -- what is due by the status with which a run ends
@@ -60,8 +61,11 @@ no_verdict run unanswered = record {
   not_verified = λ line reason e. absurd (no_answer unanswered refl e);
 }
 
-pub no_proof : (run : Run) → written_in run ProofOut ≡ [] → ProofStands run
-no_proof run none = record { so_far = λ t. inl none; whole = λ _ t. inl none; price = λ t. inl none }
+pub no_proof : (run : Run) → written_in run ProofOut ≡ [] → WrittenStands run
+no_proof run none = record {
+  converted = λ _. record { so_far = λ t. inl none; whole = λ _ t. inl none };
+  proved = λ _. record { so_far = λ t. inl none; whole = λ _ t. inl none; price = λ t. inl none };
+}
 
 out_of : {old new : Streams} → new ≡ old → new.out ≡ old.out
 out_of same = ap (λ (s : Streams). s.out) same
@@ -75,6 +79,10 @@ same_written same = ap (λ (c : Channel). c.written) same
 pub none_written : (run : Run) (role : Role) → run.after role ≡ run.before role → written_in run role ≡ []
 none_written run role same = behind (run.before role) (run.after role) []
     (nothing_more (run.before role) (run.after role) (same_written same))
+
+-- no proof was written
+pub left_proof : (run : Run) → run.after ProofOut ≡ run.before ProofOut → WrittenStands run
+left_proof run same = no_proof run (none_written run ProofOut same)
 
 -- no text was made
 pub no_text : (run : Run) → run.after Made ≡ run.before Made → MadeStands run
@@ -155,7 +163,7 @@ misused run m =
               (no_misuse run.words asks.command faulty.1)
           | inr memory ↦ inr memory
         ];
-        refuses = λ status calls t unfailed. elim m.ends [
+        refuses = λ status calls t unfailed _. elim m.ends [
           | inl faulty ↦ absurd
               (no_misuse run.words (calls_give run status calls).1 faulty.1)
           | inr memory ↦ inr memory
@@ -248,7 +256,7 @@ stopped_complete run asked gives makes halts is failed = record {
   judges = λ problem bytes judged has t unharmed. inr (memory t unharmed.0 (no_call_judged run problem bytes judged has run.status));
   makes = λ given unharmed. inr (makes given);
   arranges = λ task problem asks t unharmed. inr (memory t unharmed.0 (no_call_arranged run task problem asks run.status));
-  refuses = λ status calls t unfailed. elim (calls_due run run.status halts is t) [
+  refuses = λ status calls t unfailed _. elim (calls_due run run.status halts is t) [
     | inl fault ↦ absurd (unfailed (failed fault))
     | inr more ↦ elim more [ inl wanted ↦ inr wanted | inr called ↦ inl (one_call run run.status status called calls) ]
   ];
@@ -259,9 +267,9 @@ stopped_complete run asked gives makes halts is failed = record {
     | inr more ↦ elim more [ inl wanted ↦ wanted | inr called ↦ absurd (uncalled called) ]
   ]
 
--- nothing was written, and a text is made only where memory ran out
+-- no text was made and nothing printed, and a text is made only where memory ran out
 pub record LeftAlone (run : Run) (status : Status) : Type 0 where
-  pub proof : run.after ProofOut ≡ run.before ProofOut
+  pub proof : WrittenStands run
   pub made : run.after Made ≡ run.before Made
   pub out : run.after Out ≡ run.before Out
   pub makes : GivesMake run → status ≡ OutOfMemory
@@ -293,7 +301,7 @@ stopped run asked gives alone halts is fault =
         accepted = λ e. absurd (ends.write e);
       };
       output = quiet_output run ends.unanswered ends.help (same_written alone.out);
-      proof = no_proof run (none_written run ProofOut alone.proof);
+      proof = alone.proof;
       complete = stopped_complete run asked gives alone.makes halts is (λ e. input_failed run (fault e).0);
     }
 

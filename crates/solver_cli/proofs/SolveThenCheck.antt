@@ -13,12 +13,12 @@ use Rattle.solver_cli.specs.declared.status.Status.{Status}
 use Rattle.solver_cli.specs.declared.status.Status.TheVariants.{Sat, Unsat, Unknown, Verified, NotVerified, Done, Help, Usage, CnfRefused}
 use Rattle.solver_cli.specs.declared.status.Status.TheVariants.{OrderRefused, BucketsRefused, PlanRefused, TooLong, ReadFault, WriteFault}
 use Rattle.solver_cli.specs.declared.status.Status.TheVariants.{OutOfMemory}
-use Rattle.command_line.specs.Command.{Command, ToSolve, Solve, command}
+use Rattle.command_line.specs.Command.{Command, ToSolve, Solve, Check, command}
 use Rattle.solver_cli.specs.Answer.{AreGiven, AreOfFiles}
 use Rattle.solver_cli.specs.Headline.{Run, written_in, GivesDecision, AsksOver, AsksToJudge, IsDue, IsShownRefuted, IsRefuted}
 use Rattle.solver_cli.specs.Headline.{Promises}
 use Rattle.solver_cli.specs.SolveThenCheck.{ChecksSolved, MayEnd}
-use Rattle.solver_cli.proofs.Facts.{one_proof, same_command, two_commands, decided_apart, checks_apart, checks_no_order, no_misuse}
+use Rattle.solver_cli.proofs.Facts.{one_proof, same_command, two_commands, decided_apart, judged_apart, no_misuse}
 use Rattle.solver_cli.proofs.Facts.{no_help, same_formula}
 use Rattle.solver_cli.proofs.CallsFor.{same_text}
 use Rattle.solver_cli.proofs.Unjudged.{one_verdict}
@@ -45,7 +45,7 @@ ends long_text solved run first second asks = by run.status refl where
 
   to_judge : AsksToJudge run problem bytes
   to_judge = record {
-    task = asks.task;
+    asked = Check asks.task;
     asks = record {
       command = asks.check_asked;
       file = asks.task.file;
@@ -56,6 +56,8 @@ ends long_text solved run first second asks = by run.status refl where
         says = ap (λ (mode : Mode). cnf mode of_files.read.bytes) asks.same_mode ∙ of_files.read.says;
       };
     };
+    file = asks.task.proof;
+    named = refl;
     stands = asks.same_proof;
   }
 
@@ -68,7 +70,7 @@ ends long_text solved run first second asks = by run.status refl where
   same_verdict : {other : Formula} {text : List ℕ} → AsksToJudge run other text → verdict other.clauses text ≡ verdict problem.clauses bytes
   same_verdict there = ap₂ (λ (p : Formula) (b : List ℕ). verdict p.clauses b)
       (same_formula refl (same_text run there.asks to_judge.asks))
-      (one_proof run.files there.asks.command to_judge.asks.command there.stands to_judge.stands)
+      (one_proof run.files there.asks.command to_judge.asks.command there.named to_judge.named there.stands to_judge.stands)
 
   none_some : {line : ℕ} {reason : Reason} {given : Option (ℕ × Reason)} → given ≡ None → given ≡ Some (line, reason) → ⊥
   none_some e d = cc
@@ -95,8 +97,8 @@ ends long_text solved run first second asks = by run.status refl where
   by (NotVerified line reason) e = let refused = (second.verdict.not_verified line reason e).1 asks.checked_tells in
       none_some shown.refuted.verified (sym (same_verdict refused.has.asked) ∙ refused.refused)
   by Done e = elim (second.made e) [
-    | inl made ↦ checks_apart asks.check_asked made.1.given
-    | inr arranged ↦ checks_no_order asks.check_asked arranged.1.given
+    | inl made ↦ judged_apart asks.check_asked refl made.1.given refl
+    | inr arranged ↦ judged_apart asks.check_asked refl arranged.1.given refl
   ]
   by Help e = no_help run.words asks.check_asked (due e)
   by Usage e = no_misuse run.words asks.check_asked (due e)

@@ -16,12 +16,12 @@ use Rattle.solver_cli.specs.Stages.{status_of_written}
 use Rattle.solver_cli.specs.Headline.{Run, written_in, name_given, HasFault, AsksOver, IsUnharmed, IsMade, IsArranged, TextIsMade}
 use Rattle.solver_cli.specs.Headline.{IsFrontOfMade}
 use Rattle.solver_cli.specs.Headline.{IsFrontOfOrder, MadeStands, RefusalsAreDue, IsComplete, TextsAreRead}
-use Rattle.solver_cli.proofs.Facts.{whole_of, no_answer, not_unasked, only_misuse, only_help, decided_apart, checks_apart, checks_no_order}
+use Rattle.solver_cli.proofs.Facts.{whole_of, no_answer, not_unasked, only_misuse, only_help, decided_apart, judged_apart}
 use Rattle.solver_cli.proofs.Facts.{makes_no_order}
 use Rattle.solver_cli.proofs.Reading.{rose_since}
 use Rattle.solver_cli.proofs.CallsFor.{no_call_arranged, no_call_made}
 use Rattle.solver_cli.proofs.Deciding.{deciding}
-use Rattle.solver_cli.proofs.Promised.{Core, due, idle, short, quiet_output, no_proof, no_verdict, none_written, same_written}
+use Rattle.solver_cli.proofs.Promised.{Core, due, idle, short, left_proof, quiet_output, no_proof, no_verdict, none_written, same_written}
 use Rattle.solver_cli.proofs.Untaken.{took}
 
 -- memory for the board ran out
@@ -29,7 +29,7 @@ pub unmade : (run : Run) (asked : Command) → command run.words ≡ Some asked
     → Unmade (streams_of run.before) (streams_of run.after) run.status → Core run
 unmade run asked gives u = short run asked gives
     (record {
-      proof = ap (λ (s : Streams). s.proof) u.same;
+      proof = left_proof run (ap (λ (s : Streams). s.proof) u.same);
       made = ap (λ (s : Streams). s.made) u.same;
       out = ap (λ (s : Streams). s.out) u.same;
       makes = λ _. refl;
@@ -40,7 +40,7 @@ unmade run asked gives u = short run asked gives
 pub unarranged : (run : Run) (task : ToOrder) → command run.words ≡ Some (Arrange task)
     → Unarranged run.tells (streams_of run.before) (streams_of run.after) run.files task run.status → Core run
 unarranged run task gives u = short run (Arrange task) gives
-    (record { proof = u.alone.proof; made = u.made; out = u.alone.out; makes = λ _. refl })
+    (record { proof = left_proof run u.alone.proof; made = u.made; out = u.alone.out; makes = λ _. refl })
     (inr (inr (inr (inr (inr (inr (inr (record {
       task = task;
       given = gives;
@@ -58,7 +58,7 @@ make_complete run task gives makes = record {
   helped = λ only _. absurd (only_help run.words gives only);
   unasked = λ none _. absurd (not_unasked gives none);
   answers = λ other asks. let given = deciding run other asks in absurd (decided_apart given.1 given.2 gives refl);
-  judges = λ other bytes judged has. absurd (checks_apart has.asked.asks.command gives);
+  judges = λ other bytes judged has. absurd (judged_apart has.asked.asks.command has.asked.named gives refl);
   makes = λ _ unharmed. makes unharmed;
   arranges = λ other problem asks. absurd (makes_no_order gives asks.command);
   refuses = λ status calls t unfailed. absurd (no_call_made run (task, gives) status calls);
@@ -72,7 +72,7 @@ arrange_complete run task {problem = problem} gives asked makes = record {
   helped = λ only _. absurd (only_help run.words gives only);
   unasked = λ none _. absurd (not_unasked gives none);
   answers = λ other asks. let given = deciding run other asks in absurd (decided_apart given.1 given.2 gives refl);
-  judges = λ other bytes judged has. absurd (checks_no_order has.asked.asks.command gives);
+  judges = λ other bytes judged has. absurd (judged_apart has.asked.asks.command has.asked.named gives refl);
   makes = λ given. absurd (makes_no_order given.1 gives);
   arranges = λ other problem asks t unharmed. makes unharmed;
   refuses = λ status calls t unfailed. absurd (no_call_arranged run task problem (asked t) status calls);
@@ -224,6 +224,6 @@ arranged run task gives a = write_text run is_for a.came where
         flushed = flushed;
       },
     );
-    accepted = λ t. inr (inr (inr (task, a.problem, asks t)));
+    accepted = λ t. inr (inr (inr (inl (task, a.problem, asks t))));
     complete = arrange_complete run task gives asks;
   }

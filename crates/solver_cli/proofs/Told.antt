@@ -1,26 +1,32 @@
 -- Failed calls are told, and a read fault leaves no byte, from how far a run came.
-use Rattle.std.proofs.Common.{◌≡◌, [], refl, ap, ◌∙◌, Ok, Err, inl, inr}
+use Rattle.std.proofs.Common.{◌≡◌, [], refl, ap, ◌∙◌, Some, Ok, Err, IsTrue, inl, inr}
 use Rattle.std.specs.Prelude.{◌≢◌, ◌⊎◌, Bool, ℕ, List, Result, IsOk, ⊤}
-use Rattle.host_io.specs.Channel.{Channel}
+use Rattle.host_io.specs.Channel.{Channel, Rose}
 use Rattle.host_io.specs.Files.{Files, IsInput, IsCreated}
 use Rattle.host_io.specs.declared.source.Failed.{Failed}
 use Rattle.host_io.specs.declared.role.Role.{Role}
 use Rattle.host_io.specs.declared.role.Role.TheVariants.{Cnf, Order, Buckets, Schedule, ProofIn, ProofOut, Made, Out, Err as ErrRole}
 use Rattle.lrat_checker.specs.declared.verdict.Verdict.{Verdict}
+use Rattle.lrat_checker.specs.declared.verdict.CheckError.TheVariants as check_error
+use Rattle.drat_proof.specs.declared.error.ConvertError.{ConvertError}
+use Rattle.drat_proof.specs.declared.error.ConvertError.TheVariants as convert_error
 use Rattle.cnf_base.specs.Formula.{Formula}
 use Rattle.schedule_plan.specs.declared.plan.Move.{Move}
 use Rattle.term_runner.specs.declared.outcome.Run.{Run as Ending}
 use Rattle.term_runner.specs.declared.error.RunError.{RunError}
 use Rattle.term_runner.specs.declared.error.RunError.TheVariants as run_error
 use Rattle.dimacs_reader.specs.declared.mode.Mode.{Mode}
-use Rattle.command_line.specs.Command.{ToSolve, ToCheck, ToBench, ToMake, ToOrder}
+use Rattle.command_line.specs.Command.{ToSolve, ToCheck, ToBench, ToMake, ToOrder, ToConvert, Convert, command}
 use Rattle.solver_cli.specs.declared.status.Status.{Status}
 use Rattle.solver_cli.specs.declared.status.Status.TheVariants.{Usage, ReadFault, WriteFault, OutOfMemory}
 use Rattle.solver_cli.specs.ExitCode.{status_of_buckets, status_of_error, status_of_order, status_of_plan, status_of_run, status_of_check}
+use Rattle.solver_cli.specs.ExitCode.{status_of_convert}
+use Rattle.solver_cli.specs.DratProof.{RewritesProof}
 use Rattle.solver_cli.specs.Stages.{Streams, streams_of, Misused, Helped, Untaken, Unordered, Unbucketed, Unplanned, NoneRead, Job, Solved}
 use Rattle.solver_cli.specs.Stages.{Benched, Unjudged, Judged, FormulaAlone, Came, CameToAnswer, CameToArrange, CameToBench, CameToCheck}
+use Rattle.solver_cli.specs.Stages.{CameToConvert, Converted, Unconverted}
 use Rattle.solver_cli.specs.Stages.{CameToMake, CameToWrite, Stages, status_of_help, status_after, status_of_printed, status_of_written}
-use Rattle.solver_cli.specs.Headline.{Run, FailuresAreTold, written_in}
+use Rattle.solver_cli.specs.Headline.{Run, ConvertsAsItReads, FailuresAreTold, ends_in_proof, written_in}
 use Rattle.solver_cli.proofs.Facts.{behind, nothing_more}
 use Rattle.solver_cli.proofs.Reading.{ok_err, same_error}
 use Rattle.solver_cli.specs.Phases.{TakesFormula, buckets_file}
@@ -29,20 +35,21 @@ use Rattle.solver_cli.proofs.Promised.{QuietAtFaults}
 use Rattle.solver_cli.proofs.Accepted.{accepts_answer}
 use Rattle.solver_cli.proofs.Verdicts.{accepts_verdict}
 
--- no stream that a run serves gained a byte
+-- no stream that a run serves gained a byte, but maybe the proof that is written
 pub record IsQuiet (old new : Streams) : Type 0 where
   pub cnf : new.cnf.written ≡ old.cnf.written
   pub order : new.order.written ≡ old.order.written
   pub buckets : new.buckets.written ≡ old.buckets.written
   pub schedule : new.schedule.written ≡ old.schedule.written
   pub judged : new.judged.written ≡ old.judged.written
-  pub proof : new.proof.written ≡ old.proof.written
   pub made : new.made.written ≡ old.made.written
   pub out : new.out.written ≡ old.out.written
 
--- the counts of these streams and their bytes, by how the run ended
-pub record Told (old new : Streams) (status : Status) : Type 0 where
+-- The counts of these streams and their bytes, by how the run ended; after a read fault the proof that is written gained a byte only
+-- where it was being converted.
+pub record Told (converting : Type 0) (old new : Streams) (status : Status) : Type 0 where
   pub quiet : status ≡ ReadFault → IsQuiet old new
+  pub quiet_proof : status ≡ ReadFault → (new.proof.written ≡ old.proof.written) ⊎ converting
   pub cnf : status ≢ ReadFault → new.cnf.faults ≡ old.cnf.faults
   pub order : status ≢ ReadFault → new.order.faults ≡ old.order.faults
   pub buckets : status ≢ ReadFault → new.buckets.faults ≡ old.buckets.faults
@@ -100,9 +107,10 @@ verdict_ok verdict (Ok x) differs = refl
 verdict_ok verdict (Err e) differs = absurd (differs refl)
 
 -- nothing was done at all
-idle : {old new : Streams} {status : Status} → (status ≡ ReadFault → ⊥) → new ≡ old → Told old new status
+idle : {converting : Type 0} {old new : Streams} {status : Status} → (status ≡ ReadFault → ⊥) → new ≡ old → Told converting old new status
 idle unread same = record {
   quiet = λ e. absurd (unread e);
+  quiet_proof = λ e. absurd (unread e);
   cnf = λ _. ap (λ (s : Streams). s.cnf.faults) same;
   order = λ _. ap (λ (s : Streams). s.order.faults) same;
   buckets = λ _. ap (λ (s : Streams). s.buckets.faults) same;
@@ -113,10 +121,11 @@ idle unread same = record {
   out = λ _. ap (λ (s : Streams). s.out.faults) same;
 }
 
-helped : {tells : Bool} {words : List (List ℕ)} {old new : Streams} {status : Status} → Helped tells words old new status
-    → Told old new status
+helped : {converting : Type 0} {tells : Bool} {words : List (List ℕ)} {old new : Streams} {status : Status} → Helped tells words old new status
+    → Told converting old new status
 helped h = record {
   quiet = λ e. absurd (help_read h.shows.printed h.shows.ends e);
+  quiet_proof = λ e. absurd (help_read h.shows.printed h.shows.ends e);
   cnf = λ _. faults_of h.cnf;
   order = λ _. faults_of h.order;
   buckets = λ _. faults_of h.buckets;
@@ -127,8 +136,8 @@ helped h = record {
   out = λ differs. h.shows.puts.unfailed (help_ok h.shows.printed (λ e. differs (h.shows.ends ∙ e)));
 }
 
-untaken : {mode : Mode} {tells : Bool} {old new : Streams} {files : Files} {file : List ℕ} {status : Status}
-    → Untaken mode tells old new files file status → Told old new status
+untaken : {converting : Type 0} {mode : Mode} {tells : Bool} {old new : Streams} {files : Files} {file : List ℕ} {status : Status}
+    → Untaken mode tells old new files file status → Told converting old new status
 untaken u = record {
   quiet = λ _. record {
     cnf = u.takes.written;
@@ -136,10 +145,10 @@ untaken u = record {
     buckets = written_of u.buckets;
     schedule = written_of u.schedule;
     judged = written_of u.judged;
-    proof = written_of u.proof;
     made = written_of u.made;
     out = written_of u.out;
   };
+  quiet_proof = λ _. inl (written_of u.proof);
   cnf = λ differs. u.takes.unfailed (λ e. differs (u.ends ∙ ap status_of_error (same_error e)));
   order = λ _. faults_of u.order;
   buckets = λ _. faults_of u.buckets;
@@ -150,8 +159,8 @@ untaken u = record {
   out = λ _. faults_of u.out;
 }
 
-unordered : {tells : Bool} {old new : Streams} {files : Files} {task : ToSolve} {status : Status}
-    → Unordered tells old new files task status → Told old new status
+unordered : {converting : Type 0} {tells : Bool} {old new : Streams} {files : Files} {task : ToSolve} {status : Status}
+    → Unordered tells old new files task status → Told converting old new status
 unordered {task = task} u =
     let served = order_served task.order u.orders in
     record {
@@ -161,10 +170,10 @@ unordered {task = task} u =
         buckets = written_of u.buckets;
         schedule = written_of u.schedule;
         judged = written_of u.judged;
-        proof = written_of u.proof;
         made = written_of u.made;
         out = written_of u.out;
       };
+      quiet_proof = λ _. inl (written_of u.proof);
       cnf = λ _. u.takes.unfailed (λ e. ok_err e);
       order = λ differs. served.unfailed (λ e. differs (u.ends ∙ ap status_of_order (same_error e)));
       buckets = λ _. faults_of u.buckets;
@@ -175,8 +184,8 @@ unordered {task = task} u =
       out = λ _. faults_of u.out;
     }
 
-unbucketed : {tells : Bool} {old new : Streams} {files : Files} {task : ToSolve} {status : Status}
-    → Unbucketed tells old new files task status → Told old new status
+unbucketed : {converting : Type 0} {tells : Bool} {old new : Streams} {files : Files} {task : ToSolve} {status : Status}
+    → Unbucketed tells old new files task status → Told converting old new status
 unbucketed {task = task} u =
     let orders = order_served task.order u.orders in
     let served = buckets_served (buckets_file task.plan) u.bucketed in
@@ -187,10 +196,10 @@ unbucketed {task = task} u =
         buckets = served.written;
         schedule = written_of u.schedule;
         judged = written_of u.judged;
-        proof = written_of u.proof;
         made = written_of u.made;
         out = written_of u.out;
       };
+      quiet_proof = λ _. inl (written_of u.proof);
       cnf = λ _. u.takes.unfailed (λ e. ok_err e);
       order = λ _. orders.unfailed (λ e. ok_err e);
       buckets = λ differs. served.unfailed (λ e. differs (u.ends ∙ ap status_of_buckets (same_error e)));
@@ -201,8 +210,8 @@ unbucketed {task = task} u =
       out = λ _. faults_of u.out;
     }
 
-unplanned : {tells : Bool} {old new : Streams} {files : Files} {task : ToSolve} {status : Status}
-    → Unplanned tells old new files task status → Told old new status
+unplanned : {converting : Type 0} {tells : Bool} {old new : Streams} {files : Files} {task : ToSolve} {status : Status}
+    → Unplanned tells old new files task status → Told converting old new status
 unplanned {task = task} u =
     let orders = order_served task.order u.orders in
     let split = buckets_served (buckets_file task.plan) u.bucketed in
@@ -214,10 +223,10 @@ unplanned {task = task} u =
         buckets = split.written;
         schedule = plans.written;
         judged = written_of u.judged;
-        proof = written_of u.proof;
         made = written_of u.made;
         out = written_of u.out;
       };
+      quiet_proof = λ _. inl (written_of u.proof);
       cnf = λ _. u.takes.unfailed (λ e. ok_err e);
       order = λ _. orders.unfailed (λ e. ok_err e);
       buckets = λ _. split.unfailed (λ e. ok_err e);
@@ -250,13 +259,14 @@ answer_told (inr (inr a)) = record {
 }
 
 -- what was had before the proof's file failed no call
-solved : {tells : Bool} {old new : Streams} {files : Files} {task : ToSolve} {status : Status} → Solved tells old new files task status
-    → Told old new status
+solved : {converting : Type 0} {tells : Bool} {old new : Streams} {files : Files} {task : ToSolve} {status : Status} → Solved tells old new files task status
+    → Told converting old new status
 solved {task = task} s =
     let p = s.prepared in
     let answer = answer_told s.came in
     record {
       quiet = λ e. absurd (answer.unread e);
+      quiet_proof = λ e. absurd (answer.unread e);
       cnf = λ _. p.takes.unfailed (λ e. ok_err e);
       order = λ _. (order_served task.order p.orders).unfailed (λ e. ok_err e);
       buckets = λ _. (buckets_served (buckets_file task.plan) p.bucketed).unfailed (λ e. ok_err e);
@@ -267,11 +277,12 @@ solved {task = task} s =
       out = answer.out;
     }
 
-benched : {tells : Bool} {old new : Streams} {task : ToBench} {status : Status} → Benched tells old new task status → Told old new status
+benched : {converting : Type 0} {tells : Bool} {old new : Streams} {task : ToBench} {status : Status} → Benched tells old new task status → Told converting old new status
 benched b =
     let answer = answer_told b.came in
     record {
       quiet = λ e. absurd (answer.unread e);
+      quiet_proof = λ e. absurd (answer.unread e);
       cnf = λ _. faults_of b.none_read.cnf;
       order = λ _. faults_of b.none_read.order;
       buckets = λ _. faults_of b.none_read.buckets;
@@ -283,10 +294,11 @@ benched b =
     }
 
 -- only the text's file was called
-only_made : {old new : Streams} {status : Status} → (status ≡ ReadFault → ⊥) → NoneRead old new → new.proof ≡ old.proof → new.out ≡ old.out
-    → (status ≢ WriteFault → new.made.faults ≡ old.made.faults) → Told old new status
+only_made : {converting : Type 0} {old new : Streams} {status : Status} → (status ≡ ReadFault → ⊥) → NoneRead old new → new.proof ≡ old.proof → new.out ≡ old.out
+    → (status ≢ WriteFault → new.made.faults ≡ old.made.faults) → Told converting old new status
 only_made unread none proof out made = record {
   quiet = λ e. absurd (unread e);
+  quiet_proof = λ e. absurd (unread e);
   cnf = λ _. faults_of none.cnf;
   order = λ _. faults_of none.order;
   buckets = λ _. faults_of none.buckets;
@@ -317,11 +329,12 @@ write_told (inl u) differs = absurd (differs u.ends)
 write_told (inr w) differs = w.puts.unfailed (written_ok w.written (λ e. differs (w.ends ∙ e))) ∙ w.opens.faults.unfailed w.done
 
 -- only the formula's file and the text's were called
-formula_and_text : (mode : Mode) {tells : Bool} {old new : Streams} {files : Files} {file : List ℕ} {problem : Formula} {status : Status}
+formula_and_text : {converting : Type 0} (mode : Mode) {tells : Bool} {old new : Streams} {files : Files} {file : List ℕ} {problem : Formula} {status : Status}
     → TakesFormula mode tells old.cnf new.cnf files file (Ok problem) → FormulaAlone old new → (status ≡ ReadFault → ⊥)
-    → (status ≢ WriteFault → new.made.faults ≡ old.made.faults) → Told old new status
+    → (status ≢ WriteFault → new.made.faults ≡ old.made.faults) → Told converting old new status
 formula_and_text mode takes alone unread made = record {
   quiet = λ e. absurd (unread e);
+  quiet_proof = λ e. absurd (unread e);
   cnf = λ _. takes.unfailed (λ e. ok_err e);
   order = λ _. faults_of alone.order;
   buckets = λ _. faults_of alone.buckets;
@@ -332,8 +345,8 @@ formula_and_text mode takes alone unread made = record {
   out = λ _. faults_of alone.out;
 }
 
-unjudged : {tells : Bool} {old new : Streams} {files : Files} {task : ToCheck} {status : Status} → Unjudged tells old new files task status
-    → Told old new status
+unjudged : {converting : Type 0} {tells : Bool} {old new : Streams} {files : Files} {task : ToCheck} {status : Status} → Unjudged tells old new files task status
+    → Told converting old new status
 unjudged u = record {
   quiet = λ _. record {
     cnf = u.takes.written;
@@ -341,10 +354,10 @@ unjudged u = record {
     buckets = written_of u.buckets;
     schedule = written_of u.schedule;
     judged = u.judges.written;
-    proof = written_of u.proof;
     made = written_of u.made;
     out = written_of u.out;
   };
+  quiet_proof = λ _. inl (written_of u.proof);
   cnf = λ _. u.takes.unfailed (λ e. ok_err e);
   order = λ _. faults_of u.order;
   buckets = λ _. faults_of u.buckets;
@@ -355,10 +368,11 @@ unjudged u = record {
   out = λ _. faults_of u.out;
 }
 
-judged : {tells : Bool} {old new : Streams} {files : Files} {task : ToCheck} {status : Status} → Judged tells old new files task status
-    → Told old new status
+judged : {converting : Type 0} {tells : Bool} {old new : Streams} {files : Files} {task : ToCheck} {status : Status} → Judged tells old new files task status
+    → Told converting old new status
 judged j = record {
   quiet = λ e. absurd (verdict_read j.verdict j.printed j.ends e);
+  quiet_proof = λ e. absurd (verdict_read j.verdict j.printed j.ends e);
   cnf = λ _. j.takes.unfailed (λ e. ok_err e);
   order = λ _. faults_of j.order;
   buckets = λ _. faults_of j.buckets;
@@ -369,47 +383,105 @@ judged j = record {
   out = λ differs. j.puts.unfailed (verdict_ok j.verdict j.printed (λ e. differs (j.ends ∙ e)));
 }
 
-came : {tells : Bool} {old new : Streams} {files : Files} {task : ToSolve} {status : Status} → Came tells old new files task status
-    → Told old new status
+-- a proof that was being converted, told of the streams
+abbrev pub IsConverting : List (List ℕ) → Streams → Streams → Status → Type 0
+IsConverting words old new status = ((task : ToConvert) × (command words ≡ Some (Convert task)))
+    × (Rose old.judged.faults new.judged.faults ⊎ IsTrue (ends_in_proof status))
+
+unconverted : {tells : Bool} {words : List (List ℕ)} {old new : Streams} {files : Files} {task : ToConvert} {status : Status}
+    → command words ≡ Some (Convert task) → Unconverted tells old new files task status → Told (IsConverting words old new status) old new status
+unconverted {words = words} {old = old} {new = new} {files = files} {task = task} {status = status} asked u = record {
+  quiet = λ _. record {
+    cnf = u.takes.written;
+    order = written_of u.order;
+    buckets = written_of u.buckets;
+    schedule = written_of u.schedule;
+    judged = u.rewrites.read_written;
+    made = written_of u.made;
+    out = written_of u.out;
+  };
+  quiet_proof = λ e. inr ((task, asked), inl (failed u.error u.rewrites u.ends e));
+  cnf = λ _. u.takes.unfailed (λ e. ok_err e);
+  order = λ _. faults_of u.order;
+  buckets = λ _. faults_of u.buckets;
+  schedule = λ _. faults_of u.schedule;
+  judged = λ differs. u.rewrites.unfailed_reads (λ e. differs (u.ends ∙ ap status_of_convert (same_error e)));
+  proof = λ differs. u.rewrites.unfailed_writes (λ e. differs (u.ends ∙ ap status_of_convert (same_error e)));
+  made = λ _. faults_of u.made;
+  out = λ _. faults_of u.out;
+} where
+  failed : (error : ConvertError)
+      → RewritesProof tells old.judged new.judged old.proof new.proof files task.proof task.out u.problem.clauses (Err error)
+      → status ≡ status_of_convert error → status ≡ ReadFault → Rose old.judged.faults new.judged.faults
+  failed convert_error.ReadFault rewrites ends e = (rewrites.judges (Err check_error.ReadFault) refl).fault refl
+  failed convert_error.TooLong rewrites ends e = cc
+  failed convert_error.OutOfMemory rewrites ends e = cc
+  failed convert_error.WriteFault rewrites ends e = cc
+
+converted : {converting : Type 0} {tells : Bool} {old new : Streams} {files : Files} {task : ToConvert} {status : Status}
+    → Converted tells old new files task status → Told converting old new status
+converted c = record {
+  quiet = λ e. absurd (verdict_read c.verdict c.printed c.ends e);
+  quiet_proof = λ e. absurd (verdict_read c.verdict c.printed c.ends e);
+  cnf = λ _. c.takes.unfailed (λ e. ok_err e);
+  order = λ _. faults_of c.order;
+  buckets = λ _. faults_of c.buckets;
+  schedule = λ _. faults_of c.schedule;
+  judged = λ _. c.rewrites.unfailed_reads (λ e. ok_err e);
+  proof = λ _. c.rewrites.unfailed_writes (λ e. ok_err e);
+  made = λ _. faults_of c.made;
+  out = λ differs. c.puts.unfailed (verdict_ok c.verdict c.printed (λ e. differs (c.ends ∙ e)));
+}
+
+came : {converting : Type 0} {tells : Bool} {old new : Streams} {files : Files} {task : ToSolve} {status : Status} → Came tells old new files task status
+    → Told converting old new status
 came (inl u) = untaken u
 came (inr (inl u)) = unordered u
 came (inr (inr (inl u))) = unbucketed u
 came (inr (inr (inr (inl u)))) = unplanned u
 came (inr (inr (inr (inr s)))) = solved s
 
-came_to_check : {tells : Bool} {old new : Streams} {files : Files} {task : ToCheck} {status : Status}
-    → CameToCheck tells old new files task status → Told old new status
+came_to_check : {converting : Type 0} {tells : Bool} {old new : Streams} {files : Files} {task : ToCheck} {status : Status}
+    → CameToCheck tells old new files task status → Told converting old new status
 came_to_check (inl u) = untaken u
 came_to_check (inr (inl u)) = unjudged u
 came_to_check (inr (inr j)) = judged j
 
-came_to_bench : {tells : Bool} {old new : Streams} {task : ToBench} {status : Status} → CameToBench tells old new task status
-    → Told old new status
+came_to_bench : {converting : Type 0} {tells : Bool} {old new : Streams} {task : ToBench} {status : Status} → CameToBench tells old new task status
+    → Told converting old new status
 came_to_bench (inl u) = idle (no_memory u.ends) u.same
 came_to_bench (inr b) = benched b
 
-came_to_make : {tells : Bool} {old new : Streams} {task : ToMake} {status : Status} → CameToMake tells old new task status
-    → Told old new status
+came_to_make : {converting : Type 0} {tells : Bool} {old new : Streams} {task : ToMake} {status : Status} → CameToMake tells old new task status
+    → Told converting old new status
 came_to_make (inl u) = idle (no_memory u.ends) u.same
 came_to_make (inr b) = only_made (write_unread b.came) b.none_read b.proof b.out (write_told b.came)
 
-came_to_arrange : {tells : Bool} {old new : Streams} {files : Files} {task : ToOrder} {status : Status}
-    → CameToArrange tells old new files task status → Told old new status
+came_to_arrange : {converting : Type 0} {tells : Bool} {old new : Streams} {files : Files} {task : ToOrder} {status : Status}
+    → CameToArrange tells old new files task status → Told converting old new status
 came_to_arrange (inl u) = untaken u
 came_to_arrange {task = task} (inr (inl u)) = formula_and_text task.mode u.takes u.alone (no_memory u.ends) (λ _. faults_of u.made)
 came_to_arrange {task = task} (inr (inr a)) = formula_and_text task.mode a.takes a.alone (write_unread a.came) (write_told a.came)
 
+came_to_convert : {tells : Bool} {words : List (List ℕ)} {old new : Streams} {files : Files} {task : ToConvert} {status : Status}
+    → command words ≡ Some (Convert task) → CameToConvert tells old new files task status
+    → Told (IsConverting words old new status) old new status
+came_to_convert asked (inl u) = untaken u
+came_to_convert asked (inr (inl u)) = unconverted asked u
+came_to_convert asked (inr (inr c)) = converted c
+
 pub told : {tells : Bool} {words : List (List ℕ)} {old new : Streams} {files : Files} {status : Status}
-    → Stages tells words old new files status → Told old new status
+    → Stages tells words old new files status → Told (IsConverting words old new status) old new status
 told (inl m) = idle (misused_read m) m.same
 told (inr (inl h)) = helped h
 told (inr (inr (inl t))) = came t.came
 told (inr (inr (inr (inl c)))) = came_to_check c.came
 told (inr (inr (inr (inr (inl b))))) = came_to_bench b.came
 told (inr (inr (inr (inr (inr (inl m)))))) = came_to_make m.came
-told (inr (inr (inr (inr (inr (inr a)))))) = came_to_arrange a.came
+told (inr (inr (inr (inr (inr (inr (inl a))))))) = came_to_arrange a.came
+told (inr (inr (inr (inr (inr (inr (inr d))))))) = came_to_convert d.asked d.came
 
-pub failures : (run : Run) → Told (streams_of run.before) (streams_of run.after) run.status → FailuresAreTold run
+pub failures : (run : Run) → Told (ConvertsAsItReads run) (streams_of run.before) (streams_of run.after) run.status → FailuresAreTold run
 failures run counts = record { read = read; write = write } where
   read : run.status ≢ ReadFault → (role : Role) → IsInput role → (run.after role).faults ≡ (run.before role).faults
   read differs Cnf is = counts.cnf differs
@@ -439,18 +511,21 @@ failures run counts = record { read = read; write = write } where
   write differs ErrRole (inl is) = absurd is
   write differs ErrRole (inr is) = cc
 
-pub quiet : (run : Run) → Told (streams_of run.before) (streams_of run.after) run.status → QuietAtFaults run
+pub quiet : (run : Run) → Told (ConvertsAsItReads run) (streams_of run.before) (streams_of run.after) run.status → QuietAtFaults run
 quiet run counts fault t = each where
   none : (role : Role) → (run.after role).written ≡ (run.before role).written → written_in run role ≡ []
   none role same = behind (run.before role) (run.after role) [] (nothing_more (run.before role) (run.after role) same)
 
-  each : (role : Role) → role ≢ ErrRole → written_in run role ≡ []
-  each Cnf other = none Cnf (counts.quiet fault).cnf
-  each Order other = none Order (counts.quiet fault).order
-  each Buckets other = none Buckets (counts.quiet fault).buckets
-  each Schedule other = none Schedule (counts.quiet fault).schedule
-  each ProofIn other = none ProofIn (counts.quiet fault).judged
-  each ProofOut other = none ProofOut (counts.quiet fault).proof
-  each Made other = none Made (counts.quiet fault).made
-  each Out other = none Out (counts.quiet fault).out
+  each : (role : Role) → role ≢ ErrRole → (written_in run role ≡ []) ⊎ ((role ≡ ProofOut) × ConvertsAsItReads run)
+  each Cnf other = inl (none Cnf (counts.quiet fault).cnf)
+  each Order other = inl (none Order (counts.quiet fault).order)
+  each Buckets other = inl (none Buckets (counts.quiet fault).buckets)
+  each Schedule other = inl (none Schedule (counts.quiet fault).schedule)
+  each ProofIn other = inl (none ProofIn (counts.quiet fault).judged)
+  each ProofOut other = elim (counts.quiet_proof fault) [
+    | inl same ↦ inl (none ProofOut same)
+    | inr converting ↦ inr (refl, converting)
+  ]
+  each Made other = inl (none Made (counts.quiet fault).made)
+  each Out other = inl (none Out (counts.quiet fault).out)
   each ErrRole other = absurd (other refl)

@@ -1,4 +1,4 @@
--- What is promised of a run that took its formula, and did not judge the proof.
+-- What is promised of a run that took its formula, and did not judge the proof that it names.
 use Rattle.std.proofs.Common.{◌≡◌, ◌<◌, ℕ, ℤ, List, length, refl, sym, ap₂, ◌∙◌, Some, None, Err, IsTrue, inl, inr}
 use Rattle.std.specs.Prelude.{Option, Result, ◌⊎◌}
 use Rattle.cnf_base.specs.Formula.{Formula}
@@ -15,17 +15,18 @@ use Rattle.lrat_checker.specs.declared.verdict.CheckError.{CheckError}
 use Rattle.lrat_checker.specs.declared.verdict.CheckError.TheVariants as error
 use Rattle.solver_cli.specs.declared.status.Status.{Status}
 use Rattle.solver_cli.specs.declared.status.Status.TheVariants.{TooLong, ReadFault, OutOfMemory}
-use Rattle.command_line.specs.Command.{ToCheck, Check, command}
+use Rattle.host_io.specs.declared.role.Role.TheVariants.{ProofOut, Made, Out}
+use Rattle.command_line.specs.Command.{Command, ToCheck, Check, command}
 use Rattle.solver_cli.specs.ExitCode.{status_of_check}
 use Rattle.solver_cli.specs.Verdict.{status_of_verdict}
 use Rattle.solver_cli.specs.Phases.{JudgesText, JudgesProof}
-use Rattle.solver_cli.specs.Stages.{streams_of, Unjudged}
+use Rattle.solver_cli.specs.Stages.{streams_of}
 use Rattle.solver_cli.specs.Headline.{Run, taken_in, IsUnharmed, AsksOver, AsksToJudge, HasVerdict, IsLongProof, IsOpenProof, CallsFor}
-use Rattle.solver_cli.specs.Headline.{IsComplete}
-use Rattle.solver_cli.proofs.Facts.{one_proof, not_unasked, checks_apart, checks_no_order, decided_apart, only_misuse, only_help}
+use Rattle.solver_cli.specs.Headline.{GivesConversion, IsComplete, OutputFailed, WrittenStands, name_given}
+use Rattle.solver_cli.proofs.Facts.{one_proof, not_unasked, decided_unjudged, judged_apart, only_misuse, only_help}
 use Rattle.solver_cli.proofs.Facts.{same_formula}
 use Rattle.solver_cli.proofs.CallsFor.{same_text}
-use Rattle.solver_cli.proofs.Promised.{Core, LeftAlone, refused, short, unread}
+use Rattle.solver_cli.proofs.Promised.{Core, LeftAlone, left_proof, refused, short, unread}
 use Rattle.solver_cli.proofs.Deciding.{deciding}
 use Rattle.solver_cli.proofs.Untaken.{took}
 
@@ -46,83 +47,119 @@ pub one_verdict : (run : Run) {problem other : Formula} {bytes text : List ℕ} 
     → text_verdict problem.clauses bytes ≡ text_verdict other.clauses text
 one_verdict run here there = ap₂ (λ (p : Formula) (b : List ℕ). text_verdict p.clauses b)
     (same_formula refl (same_text run here.asks there.asks))
-    (one_proof run.files here.asks.command there.asks.command here.stands there.stands)
+    (one_proof run.files here.asks.command there.asks.command here.named there.named here.stands there.stands)
 
 pub one_some : {text : Option Verdict} (here there : Verdict) → text ≡ Some here → text ≡ Some there → here ≡ there
 one_some here there e d = inner (sym e ∙ d) where
   inner : ◌≡◌ {A = Option Verdict} (Some here) (Some there) → here ≡ there
   inner e = cc
 
--- what is complete of a run that judged its proof
-pub check_complete : (run : Run) (task : ToCheck) → command run.words ≡ Some (Check task)
-    → (IsTrue run.tells → (status : Status) → CallsFor run status → ⊥)
+-- What a proof is judged for: a command that names its file, and the formula that was taken. What was written beside it stands.
+pub record Judging (run : Run) (problem : Formula) : Type 0 where
+  pub asked : Command
+  pub gives : command run.words ≡ Some asked
+  pub file : List ℕ
+  pub named : name_given ProofIn asked ≡ Some file
+  pub read : IsTrue run.tells → AsksOver run asked (formula problem)
+  pub literals : AreClausesOf problem.vars problem.clauses
+  pub made : run.after Made ≡ run.before Made
+  pub stands : WrittenStands run
+
+-- the command is `check`
+pub checks : (run : Run) (task : ToCheck) {problem : Formula} → command run.words ≡ Some (Check task)
+    → (IsTrue run.tells → AsksOver run (Check task) (formula problem)) → AreClausesOf problem.vars problem.clauses
+    → run.after Made ≡ run.before Made → run.after ProofOut ≡ run.before ProofOut → Judging run problem
+checks run task asked read literals made proof = record {
+  asked = Check task;
+  gives = asked;
+  file = task.proof;
+  named = refl;
+  read = read;
+  literals = literals;
+  made = made;
+  stands = left_proof run proof;
+}
+
+-- what is complete of a run that was to judge its proof
+pub check_complete : (run : Run) {problem : Formula} → Judging run problem
+    → (IsTrue run.tells → (status : Status) → CallsFor run status
+    → (status ≡ TooLong ProofIn → GivesConversion run → OutputFailed run → ⊥) → ⊥)
     → ((other : Formula) (text : List ℕ) (judged : Verdict) → HasVerdict run other text judged → IsTrue run.tells → IsUnharmed run
     → (run.status ≡ status_of_verdict judged) ⊎ (run.status ≡ OutOfMemory))
     → IsComplete run
-check_complete run task gives uncalled judges = record {
-  misused = λ only. absurd (only_misuse run.words gives only);
-  helped = λ only _. absurd (only_help run.words gives only);
-  unasked = λ none _. absurd (not_unasked gives none);
-  answers = λ other asks. let given = deciding run other asks in absurd (decided_apart given.1 given.2 gives refl);
+check_complete run j uncalled judges = record {
+  misused = λ only. absurd (only_misuse run.words j.gives only);
+  helped = λ only _. absurd (only_help run.words j.gives only);
+  unasked = λ none _. absurd (not_unasked j.gives none);
+  answers = λ other asks. let given = deciding run other asks in
+      absurd (judged_apart j.gives j.named given.1 (decided_unjudged given.0 given.2));
   judges = judges;
-  makes = λ given. absurd (checks_apart gives given.1);
-  arranges = λ task problem asks. absurd (checks_no_order gives asks.command);
-  refuses = λ status calls t unfailed. absurd (uncalled t status calls);
+  makes = λ given. absurd (judged_apart j.gives j.named given.1 refl);
+  arranges = λ task problem asks. absurd (judged_apart j.gives j.named asks.command refl);
+  refuses = λ status calls t unfailed unwritten. absurd (uncalled t status calls unwritten);
 }
 
 -- the proof was not judged
-pub unjudged : Laws → (run : Run) (task : ToCheck) → command run.words ≡ Some (Check task)
-    → Unjudged run.tells (streams_of run.before) (streams_of run.after) run.files task run.status → Core run
-unjudged laws run task asked u = go u.error u.judges u.ends where
-  read : IsTrue run.tells → AsksOver run (Check task) (formula u.problem)
-  read = took run (Check task) task.file u.problem asked refl u.takes
-
+pub unjudged : Laws → (run : Run) {problem : Formula} (j : Judging run problem) → run.after Out ≡ run.before Out → (e : CheckError)
+    → JudgesProof run.tells (run.before ProofIn) (run.after ProofIn) run.files j.file problem.clauses (Err e)
+    → run.status ≡ status_of_check e → Core run
+unjudged laws run {problem = problem} j out = go where
   alone : (status : Status) → LeftAlone run status
-  alone status = record { proof = u.proof; made = u.made; out = u.out; makes = λ make. absurd (checks_apart asked make.1) }
+  alone status = record {
+    proof = j.stands;
+    made = j.made;
+    out = out;
+    makes = λ make. absurd (judged_apart j.gives j.named make.1 refl);
+  }
 
   to_judge : {result : Result Verdict CheckError} → IsTrue run.tells
-      → (text : JudgesText run.files task.proof u.problem.clauses (taken_in run ProofIn) result) → AsksToJudge run u.problem text.bytes
-  to_judge t text = record { task = task; asks = read t; stands = text.stands }
+      → (text : JudgesText run.files j.file problem.clauses (taken_in run ProofIn) result) → AsksToJudge run problem text.bytes
+  to_judge t text = record { asked = j.asked; asks = j.read t; file = j.file; named = j.named; stands = text.stands }
 
-  go : (e : CheckError) → JudgesProof run.tells (run.before ProofIn) (run.after ProofIn) run.files task.proof u.problem.clauses (Err e)
+  go : (e : CheckError) → JudgesProof run.tells (run.before ProofIn) (run.after ProofIn) run.files j.file problem.clauses (Err e)
       → run.status ≡ status_of_check e → Core run
-  go error.ReadFault judges ends = unread run (Check task) asked (alone ReadFault) ends
-      (ProofIn, tt, judges.fault refl, Check task, task.proof, asked, refl)
+  go error.ReadFault judges ends = unread run j.asked j.gives (alone ReadFault) ends
+      (ProofIn, tt, judges.fault refl, j.asked, j.file, j.gives, j.named)
       (λ t. inr (inr (inr (inr (open_proof t))))) where
         open_proof : IsTrue run.tells → IsOpenProof run
         open_proof t = record {
-          task = task;
-          problem = u.problem;
-          asks = read t;
+          asked = j.asked;
+          problem = problem;
+          asks = j.read t;
+          file = j.file;
+          named = j.named;
           failed = judges.fault refl;
           undecided = judges.undecided t refl;
         }
-  go error.TooLong judges ends = refused run (Check task) asked (alone (TooLong ProofIn)) ends refl (λ e. cc) ((task, asked), is_long) where
-    no_fault : ◌≡◌ {A = Result Verdict CheckError} (Err error.TooLong) (Err error.ReadFault) → ⊥
-    no_fault e = cc
+  go error.TooLong judges ends = refused run j.asked j.gives (alone (TooLong ProofIn)) ends refl (λ e. cc)
+      ((j.asked, j.gives, j.file, j.named), is_long) where
+        no_fault : ◌≡◌ {A = Result Verdict CheckError} (Err error.TooLong) (Err error.ReadFault) → ⊥
+        no_fault e = cc
 
-    text_of : IsTrue run.tells → JudgesText run.files task.proof u.problem.clauses (taken_in run ProofIn) (Err error.TooLong)
-    text_of t = elim (judges.read t) [ inl e ↦ absurd (no_fault e) | inr text ↦ text ]
+        text_of : IsTrue run.tells → JudgesText run.files j.file problem.clauses (taken_in run ProofIn) (Err error.TooLong)
+        text_of t = elim (judges.read t) [ inl e ↦ absurd (no_fault e) | inr text ↦ text ]
 
-    is_long : IsTrue run.tells → IsLongProof run
-    is_long t = let text = text_of t in record {
-      problem = u.problem;
-      bytes = text.bytes;
-      asked = to_judge t text;
-      judged = text.judged;
-      decided = text.decided;
-      long = laws.overlong u.problem.clauses (taken_in run ProofIn) text.decided;
-    }
-  go error.OutOfMemory judges ends = short run (Check task) asked (alone OutOfMemory) (inr (inr (inr (inr (inr (inr (inl (record {
-    task = task;
-    given = asked;
-    problem = u.problem;
-    asks = read;
+        is_long : IsTrue run.tells → IsLongProof run
+        is_long t = let text = text_of t in record {
+          problem = problem;
+          bytes = text.bytes;
+          asked = to_judge t text;
+          judged = text.judged;
+          decided = text.decided;
+          long = laws.overlong problem.clauses (taken_in run ProofIn) text.decided;
+        }
+  go error.OutOfMemory judges ends = short run j.asked j.gives (alone OutOfMemory) (inr (inr (inr (inr (inr (inr (inl (record {
+    asked = j.asked;
+    given = j.gives;
+    file = j.file;
+    named = j.named;
+    problem = problem;
+    asks = j.read;
     wants = λ t. let text = text_of t in (text.bytes, text.stands, text.memory refl);
-    before_answer = u.out;
+    before_answer = out;
   })))))))) ends where
     no_fault : ◌≡◌ {A = Result Verdict CheckError} (Err error.OutOfMemory) (Err error.ReadFault) → ⊥
     no_fault e = cc
 
-    text_of : IsTrue run.tells → JudgesText run.files task.proof u.problem.clauses (taken_in run ProofIn) (Err error.OutOfMemory)
+    text_of : IsTrue run.tells → JudgesText run.files j.file problem.clauses (taken_in run ProofIn) (Err error.OutOfMemory)
     text_of t = elim (judges.read t) [ inl e ↦ absurd (no_fault e) | inr text ↦ text ]

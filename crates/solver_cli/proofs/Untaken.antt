@@ -32,7 +32,7 @@ use Rattle.solver_cli.specs.Headline.{Run, taken_in, AsksOver, IsRefusedBy, Orde
 use Rattle.solver_cli.specs.Headline.{IsOpenFormula, MemoryIsWanted, schedule_file}
 use Rattle.solver_cli.proofs.Reading.{text_read, ok_err, same_error}
 use Rattle.solver_cli.proofs.Facts.{same_command, decided_apart}
-use Rattle.solver_cli.proofs.Promised.{Core, LeftAlone, refused, short, unread, untouched}
+use Rattle.solver_cli.proofs.Promised.{Core, LeftAlone, left_proof, refused, short, unread, untouched}
 
 -- a reader that wants no memory before the first byte
 not_early : {A B : Type 0} → (IsTrue false × A) ⊎ B → B
@@ -104,7 +104,7 @@ untaken run asked file gives named u = go u.error u.takes u.ends where
     apart e = cc
 
   alone : (status : Status) → LeftAlone run status
-  alone status = record { proof = u.proof; made = u.made; out = u.out; makes = λ make. absurd (no_file (same_command gives make.1)) }
+  alone status = record { proof = left_proof run u.proof; made = u.made; out = u.out; makes = λ make. absurd (no_file (same_command gives make.1)) }
 
   go : (error : CnfError) → TakesFormula (mode_of asked) run.tells (run.before Cnf) (run.after Cnf) run.files file (Err error) → run.status
       ≡ status_of_error error → Core run
@@ -151,7 +151,7 @@ solve_alone : (run : Run) (task : ToSolve) → command run.words ≡ Some (Solve
     → run.after Made ≡ run.before Made → run.after Out ≡ run.before Out
     → (status : Status) → LeftAlone run status
 solve_alone run task gives proof made out status =
-    record { proof = proof; made = made; out = out; makes = λ make. absurd (decided_apart gives refl make.1 refl) }
+    record { proof = left_proof run proof; made = made; out = out; makes = λ make. absurd (decided_apart gives refl make.1 refl) }
 
 -- the order that was had is the one that is asked for
 pub ordered : {tells : Bool} {old new : Channel} {files : Files} (problem : Formula) {order : List ℕ} (file : Option (List ℕ))

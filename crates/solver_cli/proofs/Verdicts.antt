@@ -3,8 +3,7 @@ use Rattle.std.proofs.Common.{◌≡◌, ℕ, true, false, List, [], ◌++◌, a
 use Rattle.std.proofs.Common.{true≢false}
 use Rattle.std.specs.Prelude.{Result, ⊤}
 use Rattle.cnf_base.specs.Formula.{Formula}
-use Rattle.dimacs_reader.specs.Cnf.{formula}
-use Rattle.host_io.specs.declared.role.Role.TheVariants.{ProofIn, ProofOut, Out}
+use Rattle.host_io.specs.declared.role.Role.TheVariants.{ProofIn, Out}
 use Rattle.host_io.specs.declared.source.Failed.{Failed}
 use Rattle.lrat_rules.specs.Run.{Refutes}
 use Rattle.lrat_rules.specs.declared.outcome.Reason.{Reason}
@@ -15,19 +14,17 @@ use Rattle.lrat_checker.specs.declared.verdict.CheckError.TheVariants as error
 use Rattle.solver_cli.specs.declared.status.Status.{Status}
 use Rattle.solver_cli.specs.declared.status.Status.TheVariants.{Sat, Unsat, Unknown, Verified, NotVerified, Done, WriteFault}
 use Rattle.solver_cli.specs.declared.status.Why.{Why}
-use Rattle.command_line.specs.Command.{ToCheck, Check, command}
 use Rattle.solver_cli.specs.ErrorText.{is_answer}
 use Rattle.solver_cli.specs.Verdict.{verdict_text, status_of_verdict}
-use Rattle.solver_cli.specs.Phases.{JudgesText, PutsText}
-use Rattle.solver_cli.specs.Stages.{streams_of, Judged, status_of_printed}
-use Rattle.solver_cli.specs.Headline.{Run, written_in, taken_in, OutputFailed, AsksOver, HasVerdict, RefusalsAreDue, CallsFor, VerdictOn}
-use Rattle.solver_cli.specs.Headline.{IsTrueAnswer}
+use Rattle.solver_cli.specs.Phases.{JudgesProof, JudgesText, PutsText}
+use Rattle.solver_cli.specs.Stages.{status_of_printed}
+use Rattle.solver_cli.specs.Headline.{Run, written_in, taken_in, OutputFailed, HasVerdict, RefusalsAreDue, CallsFor, VerdictOn}
+use Rattle.solver_cli.specs.Headline.{GivesConversion, IsConverted, IsTrueAnswer}
 use Rattle.solver_cli.proofs.Facts.{behind, grown_by, no_answer}
 use Rattle.solver_cli.proofs.CallsFor.{no_call_judged}
-use Rattle.solver_cli.proofs.Promised.{Core, due, no_proof, no_text, no_verdict, none_written}
-use Rattle.solver_cli.proofs.Untaken.{took}
+use Rattle.solver_cli.proofs.Promised.{Core, due, no_text, no_verdict}
 use Rattle.solver_cli.proofs.Accepted.{Accepts, accepts_write}
-use Rattle.solver_cli.proofs.Unjudged.{Laws, one_verdict, one_some, check_complete}
+use Rattle.solver_cli.proofs.Unjudged.{Judging, Laws, one_verdict, one_some, check_complete}
 
 -- statuses of verdicts
 
@@ -69,56 +66,59 @@ verdict_due : (run : Run) (judged : Verdict) → run.status ≡ status_of_verdic
 verdict_due run judgement.Verified ends = due run ends tt
 verdict_due run (judgement.Refused line reason) ends = due run ends tt
 
--- the proof was judged
-pub judged : Laws → (run : Run) (task : ToCheck) → command run.words ≡ Some (Check task)
-    → Judged run.tells (streams_of run.before) (streams_of run.after) run.files task run.status → Core run
-judged laws run task asked j = go j.printed j.puts j.ends where
+-- the proof was judged, and what it becomes was written where that is asked for
+pub judged : Laws → (run : Run) {problem : Formula} (j : Judging run problem) (verdict : Verdict)
+    → JudgesProof run.tells (run.before ProofIn) (run.after ProofIn) run.files j.file problem.clauses (Ok verdict)
+    → (IsTrue run.tells → GivesConversion run → (bytes : List ℕ) → run.files j.file ≡ Some bytes → IsConverted run problem bytes)
+    → (printed : Result ⊤ Failed) → PutsText run.tells (run.before Out) (run.after Out) (verdict_text verdict) printed
+    → run.status ≡ status_of_printed verdict printed → Core run
+judged laws run {problem = problem} j verdict judges converts = go where
   text : List ℕ
-  text = verdict_text j.verdict
-
-  read : IsTrue run.tells → AsksOver run (Check task) (formula j.problem)
-  read = took run (Check task) task.file j.problem asked refl j.takes
+  text = verdict_text verdict
 
   no_fault : (v : Verdict) → ◌≡◌ {A = Result Verdict CheckError} (Ok v) (Err error.ReadFault) → ⊥
   no_fault v e = cc
 
-  judged_text : IsTrue run.tells → JudgesText run.files task.proof j.problem.clauses (taken_in run ProofIn) (Ok j.verdict)
-  judged_text t = elim (j.judges.read t) [ inl e ↦ absurd (no_fault j.verdict e) | inr found ↦ found ]
+  judged_text : IsTrue run.tells → JudgesText run.files j.file problem.clauses (taken_in run ProofIn) (Ok verdict)
+  judged_text t = elim (judges.read t) [ inl e ↦ absurd (no_fault verdict e) | inr found ↦ found ]
 
-  has : (t : IsTrue run.tells) → HasVerdict run j.problem (judged_text t).bytes j.verdict
+  has : (t : IsTrue run.tells) → HasVerdict run problem (judged_text t).bytes verdict
   has t = let found = judged_text t in record {
-    asked = record { task = task; asks = read t; stands = found.stands };
+    asked = record { asked = j.asked; asks = j.read t; file = j.file; named = j.named; stands = found.stands };
     judged = found.judged;
   }
 
-  has_as : (t : IsTrue run.tells) (v : Verdict) → j.verdict ≡ v → HasVerdict run j.problem (judged_text t).bytes v
-  has_as t v is = subst (λ (x : Verdict). HasVerdict run j.problem (judged_text t).bytes x) is (has t)
+  has_as : (t : IsTrue run.tells) (v : Verdict) → verdict ≡ v → HasVerdict run problem (judged_text t).bytes v
+  has_as t v is = subst (λ (x : Verdict). HasVerdict run problem (judged_text t).bytes x) is (has t)
 
-  same_verdict : (other : Formula) (bytes : List ℕ) (v : Verdict) → HasVerdict run other bytes v → IsTrue run.tells → j.verdict ≡ v
-  same_verdict other bytes v given t = let here = has t in one_some j.verdict v (one_verdict run given.asked here.asked
+  same_verdict : (other : Formula) (bytes : List ℕ) (v : Verdict) → HasVerdict run other bytes v → IsTrue run.tells → verdict ≡ v
+  same_verdict other bytes v given t = let here = has t in one_some verdict v (one_verdict run given.asked here.asked
       ∙ here.judged) given.judged
 
+  converted : (t : IsTrue run.tells) → GivesConversion run → IsConverted run problem (judged_text t).bytes
+  converted t given = converts t given (judged_text t).bytes (judged_text t).stands
+
   uncalled : IsTrue run.tells → (status : Status) → CallsFor run status → ⊥
-  uncalled t = no_call_judged run j.problem (judged_text t).bytes j.verdict (has t)
+  uncalled t = no_call_judged run problem (judged_text t).bytes verdict (has t)
 
   true_answer : (t : IsTrue run.tells) (rest : List ℕ) → text ≡ written_in run Out ++ rest
-      → IsTrueAnswer run (VerdictOn j.problem (judged_text t).bytes j.verdict)
-  true_answer t rest front = record { found = has t; rest = rest; front = front }
+      → IsTrueAnswer run (VerdictOn problem (judged_text t).bytes verdict)
+  true_answer t rest front = record { found = record { has = has t; converted = converted t }; rest = rest; front = front }
 
   grows : (printed : Result ⊤ Failed) → PutsText run.tells (run.before Out) (run.after Out) text printed → IsTrue run.tells
       → (run.after Out).written ≡ (run.before Out).written ++ written_in run Out
   grows printed puts t = let front = puts.front t in grown_by (run.before Out) (run.after Out) front.0 front.2
 
   fronts : (printed : Result ⊤ Failed) → PutsText run.tells (run.before Out) (run.after Out) text printed → (t : IsTrue run.tells)
-      → IsTrueAnswer run (VerdictOn j.problem (judged_text t).bytes j.verdict)
+      → IsTrueAnswer run (VerdictOn problem (judged_text t).bytes verdict)
   fronts printed puts t = let front = puts.front t in true_answer t front.1 (front.3
       ∙ ap (λ (l : List ℕ). l ++ front.1) (sym (behind (run.before Out) (run.after Out) front.0 front.2)))
 
-  fine : (x : ⊤) → PutsText run.tells (run.before Out) (run.after Out) text (Ok x) → run.status ≡ status_of_verdict j.verdict → Core run
+  fine : (x : ⊤) → PutsText run.tells (run.before Out) (run.after Out) text (Ok x) → run.status ≡ status_of_verdict verdict → Core run
   fine x puts ends =
-      let accepts : Accepts run.status = accepts_verdict run.status j.verdict ends in
-      let undecided : Undecided run.status = undecided_by run.status j.verdict ends in
-      let yes_answer : is_answer run.status ≡ true = ap is_answer ends ∙ answers j.verdict in
+      let accepts : Accepts run.status = accepts_verdict run.status verdict ends in
+      let undecided : Undecided run.status = undecided_by run.status verdict ends in
+      let yes_answer : is_answer run.status ≡ true = ap is_answer ends ∙ answers verdict in
       let all : IsTrue run.tells → written_in run Out ≡ text = λ t. behind (run.before Out) (run.after Out) text (puts.done t refl) in
       record {
         unsatisfiable = λ e. absurd (undecided.unsat e);
@@ -126,53 +126,55 @@ judged laws run task asked j = go j.printed j.puts j.ends where
         undecided = λ why e. absurd (undecided.unknown why e);
         verdict = record {
           verified = λ e. (
-            (task, asked),
+            (j.asked, j.gives, j.file, j.named),
             λ t.
-                let is : j.verdict ≡ judgement.Verified = is_verified j.verdict (sym ends ∙ e) in
-                let verified : HasVerdict run j.problem (judged_text t).bytes judgement.Verified = has_as t judgement.Verified is in
-                let refutes : Refutes j.problem.clauses (judged_text t).bytes = laws.verified j.problem.clauses
+                let is : verdict ≡ judgement.Verified = is_verified verdict (sym ends ∙ e) in
+                let verified : HasVerdict run problem (judged_text t).bytes judgement.Verified = has_as t judgement.Verified is in
+                let refutes : Refutes problem.clauses (judged_text t).bytes = laws.verified problem.clauses
                 (judged_text t).bytes verified.judged in
                 record {
-                  problem = j.problem;
+                  problem = problem;
                   bytes = (judged_text t).bytes;
                   has = verified;
+                  converted = converted t;
                   refuted = refutes;
-                  unsatisfiable = laws.sound j.problem.vars j.problem.clauses (judged_text t).bytes j.takes.fits.literals refutes;
+                  unsatisfiable = laws.sound problem.vars problem.clauses (judged_text t).bytes j.literals refutes;
                   printed = all t ∙ ap verdict_text is;
                 },
           );
           not_verified = λ line reason e. (
-            (task, asked),
+            (j.asked, j.gives, j.file, j.named),
             λ t.
-                let is : j.verdict ≡ judgement.Refused line reason = is_refused j.verdict line reason (sym ends ∙ e) in
-                let refused : HasVerdict run j.problem (judged_text t).bytes (judgement.Refused line reason) = has_as t
+                let is : verdict ≡ judgement.Refused line reason = is_refused verdict line reason (sym ends ∙ e) in
+                let refused : HasVerdict run problem (judged_text t).bytes (judgement.Refused line reason) = has_as t
                 (judgement.Refused line reason) is in
                 record {
-                  problem = j.problem;
+                  problem = problem;
                   bytes = (judged_text t).bytes;
                   has = refused;
-                  refused = laws.refused j.problem.clauses (judged_text t).bytes line reason refused.judged;
+                  converted = converted t;
+                  refused = laws.refused problem.clauses (judged_text t).bytes line reason refused.judged;
                   printed = all t ∙ ap verdict_text is;
                 },
           );
         };
         made = λ e. absurd (undecided.done e);
         made_file = no_text run j.made;
-        refusals = verdict_due run j.verdict ends;
+        refusals = verdict_due run verdict ends;
         faults = λ quiet. record {
           read = λ e. absurd (accepts.read e);
           named = λ e. absurd (accepts.read e);
           undecided = λ e. absurd (accepts.read e);
           quiet = quiet;
-          write = λ e. absurd (no_write j.verdict (sym ends ∙ e));
-          created = λ e. absurd (no_write j.verdict (sym ends ∙ e));
-          accepted = λ e. absurd (no_write j.verdict (sym ends ∙ e));
+          write = λ e. absurd (no_write verdict (sym ends ∙ e));
+          created = λ e. absurd (no_write verdict (sym ends ∙ e));
+          accepted = λ e. absurd (no_write verdict (sym ends ∙ e));
         };
         output = record {
           grows = grows (Ok x) puts;
-          front = λ t. inr (inl (VerdictOn j.problem (judged_text t).bytes j.verdict, fronts (Ok x) puts t));
+          front = λ t. inr (inl (VerdictOn problem (judged_text t).bytes verdict, fronts (Ok x) puts t));
           answered = λ _ t. (
-            VerdictOn j.problem (judged_text t).bytes j.verdict,
+            VerdictOn problem (judged_text t).bytes verdict,
             true_answer t [] (sym (all t) ∙ sym (append-nil (written_in run Out))),
             ends,
             refl,
@@ -181,8 +183,8 @@ judged laws run task asked j = go j.printed j.puts j.ends where
           flushed = λ _ t. puts.flushed t refl;
           silent = λ unanswered. absurd (true≢false (sym yes_answer ∙ unanswered));
         };
-        proof = no_proof run (none_written run ProofOut j.proof);
-        complete = check_complete run task asked uncalled
+        proof = j.stands;
+        complete = check_complete run j (λ t status calls _. uncalled t status calls)
             (λ other bytes v given t unharmed. inl (ends ∙ ap status_of_verdict (same_verdict other bytes v given t)));
       }
 
@@ -206,11 +208,11 @@ judged laws run task asked j = go j.printed j.puts j.ends where
           quiet = quiet;
           write = λ d. failure;
           created = λ d. inl (puts.fault refl);
-          accepted = λ d. inr ((Check task, asked), λ t. inr (inl (j.problem, (judged_text t).bytes, j.verdict, has t)));
+          accepted = λ d. inr ((j.asked, j.gives), λ t. inr (inl (problem, (judged_text t).bytes, verdict, has t)));
         };
         output = record {
           grows = grows (Err e) puts;
-          front = λ t. inr (inl (VerdictOn j.problem (judged_text t).bytes j.verdict, fronts (Err e) puts t));
+          front = λ t. inr (inl (VerdictOn problem (judged_text t).bytes verdict, fronts (Err e) puts t));
           answered = λ yes_answer. absurd (true≢false (sym yes_answer ∙ unanswered));
           helped = λ d. absurd (accepts.help d);
           flushed = λ either. elim either [
@@ -220,11 +222,11 @@ judged laws run task asked j = go j.printed j.puts j.ends where
           ];
           silent = λ _ _ unfaulted. absurd (unfaulted ends);
         };
-        proof = no_proof run (none_written run ProofOut j.proof);
-        complete = check_complete run task asked uncalled (λ other bytes v given t unharmed. absurd (unharmed.1 failure));
+        proof = j.stands;
+        complete = check_complete run j (λ t status calls _. uncalled t status calls) (λ other bytes v given t unharmed. absurd (unharmed.1 failure));
       }
 
   go : (printed : Result ⊤ Failed) → PutsText run.tells (run.before Out) (run.after Out) text printed → run.status
-      ≡ status_of_printed j.verdict printed → Core run
+      ≡ status_of_printed verdict printed → Core run
   go (Ok x) puts ends = fine x puts ends
   go (Err e) puts ends = failed e puts ends

@@ -8,16 +8,18 @@ use Rattle.host_io.specs.declared.role.Role.TheVariants.{Cnf, Order, Buckets, Sc
 use Rattle.cnf_base.specs.Formula.{Formula}
 use Rattle.schedule_plan.specs.declared.plan.Move.{Move}
 use Rattle.solver_cli.specs.Phases.{Complains}
-use Rattle.command_line.specs.Command.{Solve, Check, Bench, Make, Arrange}
+use Rattle.command_line.specs.Command.{ToConvert, Solve, Check, Bench, Make, Arrange, Convert}
 use Rattle.solver_cli.specs.Stages.{Streams, FilesBeside, Job, streams_of, Came, CameToAnswer, CameToArrange, CameToBench, CameToCheck}
-use Rattle.solver_cli.specs.Stages.{CameToMake, Stages}
-use Rattle.solver_cli.specs.Headline.{Run, Promises}
+use Rattle.solver_cli.specs.Stages.{CameToConvert, CameToMake, Stages}
+use Rattle.solver_cli.specs.Headline.{Run, ConvertsAsItReads, Promises}
+use Rattle.solver_cli.proofs.Facts.{same_command}
 use Rattle.solver_cli.proofs.Promised.{Core, misused}
 use Rattle.solver_cli.proofs.Helped.{helped}
-use Rattle.solver_cli.proofs.Untaken.{untaken, unordered, unbucketed, unplanned}
+use Rattle.solver_cli.proofs.Untaken.{took, untaken, unordered, unbucketed, unplanned}
 use Rattle.solver_cli.proofs.Accepted.{Posed, posed_by_board, posed_by_files, uncreated, undecided}
 use Rattle.solver_cli.proofs.Printed.{answered}
-use Rattle.solver_cli.proofs.Unjudged.{Laws, unjudged}
+use Rattle.solver_cli.proofs.Unjudged.{Laws, checks, unjudged}
+use Rattle.solver_cli.proofs.Conversions.{converted, unconverted}
 use Rattle.solver_cli.proofs.Verdicts.{judged}
 use Rattle.solver_cli.proofs.Texts.{arranged, made, unarranged, unmade}
 use Rattle.solver_cli.proofs.Named.{stream_names, names, error_stands}
@@ -43,8 +45,15 @@ core law run (inr (inr (inl t))) = came t.came where
 core law run (inr (inr (inr (inl c)))) = came c.came where
   came : CameToCheck run.tells (streams_of run.before) (streams_of run.after) run.files c.task run.status → Core run
   came (inl u) = untaken run (Check c.task) c.task.file c.asked refl u
-  came (inr (inl u)) = unjudged law run c.task c.asked u
-  came (inr (inr j)) = judged law run c.task c.asked j
+  came (inr (inl u)) =
+      let asks = took run (Check c.task) c.task.file u.problem c.asked refl u.takes in
+      unjudged law run (checks run c.task c.asked asks u.takes.fits.literals u.made u.proof) u.out u.error u.judges u.ends
+  came (inr (inr j)) =
+      let asks = took run (Check c.task) c.task.file j.problem c.asked refl j.takes in
+      judged law run (checks run c.task c.asked asks j.takes.fits.literals j.made j.proof) j.verdict j.judges
+      (λ t given. absurd (apart (same_command c.asked given.1))) j.printed j.puts j.ends where
+        apart : {other : ToConvert} → Check c.task ≡ Convert other → ⊥
+        apart e = cc
 core law run (inr (inr (inr (inr (inl b))))) = came b.came where
   came : CameToBench run.tells (streams_of run.before) (streams_of run.after) b.task run.status → Core run
   came (inl u) = unmade run (Bench b.task) b.asked u
@@ -53,11 +62,16 @@ core law run (inr (inr (inr (inr (inr (inl m)))))) = came m.came where
   came : CameToMake run.tells (streams_of run.before) (streams_of run.after) m.task run.status → Core run
   came (inl u) = unmade run (Make m.task) m.asked u
   came (inr b) = made run m.task m.asked b
-core law run (inr (inr (inr (inr (inr (inr a)))))) = came a.came where
+core law run (inr (inr (inr (inr (inr (inr (inl a))))))) = came a.came where
   came : CameToArrange run.tells (streams_of run.before) (streams_of run.after) run.files a.task run.status → Core run
   came (inl u) = untaken run (Arrange a.task) a.task.file a.asked refl u
   came (inr (inl u)) = unarranged run a.task a.asked u
   came (inr (inr had)) = arranged run a.task a.asked had
+core law run (inr (inr (inr (inr (inr (inr (inr d))))))) = came d.came where
+  came : CameToConvert run.tells (streams_of run.before) (streams_of run.after) run.files d.task run.status → Core run
+  came (inl u) = untaken run (Convert d.task) d.task.file d.asked refl u
+  came (inr (inl u)) = unconverted law run d.task d.asked u
+  came (inr (inr had)) = converted law run d.task d.asked had
 
 whole : Laws → (run : Run) → ((role : Role) → (run.before role).name ≡ None)
     → Stages run.tells run.words (streams_of run.before) (streams_of run.after) run.files run.status
@@ -65,7 +79,7 @@ whole : Laws → (run : Run) → ((role : Role) → (run.before role).name ≡ N
     → Complains run.tells (run.before ErrRole) (run.after ErrRole) run.status → Promises run
 whole law run unnamed stages error files complains =
     let c : Core run = core law run stages in
-    let counts : Told (streams_of run.before) (streams_of run.after) run.status = told stages in
+    let counts : Told (ConvertsAsItReads run) (streams_of run.before) (streams_of run.after) run.status = told stages in
     record {
       unsatisfiable = c.unsatisfiable;
       satisfiable = c.satisfiable;

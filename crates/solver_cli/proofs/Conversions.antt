@@ -1,0 +1,155 @@
+-- What is promised of a run that took its formula, and converted its proof or didn't.
+use Rattle.std.proofs.Common.{◌≡◌, ℕ, ℤ, false, List, [], refl, sym, ap, ◌∙◌, subst, Some, Ok, Err, IsTrue, inl, inr}
+use Rattle.std.specs.Prelude.{Option, Result, ◌≢◌, ◌⊎◌}
+use Rattle.cnf_base.specs.Formula.{Formula}
+use Rattle.dimacs_reader.specs.Cnf.{formula}
+use Rattle.host_io.specs.declared.role.Role.TheVariants.{ProofIn, ProofOut, Made, Out}
+use Rattle.lrat_checker.specs.declared.verdict.Verdict.{Verdict}
+use Rattle.lrat_checker.specs.declared.verdict.CheckError.TheVariants as check_error
+use Rattle.drat_text.specs.DratText.{DratStep}
+use Rattle.drat_proof.specs.Drat.{drat}
+use Rattle.drat_proof.specs.declared.error.ConvertError.{ConvertError}
+use Rattle.drat_proof.specs.declared.error.ConvertError.TheVariants as error
+use Rattle.command_line.specs.Command.{ToConvert, Convert, command}
+use Rattle.solver_cli.specs.declared.status.Status.TheVariants.{WriteFault}
+use Rattle.solver_cli.specs.ErrorText.{is_answer}
+use Rattle.solver_cli.specs.ExitCode.{status_of_convert}
+use Rattle.solver_cli.specs.DratProof.{IsFront, IsOfDrat, RewritesProof}
+use Rattle.solver_cli.specs.Stages.{streams_of, Converted, Unconverted}
+use Rattle.solver_cli.specs.Headline.{Run, written_in, GivesConversion, HasFault, OutputFailed, AsksOver, AsksToJudge, IsConverted}
+use Rattle.solver_cli.specs.Headline.{WrittenStands}
+use Rattle.solver_cli.proofs.Facts.{no_answer}
+use Rattle.solver_cli.proofs.Reading.{same_error}
+use Rattle.solver_cli.proofs.CallsFor.{calls_long}
+use Rattle.solver_cli.proofs.Promised.{Core, due, no_text, no_verdict, quiet_output, same_written}
+use Rattle.solver_cli.proofs.Untaken.{took}
+use Rattle.solver_cli.proofs.Accepted.{Accepts, accepts_write}
+use Rattle.solver_cli.proofs.Unjudged.{Judging, Laws, check_complete, unjudged}
+use Rattle.solver_cli.proofs.Verdicts.{judged}
+
+-- what was written of the DRAT proof stands
+stands : (run : Run) (task : ToConvert) {problem : Formula} {result : Result Verdict ConvertError} → command run.words ≡ Some (Convert task)
+    → (IsTrue run.tells → AsksOver run (Convert task) (formula problem))
+    → RewritesProof run.tells (run.before ProofIn) (run.after ProofIn) (run.before ProofOut) (run.after ProofOut) run.files task.proof task.out
+    problem.clauses result
+    → (run.status ≢ WriteFault → result ≢ Err error.WriteFault) → WrittenStands run
+stands run task {problem = problem} asked read rewrites unharmed = record {
+  converted = λ _. record {
+    so_far = λ t. elim (rewrites.so_far t) [
+      | inl none ↦ inl none
+      | inr part ↦ inr (record {
+        problem = problem;
+        bytes = part.bytes;
+        asked = to_judge t part.bytes part.stands;
+        rest = part.holds.0;
+        front = part.holds.1;
+      })
+    ];
+    whole = λ differs t. elim (rewrites.lines (unharmed differs) t) [
+      | inl none ↦ inl none
+      | inr part ↦ inr (record {
+        problem = problem;
+        bytes = part.bytes;
+        asked = to_judge t part.bytes part.stands;
+        lines = part.holds;
+      })
+    ];
+  };
+  proved = λ others. absurd (others (task, asked));
+} where
+  to_judge : IsTrue run.tells → (bytes : List ℕ) → run.files task.proof ≡ Some bytes → AsksToJudge run problem bytes
+  to_judge t bytes stands = record { asked = Convert task; asks = read t; file = task.proof; named = refl; stands = stands }
+
+-- the proof was not converted
+pub unconverted : Laws → (run : Run) (task : ToConvert) → command run.words ≡ Some (Convert task)
+    → Unconverted run.tells (streams_of run.before) (streams_of run.after) run.files task run.status → Core run
+unconverted laws run task asked u = go u.error u.rewrites u.ends where
+  read : IsTrue run.tells → AsksOver run (Convert task) (formula u.problem)
+  read = took run (Convert task) task.file u.problem asked refl u.takes
+
+  judging : WrittenStands run → Judging run u.problem
+  judging stands = record {
+    asked = Convert task;
+    gives = asked;
+    file = task.proof;
+    named = refl;
+    read = read;
+    literals = u.takes.fits.literals;
+    made = u.made;
+    stands = stands;
+  }
+
+  torn : RewritesProof run.tells (run.before ProofIn) (run.after ProofIn) (run.before ProofOut) (run.after ProofOut) run.files task.proof
+      task.out u.problem.clauses (Err error.WriteFault) → run.status ≡ WriteFault → Core run
+  torn rewrites ends =
+      let unanswered : is_answer run.status ≡ false = ap is_answer ends in
+      let accepts : Accepts run.status = accepts_write run.status ends in
+      let fault : HasFault run ProofOut = rewrites.write_fault refl in
+      let failed : OutputFailed run = (ProofOut, inl tt, fault) in
+      let held : WrittenStands run = stands run task asked read rewrites (λ differs. absurd (differs ends)) in
+      record {
+        unsatisfiable = λ e. absurd (no_answer unanswered refl e);
+        satisfiable = λ e. absurd (no_answer unanswered refl e);
+        undecided = λ why e. absurd (no_answer unanswered refl e);
+        verdict = no_verdict run unanswered;
+        made = λ e. absurd (accepts.done e);
+        made_file = no_text run u.made;
+        refusals = due run ends tt;
+        faults = λ quiet. record {
+          read = λ e. absurd (accepts.read e);
+          named = λ e. absurd (accepts.read e);
+          undecided = λ e. absurd (accepts.read e);
+          quiet = quiet;
+          write = λ e. failed;
+          created = λ e. inr (ProofOut, tt, fault, Convert task, task.out, asked, refl);
+          accepted = λ e. inr ((Convert task, asked), λ t. inr (inr (inr (inr (task, u.problem, read t)))));
+        };
+        output = quiet_output run unanswered accepts.help (same_written u.out);
+        proof = held;
+        complete = check_complete run (judging held)
+            (λ t status calls unwritten. unwritten (calls_long run task u.problem (read t) status calls) (task, asked) failed)
+            (λ other text judged has t unharmed. absurd (unharmed.1 failed));
+      }
+
+  go : (e : ConvertError)
+      → RewritesProof run.tells (run.before ProofIn) (run.after ProofIn) (run.before ProofOut) (run.after ProofOut) run.files task.proof
+      task.out u.problem.clauses (Err e) → run.status ≡ status_of_convert e → Core run
+  go error.ReadFault rewrites ends = unjudged laws run (judging (stands run task asked read rewrites (λ _ e. cc))) u.out
+      check_error.ReadFault (rewrites.judges (Err check_error.ReadFault) refl) ends
+  go error.TooLong rewrites ends = unjudged laws run (judging (stands run task asked read rewrites (λ _ e. cc))) u.out
+      check_error.TooLong (rewrites.judges (Err check_error.TooLong) refl) ends
+  go error.OutOfMemory rewrites ends = unjudged laws run (judging (stands run task asked read rewrites (λ _ e. cc))) u.out
+      check_error.OutOfMemory (rewrites.judges (Err check_error.OutOfMemory) refl) ends
+  go error.WriteFault rewrites ends = torn rewrites ends
+
+-- the proof was converted
+pub converted : Laws → (run : Run) (task : ToConvert) → command run.words ≡ Some (Convert task)
+    → Converted run.tells (streams_of run.before) (streams_of run.after) run.files task run.status → Core run
+converted laws run task asked c = judged laws run judging c.verdict (c.rewrites.judges (Ok c.verdict) refl) whole c.printed c.puts c.ends where
+  read : IsTrue run.tells → AsksOver run (Convert task) (formula c.problem)
+  read = took run (Convert task) task.file c.problem asked refl c.takes
+
+  judging : Judging run c.problem
+  judging = record {
+    asked = Convert task;
+    gives = asked;
+    file = task.proof;
+    named = refl;
+    read = read;
+    literals = c.takes.fits.literals;
+    made = c.made;
+    stands = stands run task asked read c.rewrites (λ _ e. cc);
+  }
+
+  one_text : {here there : List ℕ} {text : Option (List ℕ)} → text ≡ Some here → text ≡ Some there → here ≡ there
+  one_text e d = inner (sym e ∙ d) where
+    inner : {here there : List ℕ} → ◌≡◌ {A = Option (List ℕ)} (Some here) (Some there) → here ≡ there
+    inner e = cc
+
+  whole : IsTrue run.tells → GivesConversion run → (bytes : List ℕ) → run.files task.proof ≡ Some bytes → IsConverted run c.problem bytes
+  whole t given bytes stands =
+      let all = c.rewrites.whole t refl in
+      record {
+        written = all.holds ∙ ap (drat c.problem.clauses) (one_text all.stands stands);
+        flushed = c.rewrites.flushed t refl;
+      }

@@ -1,0 +1,220 @@
+-- What the conversion of an opened proof says of the run.
+use Rattle.std.proofs.Common.{◌≡◌, ℕ, ◌+◌, ◌-◌, ℤ, Bool, List, [], ◌++◌, length, length-append, append-nil, refl, sym, ap, ◌∙◌, subst, arith}
+use Rattle.std.proofs.Common.{None, Some, Ok, Err, IsTrue, IsOk, inl, inr}
+use Rattle.std.proofs.lemmas.Grind.{flat_map-append}
+use Rattle.std.specs.Prelude.{◌≢◌, ◌⊎◌, Option, Result, IsErr, ⊤, drop}
+use Rattle.host_io.specs.Channel.{Channel, Flushes, Rose}
+use Rattle.host_io.specs.Files.{Files, Opens}
+use Rattle.host_io.specs.declared.source.Failed.{Failed}
+use Rattle.text_scan.specs.Decides.{gained, Decides, OnlyReads, Decides-whole, Decides-taken}
+use Rattle.lrat_checker.specs.TextVerdict.{Answers, text_verdict, verdict_so_far}
+use Rattle.lrat_checker.specs.declared.verdict.Verdict.{Verdict}
+use Rattle.lrat_checker.specs.declared.verdict.CheckError.{CheckError}
+use Rattle.lrat_checker.specs.declared.verdict.CheckError.TheVariants as check_error
+use Rattle.drat_text.specs.DratText.{DratStep, drat_text, line_of_drat}
+use Rattle.drat_proof.specs.Drat.{drat_steps}
+use Rattle.drat_proof.specs.Conversion.{AreFirstLines, HasVerdict, HasWritten, converted}
+use Rattle.drat_proof.specs.TwoRoles.{OnlyWrites, added}
+use Rattle.drat_proof.specs.declared.error.ConvertError.{ConvertError}
+use Rattle.drat_proof.specs.declared.error.ConvertError.TheVariants as error
+use Rattle.solver_cli.specs.Phases.{ChecksProof, JudgesProof}
+use Rattle.solver_cli.specs.DratProof.{ConvertsProof, IsFront, IsOfDrat, RewritesProof}
+use Rattle.solver_cli.proofs.Facts.{behind, nothing_more, whole_of}
+use Rattle.solver_cli.proofs.Judging.{Wanted, judged, unopened, wanted_by}
+use Rattle.solver_cli.proofs.Reading.{ok_err, rose_since}
+
+-- What a conversion ensures, before the flush.
+pub record Converts (tells : Bool) (in_old in_new out_old out_new : Channel) (clauses : List (List ℤ))
+    (result : Result Verdict ConvertError) : Type 0 where
+  pub decides : IsTrue tells → Decides in_old in_new (λ bytes more. HasVerdict result (text_verdict clauses bytes))
+  pub written : IsTrue tells → Decides in_old in_new (λ bytes more. HasWritten result (added out_old out_new) (drat_steps clauses bytes))
+  pub undecided : IsTrue tells → result ≡ Err error.ReadFault → verdict_so_far clauses (gained in_old in_new) ≡ None
+  pub read_fault : result ≡ Err error.ReadFault → Rose in_old.faults in_new.faults
+  pub write_fault : result ≡ Err error.WriteFault → Rose out_old.faults out_new.faults
+  pub read : result ≢ Err error.ReadFault → in_new.faults ≡ in_old.faults
+  pub unfailed : result ≢ Err error.WriteFault → out_new.faults ≡ out_old.faults
+  pub memory : IsTrue tells → result ≡ Err error.OutOfMemory → Wanted clauses in_old in_new
+  pub reads : OnlyReads in_old in_new
+  pub writes : OnlyWrites out_old out_new
+
+-- it came to no verdict, and nothing was flushed
+pub unflushed : {tells : Bool} {in_old in_new out_old out_new : Channel} {clauses : List (List ℤ)} {result answer : Result Verdict ConvertError}
+    {why : ConvertError}
+    → Converts tells in_old in_new out_old out_new clauses result → result ≡ Err why → answer ≡ Err why
+    → ConvertsProof tells in_old in_new out_old out_new clauses answer
+unflushed {tells = tells} {in_old = in_old} {in_new = in_new} {out_old = out_old} {out_new = out_new} {clauses = clauses} {why = why} c is
+    ends = subst (λ (r : Result Verdict ConvertError). ConvertsProof tells in_old in_new out_old out_new clauses r) (sym ends)
+    (told (subst (λ (r : Result Verdict ConvertError). Converts tells in_old in_new out_old out_new clauses r) is c)) where
+      told : Converts tells in_old in_new out_old out_new clauses (Err why)
+          → ConvertsProof tells in_old in_new out_old out_new clauses (Err why)
+      told c = record {
+        judged = λ t. Decides-whole (c.decides t);
+        decided = λ t. Decides-taken (c.decides t);
+        undecided = c.undecided;
+        memory = λ t e. wanted_by clauses in_old in_new (c.memory t e);
+        read_fault = c.read_fault;
+        unfailed_reads = c.read;
+        read_written = c.reads.written;
+        read_name = c.reads.name;
+        written = λ t. Decides-whole (c.written t);
+        flushed = λ t e. cc;
+        write_fault = c.write_fault;
+        unfailed_writes = c.unfailed;
+        name = c.writes.name;
+      }
+
+-- it came to a verdict, and the flush failed or didn't
+pub flushed : {tells : Bool} {in_old in_new in_last out_old out_mid out_new : Channel} {clauses : List (List ℤ)}
+    {result : Result Verdict ConvertError} {verdict : Verdict}
+    → Converts tells in_old in_new out_old out_mid clauses result → result ≡ Ok verdict → (answer : Result ⊤ Failed)
+    → Flushes tells out_mid out_new answer → IsOk answer → in_last ≡ in_new
+    → ConvertsProof tells in_old in_last out_old out_new clauses (Ok verdict)
+flushed {tells = tells} {in_old = in_old} {in_new = in_new} {out_old = out_old} {out_mid = out_mid} {out_new = out_new} {clauses = clauses}
+    {verdict = verdict} c is answer flushes done to =
+    subst (λ (last : Channel). ConvertsProof tells in_old last out_old out_new clauses (Ok verdict)) (sym to)
+    (told (subst (λ (r : Result Verdict ConvertError). Converts tells in_old in_new out_old out_mid clauses r) is c)) where
+      told : Converts tells in_old in_new out_old out_mid clauses (Ok verdict)
+          → ConvertsProof tells in_old in_new out_old out_new clauses (Ok verdict)
+      told c = record {
+        judged = λ t. Decides-whole (c.decides t);
+        decided = λ t. Decides-taken (c.decides t);
+        undecided = c.undecided;
+        memory = λ t e. absurd (ok_err e);
+        read_fault = c.read_fault;
+        unfailed_reads = c.read;
+        read_written = c.reads.written;
+        read_name = c.reads.name;
+        written = λ t. ap (drop (length out_old.written)) flushes.written ∙ Decides-whole (c.written t);
+        flushed = λ t _. flushes.done t done;
+        write_fault = λ e. absurd (ok_err e);
+        unfailed_writes = λ differs. flushes.faults.unfailed done ∙ c.unfailed differs;
+        name = flushes.name ∙ c.writes.name;
+      }
+
+pub torn : {tells : Bool} {in_old in_new in_last out_old out_mid out_new : Channel} {clauses : List (List ℤ)}
+    {result : Result Verdict ConvertError} {verdict : Verdict}
+    → Converts tells in_old in_new out_old out_mid clauses result → result ≡ Ok verdict → (answer : Result ⊤ Failed)
+    → Flushes tells out_mid out_new answer → IsErr answer → in_last ≡ in_new
+    → ConvertsProof tells in_old in_last out_old out_new clauses (Err error.WriteFault)
+torn {tells = tells} {in_old = in_old} {in_new = in_new} {out_old = out_old} {out_mid = out_mid} {out_new = out_new} {clauses = clauses}
+    {verdict = verdict} c is answer flushes failed to =
+    subst (λ (last : Channel). ConvertsProof tells in_old last out_old out_new clauses (Err error.WriteFault)) (sym to)
+    (told (subst (λ (r : Result Verdict ConvertError). Converts tells in_old in_new out_old out_mid clauses r) is c)) where
+      told : Converts tells in_old in_new out_old out_mid clauses (Ok verdict)
+          → ConvertsProof tells in_old in_new out_old out_new clauses (Err error.WriteFault)
+      told c = record {
+        judged = λ t. tt;
+        decided = λ t. tt;
+        undecided = λ t e. cc;
+        memory = λ t e. cc;
+        read_fault = λ e. cc;
+        unfailed_reads = λ _. c.read (λ e. ok_err e);
+        read_written = c.reads.written;
+        read_name = c.reads.name;
+        written = λ t. (
+          [],
+          sym (ap (drop (length out_old.written)) flushes.written ∙ Decides-whole (c.written t))
+              ∙ sym (append-nil (added out_old out_new)),
+        );
+        flushed = λ t e. cc;
+        write_fault = λ _. rose_since c.writes.faults (flushes.faults.cause failed);
+        unfailed_writes = λ differs. absurd (differs refl);
+        name = flushes.name ∙ c.writes.name;
+      }
+
+-- the proof's file was not opened
+no_answer_read : {tells : Bool} {old new : Channel} {files : Files} {file : List ℕ} {clauses : List (List ℤ)} {opened : Result ⊤ Failed}
+    → Opens old new file opened → IsErr opened → (answer : Result Verdict CheckError)
+    → ◌≡◌ {A = Result Verdict ConvertError} (Err error.ReadFault) (converted answer) → JudgesProof tells old new files file clauses answer
+no_answer_read opens failed (Ok verdict) e = absurd (ok_err (sym e))
+no_answer_read opens failed (Err check_error.ReadFault) e = unopened opens failed
+no_answer_read opens failed (Err check_error.TooLong) e = cc
+no_answer_read opens failed (Err check_error.OutOfMemory) e = cc
+
+none_added : {old new : Channel} → new ≡ old → added old new ≡ []
+none_added {old = old} {new = new} same = behind old new [] (nothing_more old new (ap (λ (c : Channel). c.written) same))
+
+pub unread : {tells : Bool} {in_old in_new out_old out_new : Channel} {files : Files} {file out : List ℕ} {clauses : List (List ℤ)}
+    {opened : Result ⊤ Failed}
+    → Opens in_old in_new file opened → IsErr opened → out_new ≡ out_old → out_old.name ≡ None
+    → RewritesProof tells in_old in_new out_old out_new files file out clauses (Err error.ReadFault)
+unread opens failed same unnamed =
+    let none = ap (λ (c : Channel). c.name) same ∙ unnamed in
+    record {
+      judges = no_answer_read opens failed;
+      unfailed_reads = λ differs. absurd (differs refl);
+      read_written = opens.idle.written ∙ sym opens.was_idle.written;
+      read_name = opens.failed failed;
+      so_far = λ t. inl (none_added same);
+      lines = λ _ t. inl (none_added same);
+      whole = λ t e. cc;
+      flushed = λ t e. cc;
+      write_fault = λ e. cc;
+      unfailed_writes = λ _. ap (λ (c : Channel). c.faults) same;
+      name = inr none;
+      opened = λ named. absurd (named none);
+    }
+
+-- the other one was not created
+no_answer_written : {A : Type 0} (answer : Result Verdict CheckError)
+    → ◌≡◌ {A = Result Verdict ConvertError} (Err error.WriteFault) (converted answer) → A
+no_answer_written (Ok verdict) e = absurd (ok_err (sym e))
+no_answer_written (Err check_error.ReadFault) e = cc
+no_answer_written (Err check_error.TooLong) e = cc
+no_answer_written (Err check_error.OutOfMemory) e = cc
+
+some_none : {name : Option (List ℕ)} {file : List ℕ} → name ≡ Some file → name ≡ None → ⊥
+some_none {file = file} e d = apart (sym e ∙ d) where
+  apart : ◌≡◌ {A = Option (List ℕ)} (Some file) None → ⊥
+  apart e = cc
+
+pub uncreated : {tells : Bool} {in_old in_mid in_new out_old out_mid out_new : Channel} {files : Files} {file out : List ℕ}
+    {clauses : List (List ℤ)} {opened created : Result ⊤ Failed}
+    → Opens in_old in_mid file opened → IsOk opened → out_mid ≡ out_old → Opens out_mid out_new out created → IsErr created → in_new ≡ in_mid
+    → RewritesProof tells in_old in_new out_old out_new files file out clauses (Err error.WriteFault)
+uncreated {tells = tells} {in_old = in_old} {in_mid = in_mid} {out_new = out_new} {files = files} {file = file} {out = out} {clauses = clauses}
+    {created = created} opens ok from creates failed to =
+    subst (λ (c : Channel). RewritesProof tells in_old c _ out_new files file out clauses (Err error.WriteFault)) (sym to)
+    (subst (λ (c : Channel). RewritesProof tells in_old in_mid c out_new files file out clauses (Err error.WriteFault)) from (record {
+      judges = λ answer e. no_answer_written answer e;
+      unfailed_reads = λ _. opens.faults.unfailed ok;
+      read_written = opens.idle.written ∙ sym opens.was_idle.written;
+      read_name = inl (opens.named ok);
+      so_far = λ t. inl (whole_of _ out_new creates.was_idle.written ∙ creates.idle.written);
+      lines = λ differs. absurd (differs refl);
+      whole = λ t e. cc;
+      flushed = λ t e. cc;
+      write_fault = λ _. creates.faults.cause failed;
+      unfailed_writes = λ differs. absurd (differs refl);
+      name = creates.failed failed;
+      opened = λ _ none. some_none (opens.named ok) none;
+    }))
+
+-- a conversion judges as a check does
+as_check : (answer : Result Verdict CheckError) (text : Option Verdict) → HasVerdict (converted answer) text → Answers answer text
+as_check (Ok verdict) text has = has
+as_check (Err check_error.TooLong) text has = has
+as_check (Err check_error.ReadFault) text has = tt
+as_check (Err check_error.OutOfMemory) text has = tt
+
+read_failed : (answer : Result Verdict CheckError) → converted answer ≡ Err error.ReadFault → answer ≡ Err check_error.ReadFault
+read_failed (Ok verdict) e = absurd (ok_err e)
+read_failed (Err check_error.ReadFault) e = refl
+read_failed (Err check_error.TooLong) e = cc
+read_failed (Err check_error.OutOfMemory) e = cc
+
+checks : {tells : Bool} {in_old in_new out_old out_new : Channel} {clauses : List (List ℤ)} (answer : Result Verdict CheckError)
+    → ConvertsProof tells in_old in_new out_old out_new clauses (converted answer) → ChecksProof tells in_old in_new clauses answer
+checks {in_old = in_old} {in_new = in_new} {clauses = clauses} answer c = record {
+  judged = λ t. as_check answer (text_verdict clauses in_old.left) (c.judged t);
+  decided = λ t. as_check answer (text_verdict clauses (gained in_old in_new)) (c.decided t);
+  fault = λ e. c.read_fault (ap converted e);
+  unfailed = λ differs. c.unfailed_reads (λ e. differs (read_failed answer e));
+  undecided = λ t e. c.undecided t (ap converted e);
+  memory = λ t e. c.memory t (ap converted e);
+  written = c.read_written;
+  name = c.read_name;
+  faults = counted;
+} where
+  counted : in_old.faults ≤ in_new.faults
+  counted = ?
