@@ -12,13 +12,11 @@ const DRAT: Texts<'static> = Texts {
     about: "Judges PROOF as check does, and writes it as a DRAT proof to P",
     usage: "bddsat drat FILE PROOF --out P [--lax]",
     after: "\
-P is emptied before PROOF is read: it must not be the same file by another name.
-
 Example:
   bddsat drat formula.cnf formula.lrat --out formula.drat",
 };
 
-const OUT_HELP: &str = "The DRAT proof, or its steps before the first bad line";
+const OUT_HELP: &str = "The DRAT proof. PROOF itself by another name would be emptied";
 
 pub fn drat_parser<'a>(alloc: Global) -> Result<Command<'a>, AllocError>
     ensures app { IfOk result (λ command. app_of command ≡ drat_app) }

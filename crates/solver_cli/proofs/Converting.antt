@@ -56,6 +56,7 @@ unflushed {tells = tells} {in_old = in_old} {in_new = in_new} {out_old = out_old
         unfailed_reads = c.read;
         read_written = c.reads.written;
         read_name = c.reads.name;
+        read_faults = c.reads.faults;
         written = λ t. Decides-whole (c.written t);
         flushed = λ t e. cc;
         write_fault = c.write_fault;
@@ -84,6 +85,7 @@ flushed {tells = tells} {in_old = in_old} {in_new = in_new} {out_old = out_old} 
         unfailed_reads = c.read;
         read_written = c.reads.written;
         read_name = c.reads.name;
+        read_faults = c.reads.faults;
         written = λ t. ap (drop (length out_old.written)) flushes.written ∙ Decides-whole (c.written t);
         flushed = λ t _. flushes.done t done;
         write_fault = λ e. absurd (ok_err e);
@@ -111,6 +113,7 @@ torn {tells = tells} {in_old = in_old} {in_new = in_new} {out_old = out_old} {ou
         unfailed_reads = λ _. c.read (λ e. ok_err e);
         read_written = c.reads.written;
         read_name = c.reads.name;
+        read_faults = c.reads.faults;
         written = λ t. (
           [],
           sym (ap (drop (length out_old.written)) flushes.written ∙ Decides-whole (c.written t))
@@ -214,7 +217,85 @@ checks {in_old = in_old} {in_new = in_new} {clauses = clauses} answer c = record
   memory = λ t e. c.memory t (ap converted e);
   written = c.read_written;
   name = c.read_name;
-  faults = counted;
-} where
-  counted : in_old.faults ≤ in_new.faults
-  counted = ?
+  faults = c.read_faults;
+}
+
+-- what was written, as a front of the text or by whole lines
+front_of_lines : {written : List ℕ} {steps : List DratStep} → AreFirstLines written steps → IsFront written steps
+front_of_lines lines = (
+  drat_text lines.rest,
+  ap drat_text lines.parts ∙ flat_map-append line_of_drat lines.front lines.rest
+      ∙ ap (λ (l : List ℕ). l ++ drat_text lines.rest) (sym lines.lines),
+)
+
+all_lines : {written : List ℕ} {steps : List DratStep} → written ≡ drat_text steps → AreFirstLines written steps
+all_lines {steps = steps} all = record { front = steps; rest = []; parts = sym (append-nil steps); lines = all }
+
+as_lines : (result : Result Verdict ConvertError) {written : List ℕ} {steps : List DratStep} → result ≢ Err error.WriteFault
+    → HasWritten result written steps → AreFirstLines written steps
+as_lines (Ok verdict) differs has = all_lines has
+as_lines (Err error.TooLong) differs has = all_lines has
+as_lines (Err error.ReadFault) differs has = has
+as_lines (Err error.OutOfMemory) differs has = has
+as_lines (Err error.WriteFault) differs has = absurd (differs refl)
+
+as_front : (result : Result Verdict ConvertError) {written : List ℕ} {steps : List DratStep} → HasWritten result written steps
+    → IsFront written steps
+as_front (Ok verdict) has = front_of_lines (all_lines has)
+as_front (Err error.TooLong) has = front_of_lines (all_lines has)
+as_front (Err error.ReadFault) has = front_of_lines has
+as_front (Err error.OutOfMemory) has = front_of_lines has
+as_front (Err error.WriteFault) has = has
+
+as_whole : (result : Result Verdict ConvertError) {written : List ℕ} {steps : List DratStep} → IsOk result
+    → HasWritten result written steps → written ≡ drat_text steps
+as_whole (Ok verdict) done has = has
+as_whole (Err e) done has = cc
+
+-- both files were there, and the proof was converted
+pub rewritten : {tells : Bool} {in_old in_opened in_mid in_new out_old out_mid out_created out_new : Channel} {files : Files}
+    {file out : List ℕ} {clauses : List (List ℤ)} {opened created : Result ⊤ Failed} {result : Result Verdict ConvertError}
+    → Opens in_old in_opened file opened → IsOk opened → (IsTrue tells → files file ≡ Some in_opened.left) → out_mid ≡ out_old
+    → Opens out_mid out_created out created → IsOk created → in_mid ≡ in_opened
+    → ConvertsProof tells in_mid in_new out_created out_new clauses result
+    → RewritesProof tells in_old in_new out_old out_new files file out clauses result
+rewritten {tells = tells} {in_old = in_old} {in_opened = in_opened} {in_mid = in_mid} {in_new = in_new} {out_old = out_old} {out_mid = out_mid}
+    {out_created = out_created} {out_new = out_new} {files = files} {file = file} {out = out} {clauses = clauses} {result = result} opens ok
+    content from creates done to converts =
+    subst (λ (c : Channel). RewritesProof tells in_old in_new c out_new files file out clauses result) from
+    (told (subst (λ (c : Channel). ConvertsProof tells c in_new out_created out_new clauses result) to converts)) where
+      -- nothing was written before
+      same : added out_created out_new ≡ added out_mid out_new
+      same = ap (λ (l : List ℕ). drop (length l) out_new.written) (creates.idle.written ∙ sym creates.was_idle.written)
+
+      told : ConvertsProof tells in_opened in_new out_created out_new clauses result
+          → RewritesProof tells in_old in_new out_mid out_new files file out clauses result
+      told c = record {
+        judges = λ answer e. judged opens ok content
+            (checks answer (subst (λ (r : Result Verdict ConvertError). ConvertsProof tells in_opened in_new out_created out_new clauses r) e c));
+        unfailed_reads = λ differs. c.unfailed_reads differs ∙ opens.faults.unfailed ok;
+        read_written = c.read_written ∙ opens.idle.written ∙ sym opens.was_idle.written;
+        read_name = inl (c.read_name ∙ opens.named ok);
+        so_far = λ t. inr (record {
+          bytes = in_opened.left;
+          stands = content t;
+          holds = as_front result (has t);
+        });
+        lines = λ differs t. inr (record {
+          bytes = in_opened.left;
+          stands = content t;
+          holds = as_lines result differs (has t);
+        });
+        whole = λ t over. record {
+          bytes = in_opened.left;
+          stands = content t;
+          holds = as_whole result over (has t);
+        };
+        flushed = c.flushed;
+        write_fault = λ e. rose_since creates.faults.no_less (c.write_fault e);
+        unfailed_writes = λ differs. c.unfailed_writes differs ∙ creates.faults.unfailed done;
+        name = inl (c.name ∙ creates.named done);
+        opened = λ _ none. some_none (c.read_name ∙ opens.named ok) none;
+      } where
+        has : IsTrue tells → HasWritten result (added out_mid out_new) (drat_steps clauses in_opened.left)
+        has t = subst (λ (l : List ℕ). HasWritten result l (drat_steps clauses in_opened.left)) same (c.written t)

@@ -18,7 +18,7 @@ use Rattle.solver_cli.proofs.Reading.{none_taken, rose_since}
 abbrev pub Wanted : List (List ℤ) → Channel → Channel → Type 0
 Wanted clauses old new = (new ≡ old) ⊎ Decides old new (λ bytes more. IsTrue (check_may_want_memory clauses (length more) bytes))
 
-wanted_by : (clauses : List (List ℤ)) (old new : Channel) → Wanted clauses old new → WantsProof clauses old.left (gained old new)
+pub wanted_by : (clauses : List (List ℤ)) (old new : Channel) → Wanted clauses old new → WantsProof clauses old.left (gained old new)
 wanted_by clauses old new (inl same) = inl (ap (gained old) same ∙ gained-none old)
 wanted_by clauses old new (inr decides) =
     let parts : length old.left ≡ length (gained old new) + length new.left = ap length decides.left

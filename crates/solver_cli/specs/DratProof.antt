@@ -1,5 +1,5 @@
 -- What `drat` leaves of the proof that it reads, and of the one that it writes.
-use Rattle.std.specs.Prelude.{◌≡◌, ◌≢◌, ◌⊎◌, ◌++◌, ℕ, ℤ, Bool, List, [], None, Some, Result, Err, length, IsTrue, IsOk}
+use Rattle.std.specs.Prelude.{◌≡◌, ◌≢◌, ◌⊎◌, ◌≤◌, ◌++◌, ℕ, ℤ, Bool, List, [], None, Some, Result, Err, length, IsTrue, IsOk}
 use Rattle.host_io.specs.Channel.{Channel, Rose}
 use Rattle.host_io.specs.Files.{Files}
 use Rattle.lrat_checker.specs.TextVerdict.{text_verdict, verdict_so_far}
@@ -34,6 +34,7 @@ pub record ConvertsProof (tells : Bool) (in_old in_new out_old out_new : Channel
   pub unfailed_reads : result ≢ Err ReadFault → in_new.faults ≡ in_old.faults
   pub read_written : in_new.written ≡ in_old.written
   pub read_name : in_new.name ≡ in_old.name
+  pub read_faults : in_old.faults ≤ in_new.faults
   pub written : IsTrue tells → HasWritten result (added out_old out_new) (drat_steps clauses in_old.left)
   pub flushed : IsTrue tells → IsOk result → out_new.flushed ≡ length out_new.written
   pub write_fault : result ≡ Err WriteFault → Rose out_old.faults out_new.faults

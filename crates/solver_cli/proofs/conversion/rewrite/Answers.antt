@@ -1,0 +1,19 @@
+-- What is left to show of `rewrite`.
+use Rattle.std.proofs.Common.{rules, refl}
+use Rattle.host_io.specs.declared.role.Role.TheVariants.{ProofIn, ProofOut}
+use Rattle.solver_cli.proofs.Converting.{rewritten, uncreated, unread}
+use Rattle.solver_cli.proofs.conversion.rewrite.Goals as goal
+
+pub returns-then-is_err-clause-rewrites : goal.returns-then-is_err-clause-rewrites
+returns-then-is_err-clause-rewrites g c =
+    unread c.open_read.ensures.opens (search rules) (c.open_read.ensures.kept.others ProofOut refl) c.requires.unwritten
+
+pub returns-then-is_err-2-clause-rewrites : goal.returns-then-is_err-2-clause-rewrites
+returns-then-is_err-2-clause-rewrites g c =
+    uncreated c.open_read.ensures.opens (search rules) (c.open_read.ensures.kept.others ProofOut refl) c.create.ensures.opens (search rules)
+    (c.create.ensures.kept.others ProofIn refl)
+
+pub returns-clause-rewrites : goal.returns-clause-rewrites
+returns-clause-rewrites g c =
+    rewritten c.open_read.ensures.opens (search rules) (λ t. search rules) (c.open_read.ensures.kept.others ProofOut refl)
+    c.create.ensures.opens (search rules) (c.create.ensures.kept.others ProofIn refl) c.convert_opened.ensures.converts
