@@ -2,6 +2,7 @@
 use Rattle.std.proofs.Common.{◌≡◌, ℕ, ℤ, false, List, [], refl, sym, ap, ◌∙◌, subst, Some, Ok, Err, IsTrue, inl, inr}
 use Rattle.std.specs.Prelude.{Option, Result, ◌≢◌, ◌⊎◌}
 use Rattle.cnf_base.specs.Formula.{Formula}
+use Rattle.cnf_base.specs.Truth.{AreClausesOf}
 use Rattle.dimacs_reader.specs.Cnf.{formula}
 use Rattle.host_io.specs.declared.role.Role.TheVariants.{ProofIn, ProofOut, Made, Out}
 use Rattle.lrat_checker.specs.declared.verdict.Verdict.{Verdict}
@@ -19,7 +20,7 @@ use Rattle.solver_cli.specs.Stages.{streams_of, Converted, Unconverted}
 use Rattle.solver_cli.specs.Headline.{Run, written_in, GivesConversion, HasFault, OutputFailed, AsksOver, AsksToJudge, IsConverted}
 use Rattle.solver_cli.specs.Headline.{WrittenStands}
 use Rattle.solver_cli.proofs.Facts.{no_answer}
-use Rattle.solver_cli.proofs.Reading.{same_error}
+use Rattle.solver_cli.proofs.Reading.{ok_err}
 use Rattle.solver_cli.proofs.CallsFor.{calls_long}
 use Rattle.solver_cli.proofs.Promised.{Core, due, no_text, no_verdict, quiet_output, same_written}
 use Rattle.solver_cli.proofs.Untaken.{took}
@@ -60,24 +61,27 @@ stands run task {problem = problem} asked read rewrites unharmed = record {
   to_judge : IsTrue run.tells → (bytes : List ℕ) → run.files task.proof ≡ Some bytes → AsksToJudge run problem bytes
   to_judge t bytes stands = record { asked = Convert task; asks = read t; file = task.proof; named = refl; stands = stands }
 
+-- what the proof is judged for
+abbrev judging : (run : Run) (task : ToConvert) {problem : Formula} → command run.words ≡ Some (Convert task)
+    → (IsTrue run.tells → AsksOver run (Convert task) (formula problem)) → AreClausesOf problem.vars problem.clauses
+    → run.after Made ≡ run.before Made → WrittenStands run → Judging run problem
+judging run task asked read literals made stands = record {
+  asked = Convert task;
+  gives = asked;
+  file = task.proof;
+  named = refl;
+  read = read;
+  literals = literals;
+  made = made;
+  stands = stands;
+}
+
 -- the proof was not converted
 pub unconverted : Laws → (run : Run) (task : ToConvert) → command run.words ≡ Some (Convert task)
     → Unconverted run.tells (streams_of run.before) (streams_of run.after) run.files task run.status → Core run
 unconverted laws run task asked u = go u.error u.rewrites u.ends where
   read : IsTrue run.tells → AsksOver run (Convert task) (formula u.problem)
   read = took run (Convert task) task.file u.problem asked refl u.takes
-
-  judging : WrittenStands run → Judging run u.problem
-  judging stands = record {
-    asked = Convert task;
-    gives = asked;
-    file = task.proof;
-    named = refl;
-    read = read;
-    literals = u.takes.fits.literals;
-    made = u.made;
-    stands = stands;
-  }
 
   torn : RewritesProof run.tells (run.before ProofIn) (run.after ProofIn) (run.before ProofOut) (run.after ProofOut) run.files task.proof
       task.out u.problem.clauses (Err error.WriteFault) → run.status ≡ WriteFault → Core run
@@ -106,7 +110,7 @@ unconverted laws run task asked u = go u.error u.rewrites u.ends where
         };
         output = quiet_output run unanswered accepts.help (same_written u.out);
         proof = held;
-        complete = check_complete run (judging held)
+        complete = check_complete run (judging run task asked read u.takes.fits.literals u.made held)
             (λ t status calls unwritten. unwritten (calls_long run task u.problem (read t) status calls) (task, asked) failed)
             (λ other text judged has t unharmed. absurd (unharmed.1 failed));
       }
@@ -114,42 +118,35 @@ unconverted laws run task asked u = go u.error u.rewrites u.ends where
   go : (e : ConvertError)
       → RewritesProof run.tells (run.before ProofIn) (run.after ProofIn) (run.before ProofOut) (run.after ProofOut) run.files task.proof
       task.out u.problem.clauses (Err e) → run.status ≡ status_of_convert e → Core run
-  go error.ReadFault rewrites ends = unjudged laws run (judging (stands run task asked read rewrites (λ _ e. cc))) u.out
+  go error.ReadFault rewrites ends = unjudged laws run
+      (judging run task asked read u.takes.fits.literals u.made (stands run task asked read rewrites (λ _ e. cc))) u.out
       check_error.ReadFault (rewrites.judges (Err check_error.ReadFault) refl) ends
-  go error.TooLong rewrites ends = unjudged laws run (judging (stands run task asked read rewrites (λ _ e. cc))) u.out
+  go error.TooLong rewrites ends = unjudged laws run
+      (judging run task asked read u.takes.fits.literals u.made (stands run task asked read rewrites (λ _ e. cc))) u.out
       check_error.TooLong (rewrites.judges (Err check_error.TooLong) refl) ends
-  go error.OutOfMemory rewrites ends = unjudged laws run (judging (stands run task asked read rewrites (λ _ e. cc))) u.out
+  go error.OutOfMemory rewrites ends = unjudged laws run
+      (judging run task asked read u.takes.fits.literals u.made (stands run task asked read rewrites (λ _ e. cc))) u.out
       check_error.OutOfMemory (rewrites.judges (Err check_error.OutOfMemory) refl) ends
   go error.WriteFault rewrites ends = torn rewrites ends
 
 -- the proof was converted
 pub converted : Laws → (run : Run) (task : ToConvert) → command run.words ≡ Some (Convert task)
     → Converted run.tells (streams_of run.before) (streams_of run.after) run.files task run.status → Core run
-converted laws run task asked c = judged laws run judging c.verdict (c.rewrites.judges (Ok c.verdict) refl) whole c.printed c.puts c.ends where
-  read : IsTrue run.tells → AsksOver run (Convert task) (formula c.problem)
-  read = took run (Convert task) task.file c.problem asked refl c.takes
+converted laws run task asked c =
+    judged laws run (judging run task asked read c.takes.fits.literals c.made (stands run task asked read c.rewrites (λ _ e. ok_err e)))
+    c.verdict (c.rewrites.judges (Ok c.verdict) refl) whole c.printed c.puts c.ends where
+      read : IsTrue run.tells → AsksOver run (Convert task) (formula c.problem)
+      read = took run (Convert task) task.file c.problem asked refl c.takes
 
-  judging : Judging run c.problem
-  judging = record {
-    asked = Convert task;
-    gives = asked;
-    file = task.proof;
-    named = refl;
-    read = read;
-    literals = c.takes.fits.literals;
-    made = c.made;
-    stands = stands run task asked read c.rewrites (λ _ e. cc);
-  }
+      one_text : {here there : List ℕ} {text : Option (List ℕ)} → text ≡ Some here → text ≡ Some there → here ≡ there
+      one_text e d = inner (sym e ∙ d) where
+        inner : {here there : List ℕ} → ◌≡◌ {A = Option (List ℕ)} (Some here) (Some there) → here ≡ there
+        inner e = cc
 
-  one_text : {here there : List ℕ} {text : Option (List ℕ)} → text ≡ Some here → text ≡ Some there → here ≡ there
-  one_text e d = inner (sym e ∙ d) where
-    inner : {here there : List ℕ} → ◌≡◌ {A = Option (List ℕ)} (Some here) (Some there) → here ≡ there
-    inner e = cc
-
-  whole : IsTrue run.tells → GivesConversion run → (bytes : List ℕ) → run.files task.proof ≡ Some bytes → IsConverted run c.problem bytes
-  whole t given bytes stands =
-      let all = c.rewrites.whole t refl in
-      record {
-        written = all.holds ∙ ap (drat c.problem.clauses) (one_text all.stands stands);
-        flushed = c.rewrites.flushed t refl;
-      }
+      whole : IsTrue run.tells → GivesConversion run → (bytes : List ℕ) → run.files task.proof ≡ Some bytes → IsConverted run c.problem bytes
+      whole t given bytes stands =
+          let all = c.rewrites.whole t refl in
+          record {
+            written = all.holds ∙ ap (drat c.problem.clauses) (one_text all.stands stands);
+            flushed = c.rewrites.flushed t refl;
+          }

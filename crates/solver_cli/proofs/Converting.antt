@@ -4,7 +4,9 @@ use Rattle.std.proofs.Common.{None, Some, Ok, Err, IsTrue, IsOk, inl, inr}
 use Rattle.std.proofs.lemmas.Grind.{flat_map-append}
 use Rattle.std.specs.Prelude.{◌≢◌, ◌⊎◌, Option, Result, IsErr, ⊤, drop}
 use Rattle.host_io.specs.Channel.{Channel, Flushes, Rose}
-use Rattle.host_io.specs.Files.{Files, Opens}
+use Rattle.host_io.specs.Files.{Files, Kept, Opens}
+use Rattle.host_io.specs.declared.role.Role.{Role}
+use Rattle.host_io.specs.declared.role.Role.TheVariants.{ProofIn, ProofOut}
 use Rattle.host_io.specs.declared.source.Failed.{Failed}
 use Rattle.text_scan.specs.Decides.{gained, Decides, OnlyReads, Decides-whole, Decides-taken}
 use Rattle.lrat_checker.specs.TextVerdict.{Answers, text_verdict, verdict_so_far}
@@ -14,7 +16,7 @@ use Rattle.lrat_checker.specs.declared.verdict.CheckError.TheVariants as check_e
 use Rattle.drat_text.specs.DratText.{DratStep, drat_text, line_of_drat}
 use Rattle.drat_proof.specs.Drat.{drat_steps}
 use Rattle.drat_proof.specs.Conversion.{AreFirstLines, HasVerdict, HasWritten, converted}
-use Rattle.drat_proof.specs.TwoRoles.{OnlyWrites, added}
+use Rattle.drat_proof.specs.TwoRoles.{KeptButTwo, OnlyWrites, added}
 use Rattle.drat_proof.specs.declared.error.ConvertError.{ConvertError}
 use Rattle.drat_proof.specs.declared.error.ConvertError.TheVariants as error
 use Rattle.solver_cli.specs.Phases.{ChecksProof, JudgesProof}
@@ -175,15 +177,15 @@ pub uncreated : {tells : Bool} {in_old in_mid in_new out_old out_mid out_new : C
     {clauses : List (List ℤ)} {opened created : Result ⊤ Failed}
     → Opens in_old in_mid file opened → IsOk opened → out_mid ≡ out_old → Opens out_mid out_new out created → IsErr created → in_new ≡ in_mid
     → RewritesProof tells in_old in_new out_old out_new files file out clauses (Err error.WriteFault)
-uncreated {tells = tells} {in_old = in_old} {in_mid = in_mid} {out_new = out_new} {files = files} {file = file} {out = out} {clauses = clauses}
+uncreated {tells = tells} {in_old = in_old} {in_mid = in_mid} {out_old = out_old} {out_mid = out_mid} {out_new = out_new} {files = files} {file = file} {out = out} {clauses = clauses}
     {created = created} opens ok from creates failed to =
-    subst (λ (c : Channel). RewritesProof tells in_old c _ out_new files file out clauses (Err error.WriteFault)) (sym to)
+    subst (λ (c : Channel). RewritesProof tells in_old c out_old out_new files file out clauses (Err error.WriteFault)) (sym to)
     (subst (λ (c : Channel). RewritesProof tells in_old in_mid c out_new files file out clauses (Err error.WriteFault)) from (record {
       judges = λ answer e. no_answer_written answer e;
       unfailed_reads = λ _. opens.faults.unfailed ok;
       read_written = opens.idle.written ∙ sym opens.was_idle.written;
       read_name = inl (opens.named ok);
-      so_far = λ t. inl (whole_of _ out_new creates.was_idle.written ∙ creates.idle.written);
+      so_far = λ t. inl (whole_of out_mid out_new creates.was_idle.written ∙ creates.idle.written);
       lines = λ differs. absurd (differs refl);
       whole = λ t e. cc;
       flushed = λ t e. cc;
@@ -299,3 +301,31 @@ rewritten {tells = tells} {in_old = in_old} {in_opened = in_opened} {in_mid = in
       } where
         has : IsTrue tells → HasWritten result (added out_mid out_new) (drat_steps clauses in_opened.left)
         has t = subst (λ (l : List ℕ). HasWritten result l (drat_steps clauses in_opened.left)) same (c.written t)
+
+-- what calls of the two roles leave alone, one after another
+none_some : {name : List ℕ} → ◌≡◌ {A = Option (List ℕ)} None (Some name) → ⊥
+none_some e = cc
+
+pub kept_read : {own : Option (List ℕ)} {old new : Role → Channel} {before after : Files} → Kept ProofIn None old new before after
+    → KeptButTwo ProofIn ProofOut own old new before after
+kept_read kept = record { others = λ other a b. kept.others other a; files = λ file n. kept.files file none_some }
+
+pub kept_written : {own name : Option (List ℕ)} {old new : Role → Channel} {before after : Files}
+    → Kept ProofOut name old new before after → name ≡ own → KeptButTwo ProofIn ProofOut own old new before after
+kept_written kept same = record {
+  others = λ other a b. kept.others other b;
+  files = λ file n. kept.files file (λ e. n (sym same ∙ e));
+}
+
+pub then_kept : {own : Option (List ℕ)} {old mid new : Role → Channel} {before between after : Files}
+    → KeptButTwo ProofIn ProofOut own old mid before between → KeptButTwo ProofIn ProofOut own mid new between after
+    → KeptButTwo ProofIn ProofOut own old new before after
+then_kept first second = record {
+  others = λ other a b. second.others other a b ∙ first.others other a b;
+  files = λ file n. second.files file n ∙ first.files file n;
+}
+
+pub kept_as : {own name : Option (List ℕ)} {old new : Role → Channel} {before after : Files} → own ≡ name
+    → KeptButTwo ProofIn ProofOut own old new before after → KeptButTwo ProofIn ProofOut name old new before after
+kept_as {old = old} {new = new} {before = before} {after = after} same kept =
+    subst (λ (n : Option (List ℕ)). KeptButTwo ProofIn ProofOut n old new before after) same kept

@@ -390,7 +390,7 @@ IsConverting words old new status = ((task : ToConvert) × (command words ≡ So
 
 unconverted : {tells : Bool} {words : List (List ℕ)} {old new : Streams} {files : Files} {task : ToConvert} {status : Status}
     → command words ≡ Some (Convert task) → Unconverted tells old new files task status → Told (IsConverting words old new status) old new status
-unconverted {words = words} {old = old} {new = new} {files = files} {task = task} {status = status} asked u = record {
+unconverted {tells = tells} {old = old} {new = new} {files = files} {task = task} {status = status} asked u = record {
   quiet = λ _. record {
     cnf = u.takes.written;
     order = written_of u.order;

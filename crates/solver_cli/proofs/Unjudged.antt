@@ -66,7 +66,7 @@ pub record Judging (run : Run) (problem : Formula) : Type 0 where
   pub stands : WrittenStands run
 
 -- the command is `check`
-pub checks : (run : Run) (task : ToCheck) {problem : Formula} → command run.words ≡ Some (Check task)
+abbrev pub checks : (run : Run) (task : ToCheck) {problem : Formula} → command run.words ≡ Some (Check task)
     → (IsTrue run.tells → AsksOver run (Check task) (formula problem)) → AreClausesOf problem.vars problem.clauses
     → run.after Made ≡ run.before Made → run.after ProofOut ≡ run.before ProofOut → Judging run problem
 checks run task asked read literals made proof = record {

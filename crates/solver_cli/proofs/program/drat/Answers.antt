@@ -1,5 +1,6 @@
 -- What is left to show of `drat`.
 use Rattle.std.proofs.Common.{refl}
+use Rattle.host_io.specs.declared.role.Role.TheVariants.{Out}
 use Rattle.solver_cli.specs.Stages.{convert_of}
 use Rattle.solver_cli.proofs.StagedConversion.{converted, error_converted, error_unconverted, files_converted, files_unconverted, unconverted}
 use Rattle.solver_cli.proofs.program.drat.Goals as goal
@@ -30,7 +31,7 @@ returns-in-Ok-put_verdict-clause-error g c = error_converted c.in-Ok.ensures.kep
 
 pub returns-in-Ok-put_verdict-clause-files : goal.returns-in-Ok-put_verdict-clause-files
 returns-in-Ok-put_verdict-clause-files g c =
-    files_converted (c.requires.unnamed _) c.in-Ok.ensures.kept c.rewrite.ensures.kept c.put_verdict.ensures.kept
+    files_converted (c.requires.unnamed Out) c.in-Ok.ensures.kept c.rewrite.ensures.kept c.put_verdict.ensures.kept
 
 pub returns-clause-came : goal.returns-clause-came
 returns-clause-came g c =
@@ -45,4 +46,4 @@ returns-clause-error g c = error_converted c.in-Ok.ensures.kept c.rewrite.ensure
 
 pub returns-clause-files : goal.returns-clause-files
 returns-clause-files g c =
-    files_converted (c.requires.unnamed _) c.in-Ok.ensures.kept c.rewrite.ensures.kept c.put_verdict.ensures.kept
+    files_converted (c.requires.unnamed Out) c.in-Ok.ensures.kept c.rewrite.ensures.kept c.put_verdict.ensures.kept
