@@ -241,18 +241,18 @@ as_lines (Err error.ReadFault) differs has = has
 as_lines (Err error.OutOfMemory) differs has = has
 as_lines (Err error.WriteFault) differs has = absurd (differs refl)
 
-as_front : (result : Result Verdict ConvertError) {written : List ℕ} {steps : List DratStep} → HasWritten result written steps
+as_front : (result : Result Verdict ConvertError) (written : List ℕ) (steps : List DratStep) → HasWritten result written steps
     → IsFront written steps
-as_front (Ok verdict) has = front_of_lines (all_lines has)
-as_front (Err error.TooLong) has = front_of_lines (all_lines has)
-as_front (Err error.ReadFault) has = front_of_lines has
-as_front (Err error.OutOfMemory) has = front_of_lines has
-as_front (Err error.WriteFault) has = has
+as_front (Ok verdict) written steps has = front_of_lines (all_lines has)
+as_front (Err error.TooLong) written steps has = front_of_lines (all_lines has)
+as_front (Err error.ReadFault) written steps has = front_of_lines has
+as_front (Err error.OutOfMemory) written steps has = front_of_lines has
+as_front (Err error.WriteFault) written steps has = has
 
-as_whole : (result : Result Verdict ConvertError) {written : List ℕ} {steps : List DratStep} → IsOk result
+as_whole : (result : Result Verdict ConvertError) (written : List ℕ) (steps : List DratStep) → IsOk result
     → HasWritten result written steps → written ≡ drat_text steps
-as_whole (Ok verdict) done has = has
-as_whole (Err e) done has = cc
+as_whole (Ok verdict) written steps done has = has
+as_whole (Err e) written steps done has = cc
 
 -- both files were there, and the proof was converted
 pub rewritten : {tells : Bool} {in_old in_opened in_mid in_new out_old out_mid out_created out_new : Channel} {files : Files}
@@ -281,7 +281,7 @@ rewritten {tells = tells} {in_old = in_old} {in_opened = in_opened} {in_mid = in
         so_far = λ t. inr (record {
           bytes = in_opened.left;
           stands = content t;
-          holds = as_front result (has t);
+          holds = as_front result _ _ (has t);
         });
         lines = λ differs t. inr (record {
           bytes = in_opened.left;
@@ -291,7 +291,7 @@ rewritten {tells = tells} {in_old = in_old} {in_opened = in_opened} {in_mid = in
         whole = λ t over. record {
           bytes = in_opened.left;
           stands = content t;
-          holds = as_whole result over (has t);
+          holds = as_whole result _ _ over (has t);
         };
         flushed = c.flushed;
         write_fault = λ e. rose_since creates.faults.no_less (c.write_fault e);

@@ -1,7 +1,7 @@
 -- What is left to show of `convert_opened`.
-use Rattle.std.proofs.Common.{rules, refl}
+use Rattle.std.proofs.Common.{rules, refl, Ok, Err}
 use Rattle.host_io.specs.declared.role.Role.TheVariants.{ProofIn}
-use Rattle.solver_cli.proofs.Converting.{flushed, kept_written, then_kept, torn, unflushed}
+use Rattle.solver_cli.proofs.Converting.{flushed, torn, unflushed}
 use Rattle.solver_cli.proofs.conversion.convert_opened.Goals as goal
 
 pub returns-in_err-verdict-clause-converts : goal.returns-in_err-verdict-clause-converts
@@ -21,9 +21,6 @@ returns-in_err-verdict-clause-converts g c =
     })
     c.in_err-verdict.was (first_of (search rules, cc))
 
-pub returns-in_err-verdict-clause-kept : goal.returns-in_err-verdict-clause-kept
-returns-in_err-verdict-clause-kept g c = c.convert.ensures.kept
-
 pub returns-in-Ok-clause-converts : goal.returns-in-Ok-clause-converts
 returns-in-Ok-clause-converts g c =
     flushed
@@ -39,13 +36,10 @@ returns-in-Ok-clause-converts g c =
       reads = c.convert.ensures.reads;
       writes = c.convert.ensures.writes;
     })
-    c.in_ok-verdict.was c.flush.result c.flush.ensures.flushes (search rules) (c.flush.ensures.kept.others ProofIn refl)
+    c.in_ok-verdict.was (Ok c.in-Ok.field-0) c.in-Ok.ensures.flushes refl (c.flush.ensures.kept.others ProofIn refl)
 
-pub returns-in-Ok-clause-kept : goal.returns-in-Ok-clause-kept
-returns-in-Ok-clause-kept g c = then_kept c.convert.ensures.kept (kept_written c.flush.ensures.kept c.convert.ensures.writes.name)
-
-pub returns-clause-converts : goal.returns-clause-converts
-returns-clause-converts g c =
+pub returns-in-Err-clause-converts : goal.returns-in-Err-clause-converts
+returns-in-Err-clause-converts g c =
     torn
     (record {
       decides = c.convert.ensures.decides;
@@ -59,7 +53,4 @@ returns-clause-converts g c =
       reads = c.convert.ensures.reads;
       writes = c.convert.ensures.writes;
     })
-    c.in_ok-verdict.was c.flush.result c.flush.ensures.flushes (search rules) (c.flush.ensures.kept.others ProofIn refl)
-
-pub returns-clause-kept : goal.returns-clause-kept
-returns-clause-kept g c = then_kept c.convert.ensures.kept (kept_written c.flush.ensures.kept c.convert.ensures.writes.name)
+    c.in_ok-verdict.was (Err c.in-Err.field-0) c.in-Err.ensures.flushes refl (c.flush.ensures.kept.others ProofIn refl)
