@@ -2,7 +2,7 @@
 use Rattle.std.proofs.Common.{◌≡◌, ℕ, ◌+◌, ◌-◌, ℤ, Bool, List, [], ◌++◌, length, length-append, append-nil, refl, sym, ap, ◌∙◌, subst, arith}
 use Rattle.std.proofs.Common.{None, Some, Ok, Err, IsTrue, IsOk, inl, inr}
 use Rattle.std.proofs.lemmas.Grind.{flat_map-append}
-use Rattle.std.specs.Prelude.{◌≢◌, ◌⊎◌, Option, Result, IsErr, ⊤, drop}
+use Rattle.std.specs.Prelude.{◌≢◌, ◌⊎◌, Option, Result, IsErr, OnOk, ⊤, drop}
 use Rattle.host_io.specs.Channel.{Channel, Flushes, Rose}
 use Rattle.host_io.specs.Files.{Files, Kept, Opens}
 use Rattle.host_io.specs.declared.role.Role.{Role}
@@ -253,6 +253,11 @@ as_whole : (result : Result Verdict ConvertError) (written : List ℕ) (steps : 
     → HasWritten result written steps → written ≡ drat_text steps
 as_whole (Ok verdict) written steps done has = has
 as_whole (Err e) written steps done has = cc
+
+-- what is said of an `Ok`, where the result is one
+pub on_ok : {P : Type 0} (result : Result ⊤ Failed) → IsOk result → OnOk result P → P
+on_ok (Ok x) done holds = holds
+on_ok (Err e) done holds = cc
 
 -- both files were there, and the proof was converted
 pub rewritten : {tells : Bool} {in_old in_opened in_mid in_new out_old out_mid out_created out_new : Channel} {files : Files}

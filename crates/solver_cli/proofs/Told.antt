@@ -388,9 +388,9 @@ abbrev pub IsConverting : List (List ℕ) → Streams → Streams → Status →
 IsConverting words old new status = ((task : ToConvert) × (command words ≡ Some (Convert task)))
     × (Rose old.judged.faults new.judged.faults ⊎ IsTrue (ends_in_proof status))
 
-unconverted : {tells : Bool} {words : List (List ℕ)} {old new : Streams} {files : Files} {task : ToConvert} {status : Status}
+unconverted : {tells : Bool} (words : List (List ℕ)) {old new : Streams} {files : Files} {task : ToConvert} {status : Status}
     → command words ≡ Some (Convert task) → Unconverted tells old new files task status → Told (IsConverting words old new status) old new status
-unconverted {tells = tells} {old = old} {new = new} {files = files} {task = task} {status = status} asked u = record {
+unconverted {tells = tells} words {old = old} {new = new} {files = files} {task = task} {status = status} asked u = record {
   quiet = λ _. record {
     cnf = u.takes.written;
     order = written_of u.order;
@@ -463,12 +463,12 @@ came_to_arrange (inl u) = untaken u
 came_to_arrange {task = task} (inr (inl u)) = formula_and_text task.mode u.takes u.alone (no_memory u.ends) (λ _. faults_of u.made)
 came_to_arrange {task = task} (inr (inr a)) = formula_and_text task.mode a.takes a.alone (write_unread a.came) (write_told a.came)
 
-came_to_convert : {tells : Bool} {words : List (List ℕ)} {old new : Streams} {files : Files} {task : ToConvert} {status : Status}
+came_to_convert : {tells : Bool} (words : List (List ℕ)) {old new : Streams} {files : Files} {task : ToConvert} {status : Status}
     → command words ≡ Some (Convert task) → CameToConvert tells old new files task status
     → Told (IsConverting words old new status) old new status
-came_to_convert asked (inl u) = untaken u
-came_to_convert asked (inr (inl u)) = unconverted asked u
-came_to_convert asked (inr (inr c)) = converted c
+came_to_convert words asked (inl u) = untaken u
+came_to_convert words asked (inr (inl u)) = unconverted words asked u
+came_to_convert words asked (inr (inr c)) = converted c
 
 pub told : {tells : Bool} {words : List (List ℕ)} {old new : Streams} {files : Files} {status : Status}
     → Stages tells words old new files status → Told (IsConverting words old new status) old new status
@@ -479,7 +479,7 @@ told (inr (inr (inr (inl c)))) = came_to_check c.came
 told (inr (inr (inr (inr (inl b))))) = came_to_bench b.came
 told (inr (inr (inr (inr (inr (inl m)))))) = came_to_make m.came
 told (inr (inr (inr (inr (inr (inr (inl a))))))) = came_to_arrange a.came
-told (inr (inr (inr (inr (inr (inr (inr d))))))) = came_to_convert d.asked d.came
+told {words = words} (inr (inr (inr (inr (inr (inr (inr d))))))) = came_to_convert words d.asked d.came
 
 pub failures : (run : Run) → Told (ConvertsAsItReads run) (streams_of run.before) (streams_of run.after) run.status → FailuresAreTold run
 failures run counts = record { read = read; write = write } where
