@@ -1,13 +1,12 @@
 -- What is promised of a run that took its formula, and converted its proof or didn't.
-use Rattle.std.proofs.Common.{◌≡◌, ℕ, ℤ, false, List, [], refl, sym, ap, ◌∙◌, subst, Some, Ok, Err, IsTrue, inl, inr}
-use Rattle.std.specs.Prelude.{Option, Result, ◌≢◌, ◌⊎◌}
+use Rattle.std.proofs.Common.{◌≡◌, ℕ, false, List, refl, sym, ap, ◌∙◌, Some, Ok, Err, IsTrue, inl, inr}
+use Rattle.std.specs.Prelude.{Option, Result, ◌≢◌}
 use Rattle.cnf_base.specs.Formula.{Formula}
 use Rattle.cnf_base.specs.Truth.{AreClausesOf}
 use Rattle.dimacs_reader.specs.Cnf.{formula}
-use Rattle.host_io.specs.declared.role.Role.TheVariants.{ProofIn, ProofOut, Made, Out}
+use Rattle.host_io.specs.declared.role.Role.TheVariants.{ProofIn, ProofOut, Made}
 use Rattle.lrat_checker.specs.declared.verdict.Verdict.{Verdict}
 use Rattle.lrat_checker.specs.declared.verdict.CheckError.TheVariants as check_error
-use Rattle.drat_text.specs.DratText.{DratStep}
 use Rattle.drat_proof.specs.Drat.{drat}
 use Rattle.drat_proof.specs.declared.error.ConvertError.{ConvertError}
 use Rattle.drat_proof.specs.declared.error.ConvertError.TheVariants as error
@@ -15,9 +14,9 @@ use Rattle.command_line.specs.Command.{ToConvert, Convert, command}
 use Rattle.solver_cli.specs.declared.status.Status.TheVariants.{WriteFault}
 use Rattle.solver_cli.specs.ErrorText.{is_answer}
 use Rattle.solver_cli.specs.ExitCode.{status_of_convert}
-use Rattle.solver_cli.specs.DratProof.{IsFront, IsOfDrat, RewritesProof}
+use Rattle.solver_cli.specs.DratProof.{RewritesProof}
 use Rattle.solver_cli.specs.Stages.{streams_of, Converted, Unconverted}
-use Rattle.solver_cli.specs.Headline.{Run, written_in, GivesConversion, HasFault, OutputFailed, AsksOver, AsksToJudge, IsConverted}
+use Rattle.solver_cli.specs.Headline.{Run, GivesConversion, HasFault, OutputFailed, AsksOver, AsksToJudge, IsConverted}
 use Rattle.solver_cli.specs.Headline.{WrittenStands}
 use Rattle.solver_cli.proofs.Facts.{no_answer}
 use Rattle.solver_cli.proofs.Reading.{ok_err}

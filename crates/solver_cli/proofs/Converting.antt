@@ -1,8 +1,8 @@
 -- What the conversion of an opened proof says of the run.
-use Rattle.std.proofs.Common.{◌≡◌, ℕ, ◌+◌, ◌-◌, ℤ, Bool, List, [], ◌++◌, length, length-append, append-nil, refl, sym, ap, ◌∙◌, subst, arith}
+use Rattle.std.proofs.Common.{◌≡◌, ℕ, ℤ, Bool, List, [], ◌++◌, length, append-nil, refl, sym, ap, ◌∙◌, subst}
 use Rattle.std.proofs.Common.{None, Some, Ok, Err, IsTrue, IsOk, inl, inr}
 use Rattle.std.proofs.lemmas.Grind.{flat_map-append}
-use Rattle.std.specs.Prelude.{◌≢◌, ◌⊎◌, Option, Result, IsErr, OnOk, ⊤, drop}
+use Rattle.std.specs.Prelude.{◌≢◌, Option, Result, IsErr, OnOk, ⊤, drop}
 use Rattle.host_io.specs.Channel.{Channel, Flushes, Rose}
 use Rattle.host_io.specs.Files.{Files, Kept, Opens}
 use Rattle.host_io.specs.declared.role.Role.{Role}
@@ -20,7 +20,7 @@ use Rattle.drat_proof.specs.TwoRoles.{KeptButTwo, OnlyWrites, added}
 use Rattle.drat_proof.specs.declared.error.ConvertError.{ConvertError}
 use Rattle.drat_proof.specs.declared.error.ConvertError.TheVariants as error
 use Rattle.solver_cli.specs.Phases.{ChecksProof, JudgesProof}
-use Rattle.solver_cli.specs.DratProof.{ConvertsProof, IsFront, IsOfDrat, RewritesProof}
+use Rattle.solver_cli.specs.DratProof.{ConvertsProof, IsFront, RewritesProof}
 use Rattle.solver_cli.proofs.Facts.{behind, nothing_more, whole_of}
 use Rattle.solver_cli.proofs.Judging.{Wanted, judged, unopened, wanted_by}
 use Rattle.solver_cli.proofs.Reading.{ok_err, rose_since}

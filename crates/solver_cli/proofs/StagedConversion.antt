@@ -1,6 +1,6 @@
 -- How the calls of `drat` make its stages.
 use Rattle.std.proofs.Common.{◌≡◌, ℕ, ℤ, Bool, List, refl, sym, ap, ◌∙◌, subst, Some, None, Ok, Err, inl, inr}
-use Rattle.std.specs.Prelude.{Option, Result, ⊤, ◌⊎◌}
+use Rattle.std.specs.Prelude.{Option, Result, ⊤}
 use Rattle.cnf_base.specs.Formula.{Formula}
 use Rattle.host_io.specs.declared.role.Role.{Role}
 use Rattle.host_io.specs.declared.role.Role.TheVariants.{Cnf, Order, Buckets, Schedule, ProofIn, ProofOut, Made, Out, Err as ErrRole}

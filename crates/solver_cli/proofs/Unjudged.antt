@@ -20,7 +20,6 @@ use Rattle.command_line.specs.Command.{Command, ToCheck, Check, command}
 use Rattle.solver_cli.specs.ExitCode.{status_of_check}
 use Rattle.solver_cli.specs.Verdict.{status_of_verdict}
 use Rattle.solver_cli.specs.Phases.{JudgesText, JudgesProof}
-use Rattle.solver_cli.specs.Stages.{streams_of}
 use Rattle.solver_cli.specs.Headline.{Run, taken_in, IsUnharmed, AsksOver, AsksToJudge, HasVerdict, IsLongProof, IsOpenProof, CallsFor}
 use Rattle.solver_cli.specs.Headline.{GivesConversion, IsComplete, OutputFailed, WrittenStands, name_given}
 use Rattle.solver_cli.proofs.Facts.{one_proof, not_unasked, decided_unjudged, judged_apart, only_misuse, only_help}
@@ -28,7 +27,6 @@ use Rattle.solver_cli.proofs.Facts.{same_formula}
 use Rattle.solver_cli.proofs.CallsFor.{same_text}
 use Rattle.solver_cli.proofs.Promised.{Core, LeftAlone, left_proof, refused, short, unread}
 use Rattle.solver_cli.proofs.Deciding.{deciding}
-use Rattle.solver_cli.proofs.Untaken.{took}
 
 -- that bytes which refute a formula leave it no satisfying assignment
 abbrev pub Law : Type 0
