@@ -5,8 +5,8 @@ use Rattle.apply_and.specs.Cache.{entries as conjunctions}
 use Rattle.imply.specs.Cache.{entries as implications}
 use Rattle.quantify.specs.ExistsCache.{both_caches}
 use Rattle.quantify.specs.OrCache.{disjunctions}
-use Rattle.diagram_tests.specs.declared.operating.Cache.{Cache}
-use Rattle.diagram_tests.specs.declared.operating.Cache.TheVariants.{Conjunctions, Implications, Disjunctions, Quantifications}
+use Rattle.diagram_tests.specs.declared.cache.Cache.{Cache}
+use Rattle.diagram_tests.specs.declared.cache.Cache.TheVariants.{Conjunctions, Implications, Disjunctions, Quantifications}
 
 abbrev pub entries_of : Cache → List Entry
 entries_of (Conjunctions cache) = conjunctions cache

@@ -1,6 +1,7 @@
 //! Tests of the layers of diagrams: `node_table`, `apply_and`, `quantify`, `imply`, `term_runner`.
 #![tactic(auto)]
 
+mod cache;
 #[cfg(test)]
 mod checked;
 #[cfg(test)]

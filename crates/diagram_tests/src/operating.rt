@@ -10,6 +10,7 @@ ghost use Rattle.quantify.specs.OrCache.{disjunctions};
 ghost use Rattle.diagram_tests.specs.Kept.{entries_of};
 ghost use Rattle.diagram_tests.specs.declared.support.ProofText.{ProofText as ProofTextValue};
 
+use crate::cache::Cache;
 use crate::support::{ProofText, is_known};
 use apply_and::{AndCache, and};
 use cnf_base::OutOfMemory;
@@ -25,15 +26,6 @@ use std::process::Abort;
 pub struct Named {
     pub node: Node,
     pub id: u64,
-}
-
-/// The cache of an operation.
-#[derive(Drop)]
-pub enum Cache {
-    Conjunctions(AndCache),
-    Implications(ImplyCache),
-    Disjunctions(OrCache),
-    Quantifications(ExistsCache, OrCache),
 }
 
 /// The empty cache of the operation of this name, of at most so many entries. It fits each table.

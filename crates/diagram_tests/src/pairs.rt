@@ -4,9 +4,10 @@ ghost use Rattle.node_table.specs.Table.{IsSound};
 ghost use Rattle.operations.specs.Entries.{Fits};
 ghost use Rattle.diagram_tests.specs.Kept.{entries_of};
 
+use crate::cache::Cache;
 use crate::checked::expect_good_lines;
 use crate::functions::{all_functions, expect_rows, node_at};
-use crate::operating::{Cache, new_cache, operate};
+use crate::operating::{new_cache, operate};
 use crate::support::{ProofText, number_at, opened, part};
 use node_table::{Node, Table, TableError};
 use operations::entry_law;

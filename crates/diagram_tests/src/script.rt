@@ -7,7 +7,8 @@ ghost use Rattle.operations.specs.Entries.{Fits};
 ghost use Rattle.diagram_tests.specs.Kept.{entries_of};
 ghost use Rattle.diagram_tests.specs.Plain.{IsPlain};
 
-use crate::operating::{Cache, Named, new_cache, operate};
+use crate::cache::Cache;
+use crate::operating::{Named, new_cache, operate};
 use crate::support::{ProofText, make, part};
 use node_table::{Node, Table, TableError};
 use std::alloc::Global;

@@ -6,7 +6,8 @@ ghost use Rattle.operations.specs.Entries.{Fits};
 ghost use Rattle.diagram_tests.specs.Kept.{entries_of};
 ghost use Rattle.diagram_tests.specs.Plain.{IsPlain};
 
-use crate::operating::{Cache, Named, new_cache};
+use crate::cache::Cache;
+use crate::operating::{Named, new_cache};
 use crate::script::{make_all, name_of, operands, operate_all};
 use crate::support::{ProofText, is_known, part};
 use cnf_base::OutOfMemory;
