@@ -1,5 +1,5 @@
 -- Plain tables: a table without nodes is plain, a node more leaves it so, and its unmarked nodes may be swept away.
-use Rattle.std.proofs.Common.{◌≡◌, ◌∙◌, ◌≤◌, ℕ, ℤ, Bool, true, List, Option, None, Some, Result, Ok, Err, is_some, refl, sym, subst, arith}
+use Rattle.std.proofs.Common.{◌≡◌, ℕ, ℤ, Bool, true, List, Option, None, Some, Result, Ok, Err, is_some, refl, sym, subst, arith}
 use Rattle.std.specs.Prelude.{OnOk}
 use Rattle.lrat_rules.specs.State.{Live, clause_at}
 use Rattle.clause_ledger.specs.Book.{Book}

@@ -1,5 +1,5 @@
 -- A table whose retired clauses were deleted.
-use Rattle.std.proofs.Common.{◌≡◌, ℕ, Bool, List, [], Contains, Result, Ok, Err, ap}
+use Rattle.std.proofs.Common.{◌≡◌, ℕ, List, [], Contains, Result, Ok, Err, ap}
 use Rattle.std.specs.Prelude.{OnOk}
 use Rattle.lrat_rules.specs.State.{clause_at}
 use Rattle.node_table.specs.declared.error.TableError.{TableError}

@@ -1,6 +1,5 @@
 // Proofs of tables, judged by the checker.
-use crate::support::ProofText;
-use cnf_base::Cnf;
+use crate::support::{ProofText, no_clauses};
 use host_io::SliceSource;
 use lrat_checker::{Verdict, check};
 use lrat_rules::Reason;
@@ -9,30 +8,25 @@ use std::alloc::Global;
 use std::process::Abort;
 use std::test::Fail;
 
-/// Each line of a table's proof is good, and some delete clauses. None adds the empty clause, which is told of the line
-/// behind the last one.
+/// Each line of a table's proof is good, and some delete clauses where this is told. None adds the empty clause, which is
+/// told of the line behind the last one. The formula is one of three variables without clauses.
 pub fn expect_good_lines(
     rt: &impl Abort,
     alloc: Global,
-    formula: &Cnf,
     table: Table<ProofText>,
+    deletes: bool,
 ) -> Result<(), Fail> {
     let proof = table.into_ledger().close();
-    let lines = proof.lines(alloc)?;
-    assert!(rt; lines.contains(" d "));
-    expect_end(rt, alloc, formula, proof.bytes(), lines.split('/').count())
+    let mut lines = String::new(alloc);
+    proof.push_to(&mut lines)?;
+    assert!(rt; lines.contains(" d ") == deletes);
+    expect_end(rt, alloc, proof.bytes(), lines.split('/').count())
 }
 
 // The checker finds nothing bad before this line, where it finds the end.
-fn expect_end(
-    rt: &impl Abort,
-    alloc: Global,
-    formula: &Cnf,
-    proof: &[u8],
-    end: usize,
-) -> Result<(), Fail> {
+fn expect_end(rt: &impl Abort, alloc: Global, proof: &[u8], end: usize) -> Result<(), Fail> {
     let mut source = SliceSource::new(proof, usize::MAX);
-    let answer = check(alloc, formula, &mut source);
+    let answer = check(alloc, &no_clauses(alloc, 3), &mut source);
     let expected = Ok(Verdict::Refused {
         line: end as u64,
         reason: Reason::NoEmptyClause,

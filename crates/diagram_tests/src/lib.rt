@@ -1,35 +1,26 @@
-//! Tests of the layers of diagrams: `node_table`, `clause_terms`, `apply_and`, `quantify`, `imply`, `term_runner`.
+//! Tests of the layers of diagrams: `node_table`, `apply_and`, `quantify`, `imply`, `term_runner`.
 #![tactic(auto)]
 
+mod cache;
 #[cfg(test)]
 mod checked;
 #[cfg(test)]
-mod conjunctions;
-#[cfg(test)]
 mod depth;
 #[cfg(test)]
-mod disjunctions;
+mod functions;
 #[cfg(test)]
-mod found;
+mod lines;
 #[cfg(test)]
-mod implications;
+mod operating;
 #[cfg(test)]
-mod nodes;
-#[cfg(test)]
-mod quantifications;
-#[cfg(test)]
-mod recoveries;
+mod pairs;
 #[cfg(test)]
 mod retired;
-#[cfg(test)]
-mod runs;
 #[cfg(test)]
 mod script;
 #[cfg(test)]
 mod support;
 #[cfg(test)]
 mod swept;
-#[cfg(test)]
-mod terms;
 #[cfg(test)]
 mod trials;

@@ -1,74 +1,35 @@
-// Scripts for a table: the nodes to make, and behind a bar the pairs to conjoin. A word as '0Ta' makes the node of level 0
-// with the children True and a, a word as 'cd' conjoins c and d. Each result is named by the next letter from a on, or by
-// the first one that it has already.
-ghost use Rattle.std.specs.Prelude.{◌≡◌, ◌≤◌, IfOk, OnOk, length};
-ghost use Rattle.cnf_base.specs.Truth.{AreClausesOf};
-ghost use Rattle.node_table.specs.Diagram.{IsOrder};
-ghost use Rattle.node_table.specs.Table.{IsSound, TableState};
+// Scripts for a table over three variables, with bars between their parts: an operation, an order, a room, the nodes to make,
+// and the pairs to operate on. A word as '0Ta' makes the node of level 0 with the children True and a, a word as 'cd' is of
+// the operands c and d. Each result is named by the next letter from a on, or by the first one that it has already.
+ghost use Rattle.std.specs.Prelude.{OnOk};
+ghost use Rattle.node_table.specs.Table.{IsSound};
 ghost use Rattle.operations.specs.Entries.{Fits};
-ghost use Rattle.apply_and.specs.Cache.{entries};
+ghost use Rattle.diagram_tests.specs.Kept.{entries_of};
 ghost use Rattle.diagram_tests.specs.Plain.{IsPlain};
-ghost use Rattle.diagram_tests.specs.declared.support.ProofText.{ProofText as ProofTextValue};
 
-use crate::support::{ProofText, Room, is_known, make, open, order};
-use apply_and::{AndCache, and};
-use cnf_base::{Cnf, OutOfMemory};
-use node_table::{Justification, Node, Table, TableError};
-use operations::entry_law;
+use crate::cache::Cache;
+use crate::operating::{Named, new_cache, operate};
+use crate::support::{ProofText, make, part};
+use node_table::{Node, Table, TableError};
 use std::alloc::Global;
 use std::process::Abort;
 use std::test::Fail;
 
-/// A node, and the number of the clause that justifies it, 0 for none.
-#[derive(Clone, Copy, Debug)]
-pub struct Named {
-    pub node: Node,
-    pub id: u64,
-}
-
-/// What a script left: the results in turn, and the refusal that ended it.
-#[derive(Drop)]
-pub struct Played {
-    pub table: Table<ProofText>,
-    pub results: Vec<Named>,
-    pub refused: Option<TableError>,
-}
-
-/// Plays a script on a new table over two variables.
+/// Plays a script on a table without nodes, and tells how it ended, and each result by its name, the number of its clause, and
+/// its level and children.
 pub fn play(
     rt: &impl Abort,
     alloc: Global,
-    formula: &Cnf,
-    reversed: bool,
-    room: &Room,
+    table: &mut Table<ProofText>,
     script: &str,
-) -> Result<Played, Fail>
-    requires { AreClausesOf 2 formula.now.clauses }
+    text: &mut String,
+) -> Result<(), Fail>
+    requires sound { IsSound table.old }
 {
-    play_over(rt, alloc, formula, &order(reversed), room, script)
-}
-
-/// Plays a script on a new table over this order.
-pub fn play_over(
-    rt: &impl Abort,
-    alloc: Global,
-    formula: &Cnf,
-    order: &[u32],
-    room: &Room,
-    script: &str,
-) -> Result<Played, Fail>
-    requires clauses { AreClausesOf (length order.now) formula.now.clauses }
-    requires order { IsOrder order.now }
-    requires few { length order.now ≤ 3 }
-{
-    let mut table = open(alloc, formula, order, room)?;
     let mut results = Vec::new(alloc);
-    let refused = take_script(rt, alloc, &mut table, &mut results, script).err();
-    Ok(Played {
-        table,
-        results,
-        refused,
-    })
+    let ended = take_script(rt, alloc, table, &mut results, script);
+    push_end(alloc, text, &ended)?;
+    push_results(alloc, text, table, results.as_slice())
 }
 
 fn take_script(
@@ -80,27 +41,9 @@ fn take_script(
 ) -> Result<(), TableError>
     requires sound { IsSound table.old }
 {
-    let (made, joined) = halves(script);
-    make_all(rt, table, results, made)?;
-    let mut cache = no_entries(alloc, 1_000)?;
-    join_all(rt, table, &mut cache, results, joined)
-}
-
-/// A cache without entries, for at most so many. It fits each table.
-pub fn no_entries(alloc: Global, capacity: u32) -> Result<AndCache, OutOfMemory>
-    requires { 1 ≤ capacity }
-    ensures { IfOk result (λ cache. (table : TableState ProofTextValue) → Fits table (entries cache)) }
-{
-    entry_law::<ProofText>();
-    AndCache::new(alloc, capacity)
-}
-
-/// The parts of a script before and behind its bar.
-pub fn halves(script: &str) -> (&str, &str) {
-    match script.split_once('|') {
-        Some(halves) => halves,
-        None => (script, ""),
-    }
+    make_all(rt, table, results, part(script, '|', 3))?;
+    let mut cache = new_cache(alloc, part(script, '|', 0), 1_000)?;
+    operate_all(rt, table, &mut cache, results, part(script, '|', 4))
 }
 
 /// Makes the nodes that words write.
@@ -117,58 +60,34 @@ pub fn make_all(
     for word in words.split_whitespace() {
         let (level, high, low) = children(results.as_slice(), word);
         let node = make(rt, table, level, high, low)?;
-        keep(results, node, 0)?;
+        keep(results, Named { node, id: 0 })?;
     }
     Ok(())
 }
 
-fn join_all(
+/// Operates on the pairs that words write.
+pub fn operate_all(
     rt: &impl Abort,
     table: &mut Table<ProofText>,
-    cache: &mut AndCache,
+    cache: &mut Cache,
     results: &mut Vec<Named>,
     words: &str,
 ) -> Result<(), TableError>
     requires sound { IsSound table.old }
-    requires fits { Fits table.old (entries cache.old) }
+    requires fits { Fits table.old (entries_of cache.old) }
+    ensures sound { OnOk result (IsSound table.new) }
+    ensures fits { OnOk result (Fits table.new (entries_of cache.new)) }
 {
     for word in words.split_whitespace() {
         let (u, v) = operands(results.as_slice(), word);
-        let (w, id) = conjoin(rt, table, cache, u, v)?;
-        keep(results, w, id)?;
+        keep(results, operate(rt, table, cache, u, v, 0)?)?;
     }
     Ok(())
 }
 
-/// The conjunction of two nodes of a table, and the number of its clause, 0 for none.
-pub fn conjoin(
-    rt: &impl Abort,
-    table: &mut Table<ProofText>,
-    cache: &mut AndCache,
-    u: Node,
-    v: Node,
-) -> Result<(Node, u64), TableError>
-    requires sound { IsSound table.old }
-    requires fits { Fits table.old (entries cache.old) }
-    ensures sound { OnOk result (IsSound table.new) }
-    ensures fits { OnOk result (Fits table.new (entries cache.new)) }
-{
-    assert!(rt; is_known(table, u));
-    assert!(rt; is_known(table, v));
-    let (w, just) = and(table, cache, u, v)?;
-    Ok((w, number(&just)))
-}
-
-/// The number of the clause that a justification names, 0 for none.
-pub fn number(just: &Justification) -> u64 {
-    match just {
-        Justification::Trivial => 0,
-        Justification::Clause(id) => id.0,
-    }
-}
-
-fn keep(results: &mut Vec<Named>, node: Node, id: u64) -> Result<(), TableError> {
-    match results.push(Named { node, id }) {
+/// Adds a result.
+pub fn keep(results: &mut Vec<Named>, found: Named) -> Result<(), TableError> {
+    match results.push(found) {
         Ok(()) => Ok(()),
         Err(_) => Err(TableError::OutOfMemory),
     }
@@ -194,8 +113,8 @@ pub fn operands(results: &[Named], word: &str) -> (Node, Node) {
     }
 }
 
-/// The node of a name.
-pub fn node_of(results: &[Named], name: u8) -> Node {
+// The node of a name.
+fn node_of(results: &[Named], name: u8) -> Node {
     match name {
         b'T' => Node::True,
         b'F' => Node::False,
@@ -206,74 +125,58 @@ pub fn node_of(results: &[Named], name: u8) -> Node {
     }
 }
 
-/// All that is told of a script: how it ended; each result by its name, the number of its clause, and its level and
-/// children; the nodes, the last clause's number and whether the ledger is in step; the lines of the proof.
-pub fn told(alloc: Global, played: Played) -> Result<String, Fail> {
-    let front = front_of(alloc, &played)?;
-    let lines = lines_of(alloc, played)?;
-    Ok(format!(in alloc; "{front};{lines}")?)
-}
-
-fn front_of(alloc: Global, played: &Played) -> Result<String, Fail> {
-    let end = end_of(alloc, &played.refused)?;
-    let results = results_of(alloc, played)?;
-    let state = state_of(alloc, &played.table)?;
-    Ok(format!(in alloc; "{end};{results};{state}")?)
-}
-
-fn lines_of(alloc: Global, played: Played) -> Result<String, Fail> {
-    let Played {
-        table,
-        results: _,
-        refused: _,
-    } = played;
-    table.into_ledger().close().lines(alloc)
-}
-
-/// What ended a script or a call.
-pub fn end_of(alloc: Global, refused: &Option<TableError>) -> Result<String, Fail> {
-    match refused {
-        None => Ok(String::from_str(alloc, "done")?),
-        Some(error) => Ok(format!(in alloc; "{error}")?),
-    }
-}
-
-fn state_of(alloc: Global, table: &Table<ProofText>) -> Result<String, Fail> {
-    let ledger = table.ledger();
-    let last = ledger.last_id();
-    let in_step = ledger.is_in_step();
-    let live = table.live();
-    Ok(format!(in alloc; "{live} {last} {in_step}")?)
-}
-
-fn results_of(alloc: Global, played: &Played) -> Result<String, Fail> {
-    let mut text = String::new(alloc);
-    for named in played.results.as_slice() {
-        if !text.is_empty() {
-            text.push(' ')?;
-        }
-        let own = result_of(alloc, &played.table, played.results.as_slice(), named)?;
-        text.push_str(own.as_str())?;
-    }
-    Ok(text)
-}
-
-fn result_of(
+/// Tells what ended a call.
+pub fn push_end(
     alloc: Global,
+    text: &mut String,
+    ended: &Result<(), TableError>,
+) -> Result<(), Fail> {
+    match ended {
+        Ok(()) => text.push_str("done")?,
+        Err(error) => text.push_str(format!(in alloc; "{error}")?.as_str())?,
+    }
+    Ok(())
+}
+
+/// Tells how many nodes a table has, its last clause's number, whether its ledger is in step, and the lines of its proof.
+pub fn push_left(alloc: Global, text: &mut String, table: Table<ProofText>) -> Result<(), Fail> {
+    push_state(alloc, text, &table)?;
+    table.into_ledger().close().push_to(text)
+}
+
+fn push_state(alloc: Global, text: &mut String, table: &Table<ProofText>) -> Result<(), Fail> {
+    let (live, last) = (table.live(), table.ledger().last_id());
+    let in_step = table.ledger().is_in_step();
+    text.push_str(format!(in alloc; ";{live} {last} {in_step};")?.as_str())?;
+    Ok(())
+}
+
+fn push_results(
+    alloc: Global,
+    text: &mut String,
+    table: &Table<ProofText>,
+    results: &[Named],
+) -> Result<(), Fail> {
+    for named in results {
+        push_result(alloc, text, table, results, named)?;
+    }
+    Ok(())
+}
+
+fn push_result(
+    alloc: Global,
+    text: &mut String,
     table: &Table<ProofText>,
     results: &[Named],
     named: &Named,
-) -> Result<String, Fail> {
+) -> Result<(), Fail> {
     let name = name_of(results, named.node);
-    let id = named.id;
-    match table.parts(named.node) {
-        None => Ok(format!(in alloc; "{name}{id}")?),
-        Some((level, high, low)) => {
-            let high = name_of(results, high);
-            let low = name_of(results, low);
-            Ok(format!(in alloc; "{name}{id}={level}{high}{low}")?)
-        }
+    text.push_str(format!(in alloc; " {name}{}", named.id)?.as_str())?;
+    if let Some((level, high, low)) = table.parts(named.node) {
+        let (high, low) = (name_of(results, high), name_of(results, low));
+        text.push_str(format!(in alloc; "={level}{high}{low}")?.as_str())?;
     }
+    Ok(())
 }
 
 /// A node's name: that of a constant, or that of the first result which it is.

@@ -1,5 +1,5 @@
-// What several files of tests need: a proof in memory, formulas, and tables whose calls test their conditions at run time.
-ghost use Rattle.std.specs.Prelude.{◌≡◌, ◌≤◌, ◌+◌, [], length, nat_abs, true, None, IfOk, OnOk, IsTrue};
+// What several files of tests need: a proof in memory, parts of rows, and tables whose calls test their conditions at run time.
+ghost use Rattle.std.specs.Prelude.{◌≡◌, ◌≢◌, ◌<◌, ◌≤◌, [], length, true, None, IfOk, OnOk, IsTrue};
 ghost use Rattle.cnf_base.specs.Truth.{AreClausesOf};
 ghost use Rattle.lrat_rules.specs.State.{start};
 ghost use Rattle.node_table.specs.Diagram.{IsBelow, IsOrder, is_node};
@@ -7,7 +7,7 @@ ghost use Rattle.node_table.specs.Table.{IsSound};
 ghost use Rattle.diagram_tests.specs.Plain.{IsPlain};
 
 use clause_ledger::Ledger;
-use cnf_base::{Cnf, CnfBuilder, Lit};
+use cnf_base::{Cnf, CnfBuilder};
 use host_io::{Failed, Sink};
 use node_table::{Node, Table, TableError, opening_law};
 use std::alloc::Global;
@@ -42,13 +42,12 @@ impl ProofText {
         self.bytes.as_slice()
     }
 
-    /// What was written, with a slash for each line feed.
-    pub fn lines(&self, alloc: Global) -> Result<String, Fail> {
-        let mut lines = String::new(alloc);
+    /// Adds what was written, with a slash for each line feed.
+    pub fn push_to(&self, text: &mut String) -> Result<(), Fail> {
         for byte in self.bytes.as_slice() {
-            lines.push(slashed(*byte))?;
+            text.push(slashed(*byte))?;
         }
-        Ok(lines)
+        Ok(())
     }
 }
 
@@ -79,109 +78,103 @@ impl Sink for ProofText {
     }
 }
 
-/// How much a table may use: inner nodes, the greatest clause number, writes of its proof, and the bytes of one write.
-#[derive(Clone, Copy, Debug)]
-pub struct Room {
-    pub nodes: u32,
-    pub ids: u32,
-    pub writes: usize,
-    pub piece: usize,
-}
-
-/// Reads the four numbers of a room.
-pub fn room_of(text: &str) -> Result<Room, Fail> {
-    let (limits, sink) = text.split_once(", ").ok_or("no writes")?;
-    let (nodes, ids) = two_numbers(limits)?;
-    let (writes, piece) = two_numbers(sink)?;
-    Ok(Room {
-        nodes,
-        ids,
-        writes: writes as usize,
-        piece: piece as usize,
-    })
-}
-
-/// Reads two numbers with a space between.
-pub fn two_numbers(text: &str) -> Result<(u32, u32), Fail> {
-    let (first, second) = text.split_once(' ').ok_or("no second number")?;
-    Ok((first.parse::<u32>()?, second.parse::<u32>()?))
-}
-
-/// A formula of two variables with this one clause.
-pub fn one_clause(alloc: Global, clause: &str) -> Result<Cnf, Fail>
-    ensures vars { IfOk result (λ formula. formula.vars ≡ 2) }
-    ensures one { IfOk result (λ formula. length formula.clauses ≡ 1) }
-{
-    let mut builder = CnfBuilder::new(alloc, 2);
-    add_clause(&mut builder, clause)?;
-    Ok(builder.finish())
-}
-
-/// A formula of two variables with these two clauses.
-pub fn two_clauses(alloc: Global, first: &str, second: &str) -> Result<Cnf, Fail>
-    ensures { IfOk result (λ formula. formula.vars ≡ 2) }
-{
-    let mut builder = CnfBuilder::new(alloc, 2);
-    add_clause(&mut builder, first)?;
-    add_clause(&mut builder, second)?;
-    Ok(builder.finish())
-}
-
-fn add_clause(builder: &mut CnfBuilder, clause: &str) -> Result<(), Fail>
-    requires vars { builder.old.vars ≡ 2 }
-    requires few { length builder.old.clauses ≤ 1 }
-    ensures vars { OnOk result (builder.new.vars ≡ 2) }
-    ensures one_more { OnOk result (length builder.new.clauses ≡ length builder.old.clauses + 1) }
-    ensures ended { OnOk result (builder.new.begun ≡ []) }
-{
-    for word in clause.split_whitespace() {
-        builder.push_lit(literal_of(word)?)?;
+/// The part of a row in this place, of those between such characters; empty where there is none.
+pub fn part(row: &str, between: char, place: usize) -> &str {
+    match row.split(between).nth(place) {
+        Some(part) => part,
+        None => "",
     }
-    builder.end_clause()?;
-    Ok(())
 }
 
-// A literal of the first two variables.
-fn literal_of(word: &str) -> Result<Lit, Fail>
-    ensures { IfOk result (λ literal. nat_abs literal ≤ 2) }
-{
-    let literal = Lit::new(word.parse::<i32>()?).ok_or("no literal")?;
-    if literal.var() > 2 {
-        return Err(Fail::from("no such variable"));
+/// A row before and behind its first semicolon.
+pub fn halves(row: &str) -> (&str, &str) {
+    match row.split_once(';') {
+        Some(halves) => halves,
+        None => (row, ""),
     }
-    Ok(literal)
 }
 
-/// The variables 1 and 2 in this order, or in the other one.
-pub fn order(reversed: bool) -> [u32; 2]
+/// The text that was found for a row is the one that was expected.
+pub fn expect_same(rt: &impl Abort, found: &str, expected: &str, row: &str) {
+    assert_eq!(rt; found, expected, "{row}");
+}
+
+/// The number in this place of a text, 0 for none.
+pub fn number_at(text: &str, place: usize) -> u32 {
+    match part(text, ' ', place).parse::<u32>() {
+        Ok(number) => number,
+        Err(_) => 0,
+    }
+}
+
+/// A formula of this many variables without clauses.
+pub fn no_clauses(alloc: Global, vars: u32) -> Cnf
+    requires { vars ≤ 1000000 }
+    ensures { result.clauses ≡ [] }
+{
+    CnfBuilder::new(alloc, vars).finish()
+}
+
+/// The order of three variables that three digits write; the natural one where another text is given.
+pub fn order_of(digits: &str) -> [u32; 3]
     ensures order { IsOrder result }
-    ensures two { length result ≡ 2 }
+    ensures three { length result ≡ 3 }
 {
-    if reversed { [2, 1] } else { [1, 2] }
+    match digits {
+        "132" => three(1, 3, 2),
+        "213" => three(2, 1, 3),
+        "231" => three(2, 3, 1),
+        "312" => three(3, 1, 2),
+        "321" => three(3, 2, 1),
+        _ => three(1, 2, 3),
+    }
 }
 
-/// A table over this order without nodes.
+fn three(first: u32, second: u32, third: u32) -> [u32; 3]
+    requires positive { (0 < first) × (0 < second) × (0 < third) }
+    requires small { (first ≤ 3) × (second ≤ 3) × (third ≤ 3) }
+    requires apart { (first ≢ second) × (first ≢ third) × (second ≢ third) }
+    ensures order { IsOrder result }
+    ensures three { length result ≡ 3 }
+{
+    [first, second, third]
+}
+
+/// A table without nodes over three variables in this order, and no clauses.
+pub fn opened(alloc: Global, digits: &str, room: &str) -> Result<Table<ProofText>, Fail>
+    ensures sound { IfOk result (λ table. IsSound table) }
+    ensures plain { IfOk result (λ table. IsPlain table) }
+{
+    let formula = no_clauses(alloc, 3);
+    open(alloc, &formula, &order_of(digits), room)
+}
+
+/// A table without nodes over this order. The room has four numbers: of inner nodes, of the last clause, of writes to the
+/// proof, and of the bytes of one write.
 pub fn open(
     alloc: Global,
     formula: &Cnf,
     order: &[u32],
-    room: &Room,
+    room: &str,
 ) -> Result<Table<ProofText>, Fail>
     requires clauses { AreClausesOf (length order.now) formula.now.clauses }
     requires order { IsOrder order.now }
-    requires few { length order.now ≤ 3 }
+    requires few { length order.now ≤ 1000000 }
     ensures order { IfOk result (λ table. table.graph.order ≡ order.now) }
     ensures sound { IfOk result (λ table. IsSound table) }
     ensures start { IfOk result (λ table. table.book.state ≡ start formula.now.clauses) }
     ensures plain { IfOk result (λ table. IsPlain table) }
 {
     opening_law::<ProofText>();
-    if room.nodes > 1_000 || room.ids > 100_000 {
-        return Err(Fail::from("too much room"));
-    }
-    let sink = ProofText::new(alloc, room.writes, room.piece);
-    match Ledger::open(alloc, formula, sink, u64::from(room.ids)) {
-        Ok(ledger) => match Table::open(alloc, ledger, order, room.nodes) {
+    let nodes = number_at(room, 0).min(1_000_000);
+    let ids = u64::from(number_at(room, 1).min(10_000_000));
+    let sink = ProofText::new(
+        alloc,
+        number_at(room, 2) as usize,
+        number_at(room, 3) as usize,
+    );
+    match Ledger::open(alloc, formula, sink, ids) {
+        Ok(ledger) => match Table::open(alloc, ledger, order, nodes) {
             Ok(table) => Ok(table),
             Err((_, e)) => Err(e)?,
         },

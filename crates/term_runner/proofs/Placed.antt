@@ -1,5 +1,5 @@
 -- A term that a call found stands in the place of its operands, and a move is done; or it wasn't found.
-use Rattle.std.proofs.Common.{◌≡◌, ◌∙◌, ◌++◌, ◌+◌, ◌*◌, ℕ, Bool, true, false, List, [], ◌∷◌, Contains, take, drop, reverse, None}
+use Rattle.std.proofs.Common.{◌≡◌, ◌∙◌, ◌++◌, ◌+◌, ◌*◌, ℕ, Bool, true, false, List, [], ◌∷◌, Contains, length, drop, reverse, None}
 use Rattle.std.proofs.Common.{Result, Ok, Err, refl, sym, ap, subst, arith, inl, inr}
 use Rattle.std.specs.Prelude.{◌≢◌, IsTrue}
 use Rattle.cnf_base.specs.Formula.{Formula}
@@ -7,6 +7,7 @@ use Rattle.node_table.specs.declared.error.TableError.{TableError}
 use Rattle.node_table.specs.declared.error.TableError.TheVariants.{NodeLimit, OutOfMemory, WriteFault}
 use Rattle.node_table.specs.declared.node.Node.{Node}
 use Rattle.node_table.specs.declared.node.Node.TheVariants.{False}
+use Rattle.node_table.specs.declared.node.Justification.{Justification}
 use Rattle.node_table.specs.Diagram.{Graph}
 use Rattle.node_table.specs.HandedOn.{no_error, same_error}
 use Rattle.node_table.specs.Laws.{Growth, StepByStep}
@@ -20,7 +21,7 @@ use Rattle.term_runner.specs.declared.held.HeldTerm.{HeldTerm}
 use Rattle.term_runner.specs.declared.terms.Terms.{Terms}
 use Rattle.term_runner.specs.Caches.{HaveRoom, all_entries}
 use Rattle.term_runner.specs.Finds.{AreFew, Finds, IsOperand}
-use Rattle.term_runner.specs.Held.{AreHeld, AreKept, HasUnits, IsHeld, IsPlaced, MayGiveUp, RetiresUnits, UnitsApart}
+use Rattle.term_runner.specs.Held.{AreHeld, AreKept, HasUnits, IsHeld, IsPlaced, IsUnitOf, MayGiveUp, RetiresUnits, UnitsApart}
 use Rattle.term_runner.specs.Moves.{Tried}
 use Rattle.term_runner.specs.Nodes.{KeepsOrMakes}
 use Rattle.term_runner.specs.Terms.{HasOwnUnits, IsAtStage, IsOpen}
@@ -31,7 +32,7 @@ use Rattle.term_runner.proofs.Leaving.{went_on}
 use Rattle.term_runner.proofs.NoEmpty.{further_empty}
 use Rattle.term_runner.proofs.Pairs.{few_of_term}
 use Rattle.term_runner.proofs.Planned.{keeps_or_makes}
-use Rattle.term_runner.proofs.Replaced.{free_after, unit_left, units_replaced}
+use Rattle.term_runner.proofs.Replaced.{first_unit, free_after, later_unit, no_unit, unit_left, units_replaced, which_unit}
 use Rattle.term_runner.proofs.Stacks.{false_refutes, held_kept, ready_after}
 use Rattle.term_runner.proofs.Tried.{failed_with, no_memory_limit}
 
@@ -238,22 +239,21 @@ module _ {S : Type 0} (growth : Growth) (steps : StepByStep S) (fitting : Fittin
     (mid : TableState S) (caches : Caches) (held : HeldTerm)
     (found : Finds (term_function formula old.table.graph.order term) (λ a. term_holds formula a term) taken old.table mid old.caches caches
     (Ok held)) where
-  pub put_done : (operands : ℕ) → take operands (taken ++ rest) ≡ taken → drop operands (taken ++ rest) ≡ rest → (new : TableState S)
+  pub put_done : (operands : List HeldTerm) → drop (length operands) (taken ++ rest) ≡ rest
+      → ((last : TableState S) → RetiresUnits mid last operands held.unit → RetiresUnits mid last taken held.unit) → (new : TableState S)
       (other : Terms S) (trail : List (ℕ × Node)) → AreKept formula mid.graph (reverse trail) next.trail → (refuted : Bool)
       → (IsTrue refuted → (held.node ≡ False) × ((new ≡ mid) × (other.out ≡ old.out)))
       → (refuted ≡ false → IsPlaced operands held mid new old.out.items other.out.items)
       → Tried formula stage next old (record old { table = new; caches = caches; out = other.out; trail = trail }) (Ok refuted)
-  put_done operands front behind new other trail kept refuted when_true when_false =
+  put_done operands behind same_units new other trail kept refuted when_true when_false =
       either refuted (λ r. Tried formula stage next old (record old { table = new; caches = caches; out = other.out; trail = trail }) (Ok r))
       (λ is. let same = when_true is in
       refuted_by growth steps fitting formula stage next old ready own at term terms stack taken rest items rest_held few mid caches held
       found new same.1.0 other trail same.0)
       (λ is. let one = when_false is in
       placed growth steps fitting formula stage next old ready own at term terms stack taken rest items rest_held few mid caches held found
-      new other trail one.some (one.out ∙ ap (λ (l : List HeldTerm). held ∷ drop operands l) items
-      ∙ ap (λ (l : List HeldTerm). held ∷ l) behind)
-      (subst (λ (l : List HeldTerm). RetiresUnits mid new l held.unit) (ap (λ (l : List HeldTerm). take operands l) items ∙ front)
-      one.retires) one.steps kept)
+      new other trail one.some (one.out ∙ ap (λ (l : List HeldTerm). held ∷ drop (length operands) l) items
+      ∙ ap (λ (l : List HeldTerm). held ∷ l) behind) (same_units new one.retires) one.steps kept)
 
 -- room for one term more changes nothing else
 pub with_room : {S : Type 0} (formula : Formula) (stage next : Stage) (old other new : Terms S) (end : Result Bool TableError)
@@ -275,4 +275,39 @@ with_room formula stage next old other new end same own = record {
   lacks = own.lacks;
   sizes = own.sizes;
   left = own.left;
+}
+
+-- two operands, the one or the other first
+swapped : (u v : HeldTerm) (id : ℕ) → IsUnitOf (u ∷ v ∷ []) id → IsUnitOf (v ∷ u ∷ []) id
+swapped u v id is = elim (which_unit u (v ∷ []) id is) [
+  | inl first ↦ later_unit v (u ∷ []) id (first_unit u [] id first)
+  | inr other ↦ elim (which_unit v [] id other) [
+    | inl second ↦ first_unit v (u ∷ []) id second
+    | inr none ↦ absurd (no_unit id none)
+  ]
+]
+
+pub retires_swapped : {S : Type 0} (old new : TableState S) (u v : HeldTerm) (kept : Justification)
+    → RetiresUnits old new (u ∷ v ∷ []) kept → RetiresUnits old new (v ∷ u ∷ []) kept
+retires_swapped old new u v kept retires = record {
+  same = retires.same;
+  still = retires.still;
+  only = λ id there. elim (retires.only id there) [
+    | inl was ↦ inl was
+    | inr one ↦ inr (swapped u v id one.0, one.1)
+  ];
+  gone = λ id is. retires.gone id (swapped v u id is);
+}
+
+pub gives_up_swapped : {S : Type 0} (table : TableState S) (u v : HeldTerm) → MayGiveUp table (v ∷ u ∷ []) → MayGiveUp table (u ∷ v ∷ [])
+gives_up_swapped table u v may = record {
+  added = λ id is. may.added id (swapped u v id is);
+  unretired = λ id is. may.unretired id (swapped u v id is);
+  apart = (
+    λ id first other. elim (which_unit v [] id other) [
+      | inl second ↦ may.apart.0 id second (first_unit u [] id first)
+      | inr none ↦ no_unit id none
+    ],
+    ((λ id first other. no_unit id other), tt),
+  );
 }

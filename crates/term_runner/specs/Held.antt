@@ -1,7 +1,7 @@
 -- A run between two moves: the table is ready, and its stack holds the plan's terms.
 use Rattle.std.specs.Prelude.{◌≡◌, ◌≢◌, ◌⊎◌, ◌<◌, ◌+◌, ℕ, Bool, true, List, [], ◌∷◌, length, Some, Result, Ok, Err, Contains, IsTrue}
 use Rattle.std.specs.Prelude.{IsFalse}
-use Rattle.std.specs.Prelude.{reverse, slice_index_or, take, drop, None}
+use Rattle.std.specs.Prelude.{reverse, slice_index_or, drop, None}
 use Rattle.cnf_base.specs.Truth.{Assignment}
 use Rattle.cnf_base.specs.Formula.{Formula}
 use Rattle.lrat_rules.specs.State.{Live, clause_at}
@@ -119,11 +119,12 @@ pub record MayGiveUp {S : Type 0} (table : TableState S) (operands : List HeldTe
   pub unretired : (id : ℕ) → IsUnitOf operands id → Contains table.retired id → ⊥
   pub apart : UnitsApart operands
 
--- A term whose node isn't False stands in the place of so many last ones, whose units are retired, but for one that is its own.
-pub record IsPlaced {S : Type 0} (operands : ℕ) (held : HeldTerm) (old new : TableState S) (before after : List HeldTerm) : Type 0 where
+-- A term whose node isn't False stands in the place of as many last ones as it has operands. The operands' units are retired, but
+-- for one that is its own.
+pub record IsPlaced {S : Type 0} (operands : List HeldTerm) (held : HeldTerm) (old new : TableState S) (before after : List HeldTerm) : Type 0 where
   pub some : held.node ≢ False
-  pub out : reverse after ≡ held ∷ drop operands (reverse before)
-  pub retires : RetiresUnits old new (take operands (reverse before)) held.unit
+  pub out : reverse after ≡ held ∷ drop (length operands) (reverse before)
+  pub retires : RetiresUnits old new operands held.unit
   pub steps : Steps old new 0 None
 
 -- The table is sound, the entries of the caches fit it, and the clauses of the formula, none of them empty, are live under

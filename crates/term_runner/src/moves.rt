@@ -60,14 +60,14 @@ impl<S: Sink + Drop> Terms<S> {
                     return Err(TableError::OutOfMemory);
                 }
                 let held = input(alloc, &mut self.table, formula, number)?;
-                Ok(put(&mut self.table, &mut self.out, 0, held))
+                Ok(put(&mut self.table, &mut self.out, &[], held))
             }
             Move::And => {
                 let Some((u, v)) = last_two(self.out.as_slice()) else {
                     unreachable!();
                 };
                 let held = conjunction(&mut self.table, &mut self.caches, &u, &v)?;
-                Ok(put(&mut self.table, &mut self.out, 2, held))
+                Ok(put(&mut self.table, &mut self.out, &[u, v], held))
             }
             Move::Exists(variable) => {
                 let Some(u) = last_term(self.out.as_slice()) else {
@@ -78,36 +78,34 @@ impl<S: Sink + Drop> Terms<S> {
                 };
                 let held = weaken(&mut self.table, &mut self.caches, &u, level)?;
                 self.trail.push(variable, u.node)?;
-                Ok(put(&mut self.table, &mut self.out, 1, held))
+                Ok(put(&mut self.table, &mut self.out, &[u], held))
             }
         }
     }
 }
 
-// Puts a term in the place of the last ones, so many. Their units are retired, but for one that is its own. Says whether its node
-// is False: then all stays.
+// Puts a term in the place of its operands, which are the last ones. Their units are retired in turn, but for one that is its own.
+// Says whether its node is False: then all stays.
 fn put<S: Sink + Drop>(
     table: &mut Table<S>,
     out: &mut Vec<HeldTerm>,
-    operands: usize,
+    operands: &[HeldTerm],
     held: HeldTerm,
 ) -> bool
     requires sound { IsSound table.old }
-    requires there { operands ≤ length out.old.items }
-    requires room { vec_len out.old < vec_capacity out.old + operands }
-    requires units { held.node ≢ False → MayGiveUp table.old (take operands (reverse out.old.items)) }
+    requires there { length operands.now ≤ length out.old.items }
+    requires room { vec_len out.old < vec_capacity out.old + length operands.now }
+    requires units { held.node ≢ False → MayGiveUp table.old operands.now }
     ensures refuted { IsTrue result → (held.node ≡ False) × ((table.new ≡ table.old) × (out.new ≡ out.old)) }
-    ensures placed { result ≡ false → IsPlaced operands held table.old table.new out.old.items out.new.items }
+    ensures placed { result ≡ false → IsPlaced operands.now held table.old table.new out.old.items out.new.items }
 {
     steps_law::<S>();
     if is_same(held.node, Node::False) {
         return true;
     }
-    'operands: for _ in 0..operands {
-        let Some(last) = out.pop() else {
-            unreachable!();
-        };
-        retire_unit(table, &last.unit, &held.unit);
+    'operands: for operand in operands {
+        let _ = out.pop();
+        retire_unit(table, &operand.unit, &held.unit);
     }
     out.push_reserved(held);
     false

@@ -1,5 +1,5 @@
 -- What the loops of `put` keep.
-use Rattle.std.proofs.Common.{◌≡◌, ◌≤◌, ◌+◌, None, reverse, take, drop}
+use Rattle.std.proofs.Common.{◌≡◌, ◌+◌, None, reverse, take, drop}
 use Rattle.std.specs.Prelude.{vec_len, vec_capacity}
 use Rattle.node_table.specs.Progress.{Steps}
 use Rattle.term_runner.specs.Held.{RetiresUnits}
@@ -7,10 +7,9 @@ use Rattle.term_runner.proofs.moves.put.Given as goal
 
 abbrev pub invariant-operands : goal.invariant-operands
 invariant-operands g l = record {
-  few : l.counter ≤ l.operands;
-  len : vec_len l.out + l.counter ≡ vec_len l.fn.out;
+  len : vec_len l.out + l.operand-index ≡ vec_len l.fn.out;
   capacity : vec_capacity l.out ≡ vec_capacity l.fn.out;
-  out : reverse l.out.items ≡ drop l.counter (reverse l.fn.out.items);
-  retires : RetiresUnits l.fn.table l.table (take l.counter (reverse l.fn.out.items)) l.held.unit;
+  out : reverse l.out.items ≡ drop l.operand-index (reverse l.fn.out.items);
+  retires : RetiresUnits l.fn.table l.table (take l.operand-index l.operands) l.held.unit;
   steps : Steps l.fn.table l.table 0 None;
 }

@@ -1,5 +1,5 @@
 -- Each move finds a term, which takes its operands' place.
-use Rattle.std.proofs.Common.{◌≡◌, ◌∙◌, ◌<◌, ◌&&◌, ◌||◌, ℕ, zero, Bool, true, false, List, [], ◌∷◌, Contains, length, reverse, take}
+use Rattle.std.proofs.Common.{◌≡◌, ◌∙◌, ◌<◌, ◌&&◌, ◌||◌, ℕ, zero, Bool, true, false, List, [], ◌∷◌, Contains, length, reverse}
 use Rattle.std.proofs.Common.{Some, Ok, Err, refl, ap, sym, subst, arith, inl}
 use Rattle.std.specs.Prelude.{Result}
 use Rattle.cnf_base.specs.Formula.{Formula}
@@ -18,12 +18,12 @@ use Rattle.schedule_plan.specs.Plan.{Stage, Term, after_move, both, input, some_
 use Rattle.term_runner.specs.declared.held.HeldTerm.{HeldTerm}
 use Rattle.term_runner.specs.Caches.{all_entries}
 use Rattle.term_runner.specs.Finds.{AreFew, Finds}
-use Rattle.term_runner.specs.Held.{AreHeld, AreKept, HasUnits, IsAt, IsHeld, MayGiveUp}
+use Rattle.term_runner.specs.Held.{AreHeld, AreKept, HasUnits, IsAt, IsHeld}
 use Rattle.term_runner.specs.Terms.{HasOwnUnits, IsAtStage}
 use Rattle.term_runner.specs.Width.{HasAtMost, HoldsAtMost, IsInHand, term_function}
 use Rattle.term_runner.proofs.FewLeft.{in_front}
 use Rattle.term_runner.proofs.Pairs.{at_most_same, few_of_term}
-use Rattle.term_runner.proofs.Placed.{gives_up, not_found, not_kept, operand_of, put_done, with_room}
+use Rattle.term_runner.proofs.Placed.{gives_up, gives_up_swapped, not_found, not_kept, operand_of, put_done, retires_swapped, with_room}
 use Rattle.term_runner.proofs.Planned.{both_function, node_function}
 use Rattle.term_runner.proofs.Plans.{IsAfterExists}
 use Rattle.term_runner.proofs.Quantified.{quantified_function}
@@ -86,7 +86,7 @@ returns-in_ok-held-in-Push g c stage next at leads =
     (put_done c.growth_law.ensures c.steps_law.ensures c.entry_law.ensures formula stage next roomy_old
     c.requires.ready (roomy g inside stage next at leads) (roomy_at g inside stage next at leads) (input c.in-Push.number) stage.stack
     move.stack [] (reverse c.reserve.new.self.items) refl (roomy_at g inside stage next at leads).held (λ width most. tt)
-    c.input.new.table old.caches c.in_ok-held-in-Push.held found 0 refl refl c.put.new.table (record old { out = c.put.new.out }) old.trail
+    c.input.new.table old.caches c.in_ok-held-in-Push.held found [] refl (λ last retires. retires) c.put.new.table (record old { out = c.put.new.out }) old.trail
     (subst (λ (trail : List (ℕ × Term)). AreKept formula c.input.new.table.graph (reverse old.trail) trail) (sym move.trail) kept)
     c.put.result c.put.ensures.refuted c.put.ensures.placed)
 
@@ -208,7 +208,7 @@ put-requires-in-And-clause-units g c some =
     let inside = (goal.at.put-requires-in-And-clause-units g c).After-conjunction in
     let move = conjoined g inside begun.stage begun.next begun.at begun.leads in
     let items = items_two g inside begun.stage begun.next begun.at begun.leads in
-    subst (MayGiveUp c.conjunction.new.table) (ap (λ (l : List HeldTerm). take 2 l) (sym items))
+    gives_up_swapped c.conjunction.new.table c.in-Some.u c.in-Some.v
     (gives_up c.growth_law.ensures c.steps_law.ensures c.entry_law.ensures c.args.formula.now begun.stage begun.next c.args.self.now
     begun.ready begun.own begun.at (both move.one move.other) move.rest move.after (c.in-Some.v ∷ c.in-Some.u ∷ []) c.in-Some.ensures.0 items
     (two g inside begun.stage begun.next begun.at begun.leads).1.1 (few_two g inside begun.stage begun.next begun.at begun.leads)
@@ -227,7 +227,8 @@ returns-in_ok-held-in-And g c stage next at leads =
     put_done c.growth_law.ensures c.steps_law.ensures c.entry_law.ensures formula stage next old c.requires.ready c.requires.own at
     (both move.one move.other) move.rest move.after (c.in-Some.v ∷ c.in-Some.u ∷ []) c.in-Some.ensures.0
     (items_two g inside stage next at leads) (two g inside stage next at leads).1.1 (few_two g inside stage next at leads)
-    c.conjunction.new.table c.conjunction.new.caches c.in_ok-held-in-And.held found 2 refl refl c.put-in-And.new.table
+    c.conjunction.new.table c.conjunction.new.caches c.in_ok-held-in-And.held found
+    (c.in-Some.u ∷ c.in-Some.v ∷ []) refl (λ last. retires_swapped c.conjunction.new.table last c.in-Some.u c.in-Some.v c.in_ok-held-in-And.held.unit) c.put-in-And.new.table
     (record old { out = c.put-in-And.new.out }) old.trail
     (subst (λ (trail : List (ℕ × Term)). AreKept formula c.conjunction.new.table.graph (reverse old.trail) trail) (sym move.trail) kept)
     c.put-in-And.result c.put-in-And.ensures.refuted c.put-in-And.ensures.placed
@@ -343,7 +344,6 @@ put-requires-in-Exists-clause-units g c some =
     let inside = (goal.at.put-requires-in-Exists-clause-units g c).After-weaken in
     let move = quantified g inside begun.stage begun.next begun.at begun.leads in
     let items = items_one g inside begun.stage begun.next begun.at begun.leads in
-    subst (MayGiveUp c.weaken.new.table) (ap (λ (l : List HeldTerm). take 1 l) (sym items))
     (gives_up c.growth_law.ensures c.steps_law.ensures c.entry_law.ensures c.args.formula.now begun.stage begun.next c.args.self.now
     begun.ready begun.own begun.at (some_value c.in-Exists.variable move.top) move.rest
     (result_one g inside begun.stage begun.next begun.at begun.leads) (c.in-Some-last_term.u ∷ []) c.in-Some-last_term.ensures.0 items
@@ -371,7 +371,7 @@ returns-in_ok-push-in-Exists g c stage next at leads =
     put_done c.growth_law.ensures c.steps_law.ensures c.entry_law.ensures formula stage next old c.requires.ready c.requires.own at
     (some_value x move.top) move.rest (result_one g inside stage next at leads) (c.in-Some-last_term.u ∷ [])
     c.in-Some-last_term.ensures.0 (items_one g inside stage next at leads) (top g inside stage next at leads).1
-    (few_one g inside stage next at leads) new c.weaken.new.caches c.in_ok-held-in-Exists.held found 1 refl refl
+    (few_one g inside stage next at leads) new c.weaken.new.caches c.in_ok-held-in-Exists.held found (c.in-Some-last_term.u ∷ []) refl (λ last retires. retires)
     c.put-in-Exists.new.table (record old { out = c.put-in-Exists.new.out }) c.push.new.self
     (subst (λ (trail : List (ℕ × Term)). AreKept formula new.graph (reverse c.push.new.self) trail)
     (sym (ap (λ (s : Stage). s.trail) move.after)) kept)
