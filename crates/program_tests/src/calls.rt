@@ -35,6 +35,8 @@ const CALLS: &str = "\
     8 3 0 6 2 0/9 -1 -2 -3 0 7 0/10 -2 -3 0 9 4 0/11 0 5 8 10 0/|error: write failed/;|s UNSATISFIABLE/;Unsat|s \
     UNSATISFIABLE/|\n\
     ProofIn 12;bddsat check both good;ReadFault*|none|error: read failed/;|;Verified|s VERIFIED/|none|\n\
+    ProofIn 12;bddsat drat both good --out out.lrat;ReadFault|*|error: read failed/;|0/;Verified|s VERIFIED/|0/|\n\
+    ProofOut 4;bddsat drat both good --out out.lrat;WriteFault|*|error: write failed/;|0/;Verified|s VERIFIED/|0/|\n\
     Made 155;bddsat make board 3 --part cnf --out out.lrat;WriteFault|*|error: write failed/;|p cnf 8 19/1 2 0/-1 -2 0/\
     1 3 0/-1 -3 0/4 5 0/-4 -5 0/2 4 6 7 0/-2 -4 0/-2 -6 0/-2 -7 0/-4 -6 0/-4 -7 0/-6 -7 0/3 6 0/-3 -6 0/5 8 0/-5 -8 0/\
     7 8 0/-7 -8 0/;Done||p cnf 8 19/1 2 0/-1 -2 0/1 3 0/-1 -3 0/4 5 0/-4 -5 0/2 4 6 7 0/-2 -4 0/-2 -6 0/-2 -7 0/-4 -6 0/\
@@ -140,6 +142,7 @@ const PIECES: &str = "\
     bddsat check both good;Verified|s VERIFIED/|none|\n\
     bddsat check both bad;NotVerified(1, NoConflict)|c line 1 NoConflict/s NOT VERIFIED/|none|\n\
     bddsat check both worse;NotVerified(2, HintNotLive)|c line 2 HintNotLive/s NOT VERIFIED/|none|\n\
+    bddsat drat both worse --out out.lrat;NotVerified(2, HintNotLive)|c line 2 HintNotLive/s NOT VERIFIED/|0/|\n\
     bddsat solve chain --proof out.lrat;Sat|s SATISFIABLE/v 1 2 3 0/|\n\
     bddsat solve chain --proof out.lrat --plan conjoin;Sat|s SATISFIABLE/v 1 2 3 0/|\n\
     bddsat solve chain --proof out.lrat --order turned;Sat|s SATISFIABLE/v 1 2 3 0/|\n\
