@@ -1,0 +1,8 @@
+//! The rules of DRAT: when an addition is good, what a step leaves, the verdict on a list of steps, and their laws.
+//! Layers above rely on the definitions in `specs/`, and on the laws that this crate's functions ensure.
+//! (Wetzler, Heule, Hunt: DRAT-trim: Efficient Checking and Trimming Using Expressive Clausal Proofs, SAT 2014.)
+#![tactic(auto)]
+
+mod laws;
+
+pub use laws::quiet_law;
