@@ -1,3 +1,6 @@
 pub mod Members
 pub mod Subsets
 pub mod QuietSets
+pub mod Falsified
+pub mod Resolvents
+pub mod SoundSteps

@@ -4,5 +4,7 @@
 #![tactic(auto)]
 
 mod laws;
+mod soundness;
 
 pub use laws::quiet_law;
+pub use soundness::drat_soundness_law;
