@@ -4,3 +4,5 @@ pub mod QuietSets
 pub mod Falsified
 pub mod Resolvents
 pub mod SoundSteps
+pub mod Counts
+pub mod LiveClauses

@@ -5,7 +5,7 @@ use Rattle.std.specs.List.{list_any, list_all}
 use Rattle.std.proofs.lemmas.Bool.{and_parts, and_from, or_from, both_ways}
 use Rattle.std.proofs.lemmas.List.Folds.{list_all-append}
 use Rattle.cnf_base.specs.Truth.{Assignment, clause_holds, is_literal_of, Satisfies, AreClausesOf}
-use Rattle.drat_rules.specs.TempDrat.{DratStep, adds, deletes}
+use Rattle.drat_text.specs.DratText.{DratStep, adds, deletes}
 use Rattle.lrat_rules.specs.declared.outcome.Reason.{Reason}
 use Rattle.lrat_rules.specs.Soundness.{make_true, is_nonzero, has_no_zero}
 use Rattle.drat_rules.specs.Run.{same_list, without_first, after, drat_step_fault, after_all, fault_or, first_fault, adds_empty, verdict_at, DratRefutes}

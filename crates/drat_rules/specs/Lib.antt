@@ -1,5 +1,5 @@
-pub mod TempDrat
 pub mod Quiet
 pub mod Addition
 pub mod Run
 pub mod Soundness
+pub mod FromLrat

@@ -7,7 +7,7 @@ use Rattle.std.specs.List.{list_any}
 use Rattle.std.specs.Ordering.{int_eq}
 use Rattle.std.specs.Cmp.Lexicographic.{pointwise}
 use Rattle.cnf_base.specs.ProofText.{is_empty}
-use Rattle.drat_rules.specs.TempDrat.{DratStep, adds, deletes}
+use Rattle.drat_text.specs.DratText.{DratStep, adds, deletes}
 use Rattle.lrat_rules.specs.declared.outcome.Reason.{Reason}
 use Rattle.lrat_rules.specs.declared.outcome.Reason.TheVariants.{NoEmptyClause}
 use Rattle.drat_rules.specs.Addition.{drat_fault}
