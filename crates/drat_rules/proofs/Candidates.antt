@@ -6,7 +6,7 @@ use Rattle.std.specs.List.{list_any, list_all}
 use Rattle.std.specs.Ordering.{eq_by_cmp}
 use Rattle.std.specs.Cmp.{unsigned_tied}
 use Rattle.std.specs.FinMap as finmap
-use Rattle.std.proofs.lemmas.Bool.{and_parts, and_from, or_cases, or_right, both_ways}
+use Rattle.std.proofs.lemmas.Bool.{and_parts, or_cases, or_right, both_ways}
 use Rattle.cnf_base.specs.declared.list.Group.{Group}
 use Rattle.lrat_rules.specs.declared.outcome.Reason.{Reason}
 use Rattle.lrat_rules.specs.declared.outcome.Reason.TheVariants.{CandidateOpen}

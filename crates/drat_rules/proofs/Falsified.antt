@@ -3,7 +3,7 @@
 use Rattle.std.proofs.Common.{◌≡◌, zero, suc, Bool, true, false, cond, not, ◌||◌, ◌&&◌, ℤ, pos, negsuc, neg_ℤ, List, [], ◌∷◌, int_eq, refl, sym, ap, ◌∙◌}
 use Rattle.std.proofs.Common.{if◌then◌else◌}
 use Rattle.std.specs.List.{list_all}
-use Rattle.std.proofs.lemmas.Bool.{and_parts, and_from, and_right, or_parts, or_from, or_left, or_right, not-true, not-false, not_from_false, not_from_true, both_ways}
+use Rattle.std.proofs.lemmas.Bool.{and_parts, and_from, and_right, or_parts, or_from, or_left, or_right, not_from_false, not_from_true, both_ways}
 use Rattle.cnf_base.specs.Truth.{Assignment, literal_holds, clause_holds, Satisfies}
 use Rattle.lrat_rules.specs.declared.outcome.Effect.TheVariants.{Unit as Forced, NotUnit}
 use Rattle.lrat_rules.specs.Chain.{FalseSet, outside, effect_of_outside}

@@ -1,15 +1,15 @@
 -- The values of the live map by its look-ups: how often a clause is among them once one is put in or taken out, and that one
 -- is among them exactly where it has a number.
-use Rattle.std.proofs.Common.{◌≡◌, ℕ, ◌+◌, ◌<◌, Bool, true, false, cond, not, ◌&&◌, ◌||◌, ℤ, List, [], ◌∷◌, map, Option, None, Some, refl, sym, ap, ◌∙◌, subst}
+use Rattle.std.proofs.Common.{◌≡◌, ℕ, ◌+◌, Bool, true, false, cond, ◌&&◌, ℤ, List, [], ◌∷◌, map, None, Some, refl, sym, ap, ◌∙◌}
 use Rattle.std.proofs.Common.{arith, nat_cmp, inl, inr, eqb-true, eq-eqb}
-use Rattle.std.specs.Prelude.{T, ◌==◌}
+use Rattle.std.specs.Prelude.{T}
 use Rattle.std.specs.List.{list_any, count_by}
 use Rattle.std.specs.Ordering.{eq_by_cmp, is_eq, is_lt}
 use Rattle.std.specs.declared.cmp.Ordering.TheVariants.{Less, Equal, Greater}
 use Rattle.std.specs.Cmp.{unsigned_tied}
 use Rattle.std.specs.FinMap as finmap
 use Rattle.std.specs.FinMap.Entries.{put, find, is_sorted, below_all, by_order}
-use Rattle.std.proofs.lemmas.Bool.{or_cases, or_left, or_right, both_ways}
+use Rattle.std.proofs.lemmas.Bool.{or_cases, or_left, or_right}
 use Rattle.std.proofs.lemmas.Cmp.{nat_cmp_total}
 use Rattle.lrat_rules.specs.State.{Live, clause_at}
 use Rattle.drat_rules.specs.Run.{same_list}

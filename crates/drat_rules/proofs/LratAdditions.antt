@@ -1,6 +1,6 @@
 -- A good LRAT addition is a good DRAT addition over a list with the same clauses.
 use Rattle.std.proofs.Common.{◌≡◌, ℕ, ◌<◌, Bool, true, false, not, ◌||◌, ℤ, neg_ℤ, List, [], ◌∷◌, ◌++◌, None, Some, if◌then◌else◌, int_eq, nat_le}
-use Rattle.std.proofs.Common.{refl, sym, ap, ◌∙◌, subst}
+use Rattle.std.proofs.Common.{Option, refl, sym, ap, ◌∙◌, subst}
 use Rattle.std.specs.List.{list_any, list_all}
 use Rattle.std.specs.FinMap as finmap
 use Rattle.std.proofs.lemmas.Bool.{and_parts, and_from, or_left, or_right, not_from_false, false_from_ne_true}
@@ -14,7 +14,7 @@ use Rattle.lrat_rules.specs.Addition.{holds_negated, resolvents_fault, fault_aft
 use Rattle.drat_rules.specs.Quiet.{closed_under, IsQuiet, Falsifies, has_quiet}
 use Rattle.drat_rules.specs.Addition.{others_of, passes_candidate, open_fault, drat_fault}
 use Rattle.drat_rules.specs.Run.{same_list}
-use Rattle.drat_rules.specs.FromLrat.{count_of, HaveSame}
+use Rattle.drat_rules.specs.FromLrat.{HaveSame}
 use Rattle.drat_rules.proofs.Members.{at_member, literals_of-filter}
 use Rattle.drat_rules.proofs.QuietSets.{HasQuietSet, some_quiet}
 use Rattle.drat_rules.proofs.Counts.{same_list-true, eq-same_list, counted, found, at_clause}
@@ -23,7 +23,7 @@ use Rattle.drat_rules.proofs.Chains.{IsWithin, LiveClosed, EndsWithin, chain-wit
 use Rattle.drat_rules.proofs.Candidates.{HasOthers, Settles-candidate, not_settled}
 
 -- a live clause is in the list, and a clause of the list is live
-live_in_list : (live : Live) (clauses : List (List ℤ)) → HaveSame live clauses → (id : ℕ) (clause : List ℤ)
+pub live_in_list : (live : Live) (clauses : List (List ℤ)) → HaveSame live clauses → (id : ℕ) (clause : List ℤ)
     → clause_at live id ≡ Some clause → list_any (same_list clause) clauses ≡ true
 live_in_list live clauses same id clause at =
     found (same_list clause) clauses

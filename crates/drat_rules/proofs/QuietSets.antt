@@ -1,12 +1,11 @@
 -- A quiet set that has a clause's literals, cut to the literals at hand, is one that the test finds.
-use Rattle.std.proofs.Common.{◌≡◌, Bool, true, false, cond, not, ◌||◌, ◌&&◌, ℤ, neg_ℤ, List, [], ◌∷◌, ◌++◌, int_eq, refl, sym, ap, ◌∙◌, if◌then◌else◌}
-use Rattle.std.proofs.Common.{inl, inr}
-use Rattle.std.specs.List.{filter, list_any, list_all, flat_map}
-use Rattle.std.proofs.lemmas.Bool.{and_parts, and_from, or_cases, or_left, or_right, not-true, not_from_false, both_ways, false_from_ne_true}
-use Rattle.lrat_rules.specs.declared.outcome.Effect.TheVariants.{Conflict, Unit as Forced, NotUnit}
-use Rattle.lrat_rules.specs.Chain.{FalseSet, literals_of, outside, effect_of_outside, effect}
+use Rattle.std.proofs.Common.{◌≡◌, true, false, cond, not, ◌&&◌, ℤ, neg_ℤ, List, [], ◌∷◌, int_eq, refl, sym, ap, ◌∙◌, if◌then◌else◌}
+use Rattle.std.specs.List.{filter, list_all, flat_map}
+use Rattle.std.proofs.lemmas.Bool.{and_parts, and_from, or_right, not-true, not_from_false, both_ways, false_from_ne_true}
+use Rattle.lrat_rules.specs.declared.outcome.Effect.TheVariants.{Unit as Forced, NotUnit}
+use Rattle.lrat_rules.specs.Chain.{FalseSet, literals_of, outside, effect_of_outside}
 use Rattle.drat_rules.specs.Quiet.{adds_nothing, closed_under, IsQuiet, Falsifies, is_quiet, with_negations, at_hand, has_quiet}
-use Rattle.drat_rules.proofs.Members.{int_eq-true, in_front, at_member, all_members, literals_of-filter, in_left, in_right, in_distinct, in_negations}
+use Rattle.drat_rules.proofs.Members.{in_front, at_member, all_members, literals_of-filter, in_left, in_right, in_distinct, in_negations}
 use Rattle.drat_rules.proofs.Subsets.{some_subset-filter, chosen_subset}
 
 -- two sets that agree on a literal and on its negation

@@ -1,10 +1,9 @@
 -- An addition is sound: where the added clause doesn't hold, making its pivot true keeps each clause.
-use Rattle.std.proofs.Common.{◌≡◌, ◌==◌, ◌⊎◌, suc, Bool, true, false, cond, not, ◌&&◌, ◌||◌, ℤ, pos, negsuc, neg_ℤ, List, [], ◌∷◌, ◌++◌}
+use Rattle.std.proofs.Common.{◌≡◌, ◌==◌, ◌⊎◌, suc, Bool, true, false, cond, not, ◌||◌, ℤ, pos, negsuc, neg_ℤ, List, [], ◌∷◌, ◌++◌}
 use Rattle.std.proofs.Common.{None, Some, if◌then◌else◌, int_eq, refl, sym, ap, ◌∙◌, inl, inr, eqb-true, eq-eqb}
-use Rattle.std.specs.List.{filter, list_any, list_all}
-use Rattle.std.proofs.lemmas.Bool.{and_parts, and_from, or_cases, or_parts, or_left, or_right, not-true, not_from_false, both_ways}
+use Rattle.std.specs.List.{filter, list_all}
+use Rattle.std.proofs.lemmas.Bool.{and_parts, and_from, or_cases, or_parts, or_left, or_right, not-true, both_ways}
 use Rattle.std.proofs.lemmas.List.Folds.{list_any-append, list_all-append}
-use Rattle.std.proofs.lemmas.Bool.Decides.{Decides-int_eq}
 use Rattle.std.proofs.lemmas.Cmp.{int_eq_equiv}
 use Rattle.cnf_base.specs.Truth.{Assignment, literal_holds, clause_holds, Satisfies}
 use Rattle.lrat_rules.specs.declared.outcome.Reason.TheVariants.{CandidateOpen}

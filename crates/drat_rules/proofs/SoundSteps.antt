@@ -1,10 +1,10 @@
 -- Good steps are sound, and steps that add the empty clause besides refute the clauses at the start.
-use Rattle.std.proofs.Common.{◌≡◌, ℕ, ◌+◌, Bool, true, false, cond, ◌||◌, ◌&&◌, ℤ, List, [], ◌∷◌, ◌++◌, length, Option, None, Some, if◌then◌else◌}
+use Rattle.std.proofs.Common.{◌≡◌, ℕ, ◌+◌, Bool, true, false, cond, ◌&&◌, ℤ, List, [], ◌∷◌, ◌++◌, length, Option, None, Some}
 use Rattle.std.proofs.Common.{refl, sym, ◌∙◌, inl, inr}
 use Rattle.std.specs.List.{list_any, list_all}
 use Rattle.std.proofs.lemmas.Bool.{and_parts, and_from, or_from, both_ways}
 use Rattle.std.proofs.lemmas.List.Folds.{list_all-append}
-use Rattle.cnf_base.specs.Truth.{Assignment, clause_holds, is_literal_of, Satisfies, AreClausesOf}
+use Rattle.cnf_base.specs.Truth.{Assignment, clause_holds, is_literal_of, Satisfies}
 use Rattle.drat_text.specs.DratText.{DratStep, adds, deletes}
 use Rattle.lrat_rules.specs.declared.outcome.Reason.{Reason}
 use Rattle.lrat_rules.specs.Soundness.{make_true, is_nonzero, has_no_zero}

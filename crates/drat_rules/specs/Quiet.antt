@@ -4,7 +4,7 @@
 -- clause's negation comes to a conflict exactly where no quiet set has the clause's literals. (Reverse unit propagation:
 -- Wetzler, Heule, Hunt: DRAT-trim, SAT 2014, section 2.)
 use Rattle.std.specs.Prelude.{◌≡◌, Bool, true, false, not, ◌||◌, ◌&&◌, ℤ, neg_ℤ, List, [], ◌∷◌, IsTrue, if◌then◌else◌}
-use Rattle.std.specs.List.{list_any, list_all, flat_map}
+use Rattle.std.specs.List.{list_all, flat_map}
 use Rattle.lrat_rules.specs.declared.outcome.Effect.{Effect}
 use Rattle.lrat_rules.specs.declared.outcome.Effect.TheVariants.{Conflict, Unit as Forced, NotUnit}
 use Rattle.lrat_rules.specs.Chain.{FalseSet, literals_of, effect}

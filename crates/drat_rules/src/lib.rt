@@ -3,8 +3,12 @@
 //! (Wetzler, Heule, Hunt: DRAT-trim: Efficient Checking and Trimming Using Expressive Clausal Proofs, SAT 2014.)
 #![tactic(auto)]
 
+mod examples;
+mod from_lrat;
 mod laws;
 mod soundness;
 
+pub use examples::{addition_example, deletion_example};
+pub use from_lrat::from_lrat_law;
 pub use laws::quiet_law;
 pub use soundness::drat_soundness_law;
