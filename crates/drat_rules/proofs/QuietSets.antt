@@ -100,12 +100,18 @@ IsQuiet-list clauses literals h =
       closed = both.1;
     }
 
-pub some_quiet : (clauses : List (List ℤ)) (clause : List ℤ) → has_quiet clauses clause ≡ true → HasQuietSet clauses clause
-some_quiet clauses clause h =
+pub some_list : (clauses : List (List ℤ)) (clause : List ℤ) → has_quiet clauses clause ≡ true
+    → (literals : List ℤ) × IsQuiet clauses (literals_of literals) × Falsifies (literals_of literals) clause
+some_list clauses clause h =
     let found : (chosen : List ℤ) × ((is_quiet clauses chosen && list_all (literals_of chosen) clause) ≡ true) =
     chosen_subset (λ literals. is_quiet clauses literals && list_all (literals_of literals) clause) (at_hand clauses clause) h in
     let both : (is_quiet clauses found.0 ≡ true) × (list_all (literals_of found.0) clause ≡ true) = and_parts _ _ found.1 in
-    record { set = literals_of found.0; quiet = IsQuiet-list clauses found.0 both.0; falsifies = both.1 }
+    (found.0, IsQuiet-list clauses found.0 both.0, both.1)
+
+pub some_quiet : (clauses : List (List ℤ)) (clause : List ℤ) → has_quiet clauses clause ≡ true → HasQuietSet clauses clause
+some_quiet clauses clause h =
+    let some = some_list clauses clause h in
+    record { set = literals_of some.0; quiet = some.1; falsifies = some.2 }
 
 pub no_quiet : (clauses : List (List ℤ)) (clause : List ℤ) → has_quiet clauses clause ≡ false → (n : FalseSet) → IsQuiet clauses n
     → Falsifies n clause → ⊥

@@ -2,7 +2,7 @@
 -- propagation can end in. Such a set is quiet: it has no literal beside its negation, no clause is false under it, and
 -- where a clause has a single literal that isn't false, the negation of this one is false already. Propagation from a
 -- clause's negation comes to a conflict exactly where no quiet set has the clause's literals. (Reverse unit propagation:
--- Wetzler, Heule, Hunt: DRAT-trim, SAT 2014, section 2.)
+-- Wetzler, Heule, Hunt: DRAT-trim, SAT 2014.)
 use Rattle.std.specs.Prelude.{◌≡◌, Bool, true, false, not, ◌||◌, ◌&&◌, ℤ, neg_ℤ, List, [], ◌∷◌, IsTrue, if◌then◌else◌}
 use Rattle.std.specs.List.{list_all, flat_map}
 use Rattle.lrat_rules.specs.declared.outcome.Effect.{Effect}
