@@ -15,9 +15,9 @@ use Rattle.lrat_rules.specs.Chain.{FalseSet, literals_of, Outcome, Open, Closed,
 use Rattle.lrat_rules.specs.Addition.{holds_negated, is_blocked_by, with_candidate, if_live, is_candidate, is_blocked, outcome_fault}
 use Rattle.lrat_rules.specs.Addition.{candidate_fault, group_fault_at, group_fault, first_of_faults, groups_fault, is_settled}
 use Rattle.lrat_rules.specs.Addition.{resolvents_fault}
-use Rattle.drat_rules.specs.Quiet.{IsQuiet}
+use Rattle.drat_rules.specs.Quiet.{IsQuiet, Includes}
 use Rattle.drat_rules.proofs.Members.{in_front}
-use Rattle.drat_rules.proofs.Chains.{IsWithin, LiveClosed, EndsWithin, chain-within}
+use Rattle.drat_rules.proofs.Chains.{LiveClosed, EndsWithin, chain-within}
 
 first_of_faults-none : (f g : Option Reason) → first_of_faults f g ≡ None → (f ≡ None) × (g ≡ None)
 first_of_faults-none (Some reason) g h = cc
@@ -100,7 +100,7 @@ pub record HasOthers (q : FalseSet) (pivot : ℤ) (clause : List ℤ) : Type 0 w
   pub others : (x : ℤ) → literals_of clause x ≡ true → not (int_eq x (neg_ℤ pivot)) ≡ true → q x ≡ true
 
 -- a blocked candidate has a literal in the set whose negation is there too
-not_blocked : (clauses : List (List ℤ)) (q n : FalseSet) (pivot : ℤ) (clause : List ℤ) → IsQuiet clauses q → IsWithin n q
+not_blocked : (clauses : List (List ℤ)) (q n : FalseSet) (pivot : ℤ) (clause : List ℤ) → IsQuiet clauses q → Includes q n
     → HasOthers q pivot clause
     → is_blocked_by n pivot clause ≡ true → ⊥
 not_blocked clauses q n pivot [] quiet w o h = cc
@@ -108,26 +108,26 @@ not_blocked clauses q n pivot (x ∷ xs) quiet w o h =
     elim (or_cases (not (int_eq x (neg_ℤ pivot)) && n (neg_ℤ x)) _ h) [
       | inl here ↦
           let both : (not (int_eq x (neg_ℤ pivot)) ≡ true) × (n (neg_ℤ x) ≡ true) = and_parts (not (int_eq x (neg_ℤ pivot))) _ here in
-          both_ways (q (neg_ℤ x)) (quiet.apart x (o.others x (in_front x xs) both.0)) (w.within (neg_ℤ x) both.1)
+          both_ways (q (neg_ℤ x)) (quiet.apart x (o.others x (in_front x xs) both.0)) (w.includes (neg_ℤ x) both.1)
       | inr later ↦ not_blocked clauses q n pivot xs quiet w
           record { others = λ y m other. o.others y (or_right (int_eq y x) _ m) other } later
     ]
 
-IsWithin-with_candidate : (q n : FalseSet) (pivot : ℤ) (clause : List ℤ) → IsWithin n q → HasOthers q pivot clause
-    → IsWithin (with_candidate n pivot clause) q
-IsWithin-with_candidate q n pivot clause w o = record {
-  within = λ x m. elim (or_cases (not (int_eq x (neg_ℤ pivot)) && list_any (int_eq x) clause) (n x) m) [
+Includes-with_candidate : (q n : FalseSet) (pivot : ℤ) (clause : List ℤ) → Includes q n → HasOthers q pivot clause
+    → Includes q (with_candidate n pivot clause)
+Includes-with_candidate q n pivot clause w o = record {
+  includes = λ x m. elim (or_cases (not (int_eq x (neg_ℤ pivot)) && list_any (int_eq x) clause) (n x) m) [
     | inl candidate ↦
         let both : (not (int_eq x (neg_ℤ pivot)) ≡ true) × (list_any (int_eq x) clause ≡ true) =
         and_parts (not (int_eq x (neg_ℤ pivot))) _ candidate in
         o.others x both.1 both.0
-    | inr before ↦ w.within x before
+    | inr before ↦ w.includes x before
   ];
 }
 
 pub not_settled : (clauses : List (List ℤ)) (live : Live) (q n : FalseSet) (pivot : ℤ) (clause : List ℤ) → IsQuiet clauses q
-    → LiveClosed q live → IsWithin n q → HasOthers q pivot clause → Settles live n pivot clause → ⊥
+    → LiveClosed q live → Includes q n → HasOthers q pivot clause → Settles live n pivot clause → ⊥
 not_settled clauses live q n pivot clause quiet c w o (blocked h) = not_blocked clauses q n pivot clause quiet w o h
 not_settled clauses live q n pivot clause quiet c w o (refuted hints h) =
     subst (EndsWithin q) h
-    (chain-within q live c (with_candidate n pivot clause) hints (IsWithin-with_candidate q n pivot clause w o))
+    (chain-within q live c (with_candidate n pivot clause) hints (Includes-with_candidate q n pivot clause w o))

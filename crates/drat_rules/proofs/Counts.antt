@@ -2,12 +2,11 @@
 -- stands.
 use Rattle.std.proofs.Common.{◌≡◌, ℕ, ◌+◌, ◌<◌, Bool, true, false, cond, ◌||◌, ℤ, List, [], ◌∷◌, ◌++◌, refl, sym, ap, ◌∙◌, subst, arith, inl, inr}
 use Rattle.std.specs.List.{list_any, list_all, count_by}
-use Rattle.std.proofs.lemmas.Bool.{and_parts, or_cases}
+use Rattle.std.proofs.lemmas.Bool.{and_parts, or_cases, and_from, or_left, or_right, or_parts}
 use Rattle.std.proofs.lemmas.Bool.Decides.{Decides-int_eq}
 use Rattle.std.proofs.lemmas.List.Sums.{sum_by-cons, sum_by_push}
 use Rattle.std.proofs.lemmas.Slice.Eq.{slice_eq-Decides}
-use Rattle.drat_rules.specs.Run.{same_list, without_first}
-use Rattle.drat_rules.specs.FromLrat.{count_of}
+use Rattle.drat_rules.specs.Clauses.{same_list, is_among, count_of, without_first}
 
 -- the test of two clauses, both ways
 pub same_list-true : (c d : List ℤ) → same_list c d ≡ true → c ≡ d
@@ -74,3 +73,18 @@ count-without_first e c (d ∷ ds) h =
           count-cons (same_list e) d (without_first c ds) in
           omega arith
     ] refl h
+
+-- what each clause of a list passes by itself, all pass
+pub all_clauses : (p : List ℤ → Bool) (cs : List (List ℤ)) → ((c : List ℤ) → list_any (same_list c) cs ≡ true → p c ≡ true)
+    → list_all p cs ≡ true
+all_clauses p [] each = refl
+all_clauses p (c ∷ cs) each =
+    and_from _ _ (each c (or_left _ _ (eq-same_list c c refl)))
+    (all_clauses p cs (λ d m. each d (or_right (same_list d c) _ m)))
+
+-- a clause that isn't there
+pub without_none : (c : List ℤ) (cs : List (List ℤ)) → is_among cs c ≡ false → without_first c cs ≡ cs
+without_none c [] none = refl
+without_none c (d ∷ ds) none =
+    let parts : (same_list c d ≡ false) × (is_among ds c ≡ false) = or_parts (same_list c d) _ none in
+    ap (λ b. cond b ds (d ∷ without_first c ds)) parts.0 ∙ ap (λ l. d ∷ l) (without_none c ds parts.1)

@@ -6,6 +6,7 @@ pub mod Resolvents
 pub mod SoundSteps
 pub mod Counts
 pub mod LiveClauses
+pub mod Propagation
 pub mod Chains
 pub mod Candidates
 pub mod LratAdditions

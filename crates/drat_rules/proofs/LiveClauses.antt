@@ -12,7 +12,7 @@ use Rattle.std.specs.FinMap.Entries.{put, find, is_sorted, below_all, by_order}
 use Rattle.std.proofs.lemmas.Bool.{or_cases, or_left, or_right}
 use Rattle.std.proofs.lemmas.Cmp.{nat_cmp_total}
 use Rattle.lrat_rules.specs.State.{Live, clause_at}
-use Rattle.drat_rules.specs.Run.{same_list}
+use Rattle.drat_rules.specs.Clauses.{same_list}
 use Rattle.drat_rules.proofs.Counts.{one_if, count-cons, eq-same_list}
 
 -- the clauses of entries

@@ -11,15 +11,15 @@ use Rattle.lrat_rules.specs.declared.outcome.Reason.TheVariants.{IdNotGreater}
 use Rattle.lrat_rules.specs.State.{State, Live, clause_at}
 use Rattle.lrat_rules.specs.Chain.{FalseSet, literals_of, Outcome, Open, Closed, Bad, chain}
 use Rattle.lrat_rules.specs.Addition.{holds_negated, resolvents_fault, fault_after_hints, fault}
-use Rattle.drat_rules.specs.Quiet.{closed_under, IsQuiet, Falsifies, has_quiet}
+use Rattle.drat_rules.specs.Quiet.{Includes, closed_under, IsQuiet, Falsifies, has_quiet}
 use Rattle.drat_rules.specs.Addition.{others_of, passes_candidate, open_fault, drat_fault}
-use Rattle.drat_rules.specs.Run.{same_list}
+use Rattle.drat_rules.specs.Clauses.{same_list}
 use Rattle.drat_rules.specs.FromLrat.{HaveSame}
 use Rattle.drat_rules.proofs.Members.{at_member, literals_of-filter}
 use Rattle.drat_rules.proofs.QuietSets.{HasQuietSet, some_quiet}
-use Rattle.drat_rules.proofs.Counts.{same_list-true, eq-same_list, counted, found, at_clause}
+use Rattle.drat_rules.proofs.Counts.{all_clauses, same_list-true, eq-same_list, counted, found, at_clause}
 use Rattle.drat_rules.proofs.LiveClauses.{among_values, value_at}
-use Rattle.drat_rules.proofs.Chains.{IsWithin, LiveClosed, EndsWithin, chain-within}
+use Rattle.drat_rules.proofs.Chains.{LiveClosed, EndsWithin, chain-within}
 use Rattle.drat_rules.proofs.Candidates.{HasOthers, Settles-candidate, not_settled}
 
 -- a live clause is in the list, and a clause of the list is live
@@ -29,7 +29,7 @@ live_in_list live clauses same id clause at =
     found (same_list clause) clauses
     (subst (λ (k : ℕ). 0 < k) (same.counts clause) (counted (same_list clause) (finmap.values live) (among_values live id clause at)))
 
-list_is_live : (live : Live) (clauses : List (List ℤ)) → HaveSame live clauses → (clause : List ℤ)
+pub list_is_live : (live : Live) (clauses : List (List ℤ)) → HaveSame live clauses → (clause : List ℤ)
     → list_any (same_list clause) clauses ≡ true → (id : ℕ) × (clause_at live id ≡ Some clause)
 list_is_live live clauses same clause m =
     let among : list_any (same_list clause) (finmap.values live) ≡ true =
@@ -43,22 +43,14 @@ live_closed live clauses same q quiet = record {
   closed = λ id clause at. at_clause (closed_under q) clauses clause quiet.closed (live_in_list live clauses same id clause at);
 }
 
-IsWithin-literals_of : (q : FalseSet) (clause : List ℤ) → Falsifies q clause → IsWithin (literals_of clause) q
-IsWithin-literals_of q clause h = record { within = λ x m. at_member q clause h x m }
+Includes-literals_of : (q : FalseSet) (clause : List ℤ) → Falsifies q clause → Includes q (literals_of clause)
+Includes-literals_of q clause h = record { includes = λ x m. at_member q clause h x m }
 
 HasOthers-falsifies : (q : FalseSet) (pivot : ℤ) (other : List ℤ) → Falsifies q (others_of pivot other) → HasOthers q pivot other
 HasOthers-falsifies q pivot other h = record {
   others = λ x m apart. at_member q (others_of pivot other) h x
       (literals_of-filter (λ y. not (int_eq y (neg_ℤ pivot))) other x ∙ and_from _ _ apart m);
 }
-
--- what each clause of a list passes by itself, all pass
-all_clauses : (p : List ℤ → Bool) (cs : List (List ℤ)) → ((c : List ℤ) → list_any (same_list c) cs ≡ true → p c ≡ true)
-    → list_all p cs ≡ true
-all_clauses p [] each = refl
-all_clauses p (c ∷ cs) each =
-    and_from _ _ (each c (or_left _ _ (eq-same_list c c refl)))
-    (all_clauses p cs (λ d m. each d (or_right (same_list d c) _ m)))
 
 -- the hints leave these literals false, and each candidate is settled
 module _ (live : Live) (clauses : List (List ℤ)) (same : HaveSame live clauses) (clause : List ℤ) (hints : List ℕ) (groups : List Group)
@@ -71,9 +63,9 @@ module _ (live : Live) (clauses : List (List ℤ)) (same : HaveSame live clauses
       let parts : (list_all some.set clause ≡ true) × (list_all some.set (others_of pivot other) ≡ true) =
       and_parts _ _ (sym (list_all-append some.set clause (others_of pivot other)) ∙ some.falsifies) in
       let closed : LiveClosed some.set live = live_closed live clauses same some.set some.quiet in
-      let within : IsWithin n some.set =
+      let within : Includes some.set n =
       subst (EndsWithin some.set) opens
-      (chain-within some.set live closed (literals_of clause) hints (IsWithin-literals_of some.set clause parts.0)) in
+      (chain-within some.set live closed (literals_of clause) hints (Includes-literals_of some.set clause parts.0)) in
       let at : (id : ℕ) × (clause_at live id ≡ Some other) = list_is_live live clauses same other m in
       not_settled clauses live some.set n pivot other some.quiet closed within (HasOthers-falsifies some.set pivot other parts.1)
       (Settles-candidate live n pivot groups settled at.0 other at.1 negated)
@@ -117,7 +109,7 @@ drat_fault-none state clauses same id clause hints groups h =
           let some : HasQuietSet clauses clause = some_quiet clauses clause e in
           let ends : EndsWithin some.set (chain state.live (literals_of clause) hints) =
           chain-within some.set state.live (live_closed state.live clauses same some.set some.quiet) (literals_of clause) hints
-          (IsWithin-literals_of some.set clause some.falsifies) in
+          (Includes-literals_of some.set clause some.falsifies) in
           by_outcome state.live clauses same clause hints groups some.set (chain state.live (literals_of clause) hints) ends refl
           (number_parts (nat_le id state.top) _ h).1
       | false ↦ λ e. refl

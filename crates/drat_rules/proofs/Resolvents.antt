@@ -11,7 +11,7 @@ use Rattle.lrat_rules.specs.Addition.{holds_negated}
 use Rattle.lrat_rules.specs.Soundness.{make_true, is_nonzero, has_no_zero}
 use Rattle.drat_rules.specs.Quiet.{has_quiet}
 use Rattle.drat_rules.specs.Addition.{others_of, passes_candidate, open_fault, drat_fault}
-use Rattle.drat_rules.specs.Soundness.{SatisfiesUpToPivot, have_no_zero}
+use Rattle.drat_rules.specs.Soundness.{SatisfiesAllUpToPivot, have_no_zero}
 use Rattle.drat_rules.proofs.Members.{eq-int_eq}
 use Rattle.drat_rules.proofs.Falsified.{clause_holds-none}
 
@@ -108,7 +108,7 @@ pub Satisfies-push : (a : Assignment) (clauses : List (List ℤ)) (clause : List
 Satisfies-push a clauses clause s h =
     list_all-append (clause_holds a) clauses (clause ∷ []) ∙ and_from _ _ s (and_from _ _ h refl)
 
-up_to_pivot : (a : Assignment) (clause : List ℤ) (clauses : List (List ℤ)) → Satisfies a clauses → SatisfiesUpToPivot a clause clauses
+up_to_pivot : (a : Assignment) (clause : List ℤ) (clauses : List (List ℤ)) → Satisfies a clauses → SatisfiesAllUpToPivot a clause clauses
 up_to_pivot a [] clauses s = s
 up_to_pivot a (pivot ∷ clause) clauses s = inl s
 
@@ -118,7 +118,7 @@ if_none false h = cc
 
 resolvents_sound : (a : Assignment) (clauses : List (List ℤ)) (clause : List ℤ) → Satisfies a clauses → have_no_zero clauses ≡ true
     → has_no_zero clause ≡ true
-    → clause_holds a clause ≡ false → open_fault clauses clause ≡ None → SatisfiesUpToPivot a clause (clauses ++ clause ∷ [])
+    → clause_holds a clause ≡ false → open_fault clauses clause ≡ None → SatisfiesAllUpToPivot a clause (clauses ++ clause ∷ [])
 resolvents_sound a clauses [] s z own fails h = cc
 resolvents_sound a clauses (pivot ∷ others) s z own fails h =
     inr (Satisfies-push (make_true pivot a) clauses (pivot ∷ others)
@@ -126,15 +126,15 @@ resolvents_sound a clauses (pivot ∷ others) s z own fails h =
     (or_left _ _ (literal_holds-make_true pivot a)))
 
 -- a good addition
-pub SatisfiesUpToPivot-drat_fault : (a : Assignment) (clauses : List (List ℤ)) (clause : List ℤ) → Satisfies a clauses
+pub SatisfiesAllUpToPivot-drat_fault : (a : Assignment) (clauses : List (List ℤ)) (clause : List ℤ) → Satisfies a clauses
     → have_no_zero clauses ≡ true
-    → has_no_zero clause ≡ true → drat_fault clauses clause ≡ None → SatisfiesUpToPivot a clause (clauses ++ clause ∷ [])
-SatisfiesUpToPivot-drat_fault a clauses clause s z own good =
-    elim (clause_holds a clause) as (λ b. clause_holds a clause ≡ b → SatisfiesUpToPivot a clause (clauses ++ clause ∷ [])) [
+    → has_no_zero clause ≡ true → drat_fault clauses clause ≡ None → SatisfiesAllUpToPivot a clause (clauses ++ clause ∷ [])
+SatisfiesAllUpToPivot-drat_fault a clauses clause s z own good =
+    elim (clause_holds a clause) as (λ b. clause_holds a clause ≡ b → SatisfiesAllUpToPivot a clause (clauses ++ clause ∷ [])) [
       | true ↦ λ e. up_to_pivot a clause (clauses ++ clause ∷ []) (Satisfies-push a clauses clause s e)
       | false ↦ λ e. elim (has_quiet clauses clause)
           as (λ b. has_quiet clauses clause ≡ b → (if b then open_fault clauses clause else None) ≡ None
-          → SatisfiesUpToPivot a clause (clauses ++ clause ∷ [])) [
+          → SatisfiesAllUpToPivot a clause (clauses ++ clause ∷ [])) [
             | true ↦ λ found h. resolvents_sound a clauses clause s z own e h
             | false ↦ λ none h. absurd (both_ways (clause_holds a clause) e (clause_holds-none a clauses clause s z own none))
           ] refl good

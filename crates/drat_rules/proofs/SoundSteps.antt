@@ -8,9 +8,10 @@ use Rattle.cnf_base.specs.Truth.{Assignment, clause_holds, is_literal_of, Satisf
 use Rattle.drat_text.specs.DratText.{DratStep, adds, deletes}
 use Rattle.lrat_rules.specs.declared.outcome.Reason.{Reason}
 use Rattle.lrat_rules.specs.Soundness.{make_true, is_nonzero, has_no_zero}
-use Rattle.drat_rules.specs.Run.{same_list, without_first, after, drat_step_fault, after_all, fault_or, first_fault, adds_empty, verdict_at, DratRefutes}
-use Rattle.drat_rules.specs.Soundness.{SatisfiesUpToPivot, have_no_zero, step_has_no_zero}
-use Rattle.drat_rules.proofs.Resolvents.{SatisfiesUpToPivot-drat_fault}
+use Rattle.drat_rules.specs.Clauses.{same_list, without_first}
+use Rattle.drat_rules.specs.Run.{after, drat_step_fault, after_all, fault_or, first_fault, adds_empty, drat_verdict_at, DratRefutes}
+use Rattle.drat_rules.specs.Soundness.{SatisfiesAllUpToPivot, have_no_zero, drat_step_has_no_zero}
+use Rattle.drat_rules.proofs.Resolvents.{SatisfiesAllUpToPivot-drat_fault}
 
 -- what each clause passes, each passes once one is taken out
 pub all-without_first : (test : List ℤ → Bool) (clause : List ℤ) (clauses : List (List ℤ)) → list_all test clauses ≡ true
@@ -27,22 +28,22 @@ pub record IsModel (a : Assignment) (clauses : List (List ℤ)) : Type 0 where
   pub satisfied : Satisfies a clauses
   pub nonzero : have_no_zero clauses ≡ true
 
-some_model : (a : Assignment) (clause : List ℤ) (clauses : List (List ℤ)) → SatisfiesUpToPivot a clause clauses
+some_model : (a : Assignment) (clause : List ℤ) (clauses : List (List ℤ)) → SatisfiesAllUpToPivot a clause clauses
     → (b : Assignment) × Satisfies b clauses
 some_model a [] clauses s = (a, s)
 some_model a (pivot ∷ clause) clauses (inl s) = (a, s)
 some_model a (pivot ∷ clause) clauses (inr s) = (make_true pivot a, s)
 
-pub have_no_zero-after : (clauses : List (List ℤ)) (step : DratStep) → have_no_zero clauses ≡ true → step_has_no_zero step ≡ true
+pub have_no_zero-after : (clauses : List (List ℤ)) (step : DratStep) → have_no_zero clauses ≡ true → drat_step_has_no_zero step ≡ true
     → have_no_zero (after clauses step) ≡ true
 have_no_zero-after clauses (adds clause) z own = list_all-append has_no_zero clauses (clause ∷ []) ∙ and_from _ _ z (and_from _ _ own refl)
 have_no_zero-after clauses (deletes clause) z own = all-without_first has_no_zero clause clauses z
 
-step-sound : (a : Assignment) (clauses : List (List ℤ)) (step : DratStep) → IsModel a clauses → step_has_no_zero step ≡ true
+step-sound : (a : Assignment) (clauses : List (List ℤ)) (step : DratStep) → IsModel a clauses → drat_step_has_no_zero step ≡ true
     → drat_step_fault clauses step ≡ None → (b : Assignment) × IsModel b (after clauses step)
 step-sound a clauses (adds clause) m own good =
     let next : (b : Assignment) × Satisfies b (clauses ++ clause ∷ []) =
-    some_model a clause (clauses ++ clause ∷ []) (SatisfiesUpToPivot-drat_fault a clauses clause m.satisfied m.nonzero own good) in
+    some_model a clause (clauses ++ clause ∷ []) (SatisfiesAllUpToPivot-drat_fault a clauses clause m.satisfied m.nonzero own good) in
     (next.0, record { satisfied = next.1; nonzero = have_no_zero-after clauses (adds clause) m.nonzero own })
 step-sound a clauses (deletes clause) m own good = (
   a,
@@ -73,13 +74,13 @@ pub record Survives (clauses : List (List ℤ)) (steps : List DratStep) : Type 0
   pub no_empty : list_any adds_empty steps ≡ false
 
 pub steps-sound : (a : Assignment) (place : ℕ) (clauses : List (List ℤ)) (steps : List DratStep) → IsModel a clauses
-    → list_all step_has_no_zero steps ≡ true
+    → list_all drat_step_has_no_zero steps ≡ true
     → first_fault place clauses steps ≡ None → Survives clauses steps
 steps-sound a place clauses [] m own good = record { assignment = a; model = m; no_empty = refl }
 steps-sound a place clauses (step ∷ steps) m own good =
     let parts : (drat_step_fault clauses step ≡ None) × (first_fault (place + 1) (after clauses step) steps ≡ None) =
     fault_or-none place (drat_step_fault clauses step) _ good in
-    let zeros : (step_has_no_zero step ≡ true) × (list_all step_has_no_zero steps ≡ true) = and_parts (step_has_no_zero step) _ own in
+    let zeros : (drat_step_has_no_zero step ≡ true) × (list_all drat_step_has_no_zero steps ≡ true) = and_parts (drat_step_has_no_zero step) _ own in
     let next : (b : Assignment) × IsModel b (after clauses step) = step-sound a clauses step m zeros.0 parts.0 in
     let rest : Survives (after clauses step) steps = steps-sound next.0 (place + 1) (after clauses step) steps next.1 zeros.1 parts.1 in
     record {
@@ -93,7 +94,7 @@ pub record AreVerified (clauses : List (List ℤ)) (steps : List DratStep) : Typ
   pub good : first_fault 1 clauses steps ≡ None
   pub empty : list_any adds_empty steps ≡ true
 
-no_refusal : (end : ℕ) (b : Bool) (o : Option (ℕ × Reason)) → verdict_at end b o ≡ None → (o ≡ None) × (b ≡ true)
+no_refusal : (end : ℕ) (b : Bool) (o : Option (ℕ × Reason)) → drat_verdict_at end b o ≡ None → (o ≡ None) × (b ≡ true)
 no_refusal end b (Some refusal) h = cc
 no_refusal end true None h = (refl, refl)
 no_refusal end false None h = cc
@@ -124,7 +125,7 @@ have_no_zero-formula vars (clause ∷ clauses) h =
     and_from _ _ (no_zero-literals vars clause both.0) (have_no_zero-formula vars clauses both.1)
 
 pub unsatisfiable : (clauses : List (List ℤ)) (steps : List DratStep) → have_no_zero clauses ≡ true
-    → list_all step_has_no_zero steps ≡ true
+    → list_all drat_step_has_no_zero steps ≡ true
     → DratRefutes clauses steps → (a : Assignment) → Satisfies a clauses → ⊥
 unsatisfiable clauses steps z own r a s =
     let verified = AreVerified-DratRefutes clauses steps r in

@@ -5,17 +5,17 @@ use Rattle.std.specs.List.{count_by}
 use Rattle.std.specs.Ordering.{eq_by_cmp}
 use Rattle.std.specs.Cmp.{unsigned_tied}
 use Rattle.std.specs.FinMap as finmap
-use Rattle.std.proofs.lemmas.Bool.{leb-false}
+use Rattle.std.proofs.lemmas.Bool.{leb-false, false_from_ne_true}
 use Rattle.std.proofs.lemmas.Cmp.{nat_cmp_total}
 use Rattle.std.proofs.lemmas.List.{nil_from_length}
 use Rattle.cnf_base.specs.declared.list.Group.{Group}
 use Rattle.lrat_rules.specs.State.{State, Live, clause_at, start, numbered_from, with_clause}
 use Rattle.lrat_rules.specs.Addition.{fault}
-use Rattle.drat_rules.specs.Run.{same_list, without_first}
-use Rattle.drat_rules.specs.FromLrat.{count_of, HaveSame, IsListOf}
-use Rattle.drat_rules.proofs.Counts.{one_if, count-cons, count-push, count-without_first}
+use Rattle.drat_rules.specs.Clauses.{same_list, count_of, without_first}
+use Rattle.drat_rules.specs.FromLrat.{HaveSame, IsListOf}
+use Rattle.drat_rules.proofs.Counts.{without_none, one_if, count-cons, count-push, count-without_first}
 use Rattle.drat_rules.proofs.LiveClauses.{count-insert, count-remove, remove_none}
-use Rattle.drat_rules.proofs.LratAdditions.{live_in_list, above_top}
+use Rattle.drat_rules.proofs.LratAdditions.{live_in_list, list_is_live, above_top}
 
 untied : (k q : ℕ) → (k ≡ q → ⊥) → eq_by_cmp nat_cmp k q ≡ false
 untied k q other = unsigned_tied k q ∙ ne_eqb k q other
@@ -45,15 +45,18 @@ count-numbered p first (clause ∷ clauses) =
     ∙ ap (λ (k : ℕ). one_if (p clause) + k) (count-numbered p (first + 1) clauses)
     ∙ sym (count-cons p clause clauses)
 
+pub HaveSame-start : (clauses : List (List ℤ)) → HaveSame (start clauses).live clauses
+HaveSame-start clauses = record { counts = λ clause. count-numbered (same_list clause) 1 clauses }
+
 pub IsListOf-start : ((clauses : List (List ℤ)) (id : ℕ) → length clauses < id → clause_at (start clauses).live id ≡ None)
     → (clauses : List (List ℤ)) → IsListOf (start clauses) clauses
 IsListOf-start none_above clauses = record {
-  same = record { counts = λ clause. count-numbered (same_list clause) 1 clauses };
+  same = HaveSame-start clauses;
   none_above = none_above clauses;
 }
 
 -- behind an addition
-HaveSame-added : (live : Live) (clauses : List (List ℤ)) (id : ℕ) (clause : List ℤ) → HaveSame live clauses → clause_at live id ≡ None
+pub HaveSame-added : (live : Live) (clauses : List (List ℤ)) (id : ℕ) (clause : List ℤ) → HaveSame live clauses → clause_at live id ≡ None
     → HaveSame (with_clause live id clause) (clauses ++ clause ∷ [])
 HaveSame-added live clauses id clause same none = record {
   counts = λ other.
@@ -78,8 +81,14 @@ IsListOf-added state clauses id clause hints groups l good =
           ∙ l.none_above q (omega arith);
     }
 
+-- behind the deletion of a clause that has no number
+pub without_dead : (live : Live) (clauses : List (List ℤ)) (clause : List ℤ) → HaveSame live clauses
+    → ((id : ℕ) → clause_at live id ≡ Some clause → ⊥) → without_first clause clauses ≡ clauses
+without_dead live clauses clause same dead =
+    without_none clause clauses (false_from_ne_true _ (λ among. let at = list_is_live live clauses same clause among in dead at.0 at.1))
+
 -- behind the deletion of a number
-HaveSame-deleted : (live : Live) (clauses : List (List ℤ)) (id : ℕ) (clause : List ℤ) → HaveSame live clauses
+pub HaveSame-deleted : (live : Live) (clauses : List (List ℤ)) (id : ℕ) (clause : List ℤ) → HaveSame live clauses
     → clause_at live id ≡ Some clause → HaveSame (finmap.remove live id) (without_first clause clauses)
 HaveSame-deleted live clauses id clause same at = record {
   counts = λ other.

@@ -1,14 +1,9 @@
 -- The clauses that stand at a line of an LRAT proof, which have numbers, and those at a step of a DRAT proof, which are a
 -- list: when they are the same. Which of two equal clauses has which number, or stands first, doesn't matter then.
 use Rattle.std.specs.Prelude.{◌≡◌, ℕ, ◌<◌, ℤ, List, None}
-use Rattle.std.specs.List.{count_by}
 use Rattle.std.specs.FinMap as map
 use Rattle.lrat_rules.specs.State.{State, Live, clause_at}
-use Rattle.drat_rules.specs.Run.{same_list}
-
--- how often this list of literals stands among the clauses
-abbrev pub count_of : List ℤ → List (List ℤ) → ℕ
-count_of clause clauses = count_by (same_list clause) clauses
+use Rattle.drat_rules.specs.Clauses.{count_of}
 
 -- each list of literals stands as often under live numbers as in the list
 pub record HaveSame (live : Live) (clauses : List (List ℤ)) : Type 0 where

@@ -1,3 +1,4 @@
+pub mod Clauses
 pub mod Quiet
 pub mod Addition
 pub mod Run

@@ -24,6 +24,10 @@ pub record IsQuiet (clauses : List (List ℤ)) (n : FalseSet) : Type 0 where
   pub apart : (x : ℤ) → n x ≡ true → n (neg_ℤ x) ≡ false
   pub closed : IsTrue (list_all (closed_under n) clauses)
 
+-- the set has all literals of the other one
+pub record Includes (n other : FalseSet) : Type 0 where
+  pub includes : (x : ℤ) → other x ≡ true → n x ≡ true
+
 -- the set has all literals of the clause
 abbrev pub Falsifies : FalseSet → List ℤ → Type 0
 Falsifies n clause = IsTrue (list_all n clause)

@@ -4,22 +4,12 @@
 -- clauses. The rule here, and that steps behind the empty clause are judged too, is this project's own.)
 use Rattle.std.specs.Prelude.{◌≡◌, ℕ, ◌+◌, Bool, false, ℤ, List, [], ◌∷◌, ◌++◌, length, Option, None, Some, if◌then◌else◌}
 use Rattle.std.specs.List.{list_any}
-use Rattle.std.specs.Ordering.{int_eq}
-use Rattle.std.specs.Cmp.Lexicographic.{pointwise}
 use Rattle.cnf_base.specs.ProofText.{is_empty}
 use Rattle.drat_text.specs.DratText.{DratStep, adds, deletes}
 use Rattle.lrat_rules.specs.declared.outcome.Reason.{Reason}
 use Rattle.lrat_rules.specs.declared.outcome.Reason.TheVariants.{NoEmptyClause}
+use Rattle.drat_rules.specs.Clauses.{without_first}
 use Rattle.drat_rules.specs.Addition.{drat_fault}
-
--- the same literals in the same order
-abbrev pub same_list : List ℤ → List ℤ → Bool
-same_list = pointwise int_eq
-
--- without the first clause that is this list of literals
-abbrev pub without_first : List ℤ → List (List ℤ) → List (List ℤ)
-without_first clause [] = []
-without_first clause (other ∷ clauses) = if same_list clause other then clauses else other ∷ without_first clause clauses
 
 -- the clauses that stand behind a step
 abbrev pub after : List (List ℤ) → DratStep → List (List ℤ)
@@ -53,14 +43,14 @@ adds_empty (adds clause) = is_empty clause
 adds_empty (deletes clause) = false
 
 -- where each step is good, one that adds the empty clause is wanted
-abbrev pub verdict_at : ℕ → Bool → Option (ℕ × Reason) → Option (ℕ × Reason)
-verdict_at end has_empty (Some refusal) = Some refusal
-verdict_at end has_empty None = if has_empty then None else Some (end, NoEmptyClause)
+abbrev pub drat_verdict_at : ℕ → Bool → Option (ℕ × Reason) → Option (ℕ × Reason)
+drat_verdict_at end has_empty (Some refusal) = Some refusal
+drat_verdict_at end has_empty None = if has_empty then None else Some (end, NoEmptyClause)
 
 -- The place, from 1, and the reason of the refusal of steps, or nothing where they are verified. It is that of the lines
 -- of their text; the end is the line behind the last one.
 abbrev pub drat_verdict : List (List ℤ) → List DratStep → Option (ℕ × Reason)
-drat_verdict clauses steps = verdict_at (length steps + 1) (list_any adds_empty steps) (first_fault 1 clauses steps)
+drat_verdict clauses steps = drat_verdict_at (length steps + 1) (list_any adds_empty steps) (first_fault 1 clauses steps)
 
 -- the steps are verified: each is good, and some step adds the empty clause
 pub record DratRefutes (clauses : List (List ℤ)) (steps : List DratStep) : Type 0 where

@@ -7,7 +7,7 @@ ghost use Rattle.lrat_rules.specs.Soundness.{has_no_zero};
 ghost use Rattle.drat_rules.specs.Quiet.{has_quiet};
 ghost use Rattle.drat_rules.specs.Addition.{drat_fault};
 ghost use Rattle.drat_rules.specs.Run.{after, after_all, first_fault, DratRefutes};
-ghost use Rattle.drat_rules.specs.Soundness.{SatisfiesUpToPivot, have_no_zero, step_has_no_zero};
+ghost use Rattle.drat_rules.specs.Soundness.{SatisfiesAllUpToPivot, have_no_zero, drat_step_has_no_zero};
 
 /// Nothing is assumed of fresh variables, of deletions, nor of repeated literals and clauses. No literal is 0, whose
 /// negation would be itself.
@@ -17,18 +17,18 @@ pub fn drat_soundness_law()
         → IsTrue (has_no_zero clause) → Satisfies a clauses → has_quiet clauses clause ≡ false → IsTrue (clause_holds a clause) }
     ensures addition { (a : Assignment) (clauses : List (List ℤ)) (clause : List ℤ) → IsTrue (have_no_zero clauses)
         → IsTrue (has_no_zero clause) → Satisfies a clauses → drat_fault clauses clause ≡ None
-        → SatisfiesUpToPivot a clause (clauses ++ clause ∷ []) }
+        → SatisfiesAllUpToPivot a clause (clauses ++ clause ∷ []) }
     ensures deletion { (a : Assignment) (clauses : List (List ℤ)) (clause : List ℤ) → Satisfies a clauses
         → Satisfies a (after clauses (deletes clause)) }
     // After good steps some assignment still satisfies the clauses.
     ensures steps { (a : Assignment) (place : ℕ) (clauses : List (List ℤ)) (steps : List DratStep) → IsTrue (have_no_zero clauses)
-        → IsTrue (list_all step_has_no_zero steps) → Satisfies a clauses → first_fault place clauses steps ≡ None
+        → IsTrue (list_all drat_step_has_no_zero steps) → Satisfies a clauses → first_fault place clauses steps ≡ None
         → (b : Assignment) × Satisfies b (after_all clauses steps) }
     // The premise holds of a formula, and behind each step.
     ensures nonzero_start { (vars : ℕ) (clauses : List (List ℤ)) → AreClausesOf vars clauses → IsTrue (have_no_zero clauses) }
     ensures nonzero_step { (clauses : List (List ℤ)) (step : DratStep) → IsTrue (have_no_zero clauses)
-        → IsTrue (step_has_no_zero step) → IsTrue (have_no_zero (after clauses step)) }
+        → IsTrue (drat_step_has_no_zero step) → IsTrue (have_no_zero (after clauses step)) }
     // Verified steps: nothing satisfies the clauses at the start.
     ensures refuted { (clauses : List (List ℤ)) (steps : List DratStep) → IsTrue (have_no_zero clauses)
-        → IsTrue (list_all step_has_no_zero steps) → DratRefutes clauses steps → (a : Assignment) → Satisfies a clauses → ⊥ }
+        → IsTrue (list_all drat_step_has_no_zero steps) → DratRefutes clauses steps → (a : Assignment) → Satisfies a clauses → ⊥ }
 {}
