@@ -1,6 +1,6 @@
 -- A list of clauses follows the live clauses of an LRAT proof from step to step; so what its steps become are good steps.
-use Rattle.std.proofs.Common.{◌≡◌, ℕ, ◌+◌, Bool, true, false, ◌||◌, ℤ, List, [], ◌∷◌, ◌++◌, length, Option, None, Some, if◌then◌else◌}
-use Rattle.std.proofs.Common.{refl, sym, ap, ◌∙◌, subst}
+use Rattle.std.proofs.Common.{◌≡◌, ℕ, ◌+◌, Bool, true, false, ◌||◌, ℤ, List, [], ◌∷◌, ◌++◌, None, Some}
+use Rattle.std.proofs.Common.{refl, sym, ap, ◌∙◌}
 use Rattle.std.specs.List.{list_any}
 use Rattle.std.specs.FinMap as finmap
 use Rattle.std.proofs.lemmas.Bool.{or_left}
@@ -10,17 +10,15 @@ use Rattle.cnf_base.specs.declared.step.Step.{Step}
 use Rattle.cnf_base.specs.declared.step.Step.TheVariants.{Add, Delete}
 use Rattle.cnf_base.specs.ProofText.{is_empty}
 use Rattle.lrat_text.specs.Steps.{Steps, no_more, overlong, no_step, next_step, steps}
-use Rattle.lrat_rules.specs.declared.outcome.Reason.{Reason}
-use Rattle.lrat_rules.specs.declared.outcome.Reason.TheVariants.{NoEmptyClause}
 use Rattle.lrat_rules.specs.State.{State, Live, clause_at, start, with_clause, without_clauses}
 use Rattle.lrat_rules.specs.Addition.{fault}
 use Rattle.lrat_rules.specs.Run.{step_fault, after_step, step_adds_empty}
-use Rattle.lrat_checker.specs.declared.verdict.Verdict.TheVariants.{Verified, Refused}
+use Rattle.lrat_checker.specs.declared.verdict.Verdict.TheVariants.{Verified}
 use Rattle.lrat_checker.specs.TextVerdict.{max_bytes, end_verdict, judged, steps_verdict, text_verdict}
 use Rattle.drat_text.specs.DratText.{DratStep, adds, deletes}
 use Rattle.drat_proof.specs.Drat.{deletion_of, deletions, drat_of_step, unless_fault, drat_of, drat_steps}
 use Rattle.drat_rules.specs.Addition.{drat_fault}
-use Rattle.drat_rules.specs.Run.{after, drat_step_fault, after_all, fault_or, first_fault, adds_empty, verdict_at, DratRefutes}
+use Rattle.drat_rules.specs.Run.{after, drat_step_fault, after_all, fault_or, first_fault, adds_empty, DratRefutes}
 use Rattle.drat_rules.specs.FromLrat.{HaveSame, IsListOf}
 
 -- good steps behind good steps
@@ -85,7 +83,6 @@ module _
     → IsListOf record { live = finmap.remove state.live id; top = state.top } (after clauses (deletes clause)))
     (passed_over : (state : State) (clauses : List (List ℤ)) (id : ℕ) → IsListOf state clauses → clause_at state.live id ≡ None
     → IsListOf record { live = finmap.remove state.live id; top = state.top } clauses) where
-
   deletions_follow : (state : State) (clauses : List (List ℤ)) (ids : List ℕ) → IsListOf state clauses
       → IsListOf record { live = without_clauses state.live ids; top = state.top } (after_all clauses (deletions state.live ids))
   deletions_follow state clauses [] l = l

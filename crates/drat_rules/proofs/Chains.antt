@@ -1,9 +1,9 @@
 -- A quiet set that has the literals which are false before a chain of hints has all that the hints make false, and the hints
 -- come to no conflict.
-use Rattle.std.proofs.Common.{◌≡◌, ℕ, true, false, cond, not, ℤ, neg_ℤ, List, [], ◌∷◌, None, Some, if◌then◌else◌, int_eq, refl, sym, ap, ◌∙◌, subst}
+use Rattle.std.proofs.Common.{◌≡◌, ℕ, true, false, ℤ, neg_ℤ, List, [], ◌∷◌, None, Some, if◌then◌else◌, int_eq, refl, ap, ◌∙◌}
 use Rattle.std.proofs.Common.{inl, inr}
 use Rattle.std.specs.List.{list_all}
-use Rattle.std.proofs.lemmas.Bool.{and_parts, or_cases}
+use Rattle.std.proofs.lemmas.Bool.{or_cases}
 use Rattle.lrat_rules.specs.declared.outcome.Effect.TheVariants.{Unit as Forced, NotUnit}
 use Rattle.lrat_rules.specs.State.{Live, clause_at}
 use Rattle.lrat_rules.specs.Chain.{FalseSet, with_literal, outside, effect_of_outside, Outcome, Open, Closed, Bad}

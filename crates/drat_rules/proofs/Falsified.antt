@@ -1,9 +1,11 @@
 -- The literals that an assignment makes false are a quiet set, where it satisfies the clauses and none of them has a 0. So a
 -- clause whose literals no quiet set has holds under it.
-use Rattle.std.proofs.Common.{◌≡◌, zero, suc, Bool, true, false, cond, not, ◌||◌, ◌&&◌, ℤ, pos, negsuc, neg_ℤ, List, [], ◌∷◌, int_eq, refl, sym, ap, ◌∙◌}
+use Rattle.std.proofs.Common.{◌≡◌, zero, suc, Bool, true, false, cond, not, ◌||◌, ◌&&◌, ℤ, pos, negsuc, neg_ℤ, List, [], ◌∷◌, int_eq}
+use Rattle.std.proofs.Common.{refl, sym, ap, ◌∙◌}
 use Rattle.std.proofs.Common.{if◌then◌else◌}
 use Rattle.std.specs.List.{list_all}
-use Rattle.std.proofs.lemmas.Bool.{and_parts, and_from, and_right, or_parts, or_from, or_left, or_right, not_from_false, not_from_true, both_ways}
+use Rattle.std.proofs.lemmas.Bool.{and_parts, and_from, and_right, or_parts, or_from, or_left, or_right, not_from_false, not_from_true}
+use Rattle.std.proofs.lemmas.Bool.{both_ways}
 use Rattle.cnf_base.specs.Truth.{Assignment, literal_holds, clause_holds, Satisfies}
 use Rattle.lrat_rules.specs.declared.outcome.Effect.TheVariants.{Unit as Forced, NotUnit}
 use Rattle.lrat_rules.specs.Chain.{FalseSet, outside, effect_of_outside}

@@ -127,18 +127,17 @@ find_value p (e ∷ es) s h =
     elim (or_cases (p e.1) _ h) [
       | inl here ↦ (e.0, e.1, ap (λ b. cond b (Some e.1) (find nat_cmp e.0 es)) (tied_itself e.0), here)
       | inr later ↦
-          let rest : (k : ℕ) × (c : List ℤ) × (find nat_cmp k es ≡ Some c) × (p c ≡ true) = find_value p es parts.1 later in
-          (
+          let rest : (k : ℕ) × (c : List ℤ) × (find nat_cmp k es ≡ Some c) × (p c ≡ true) = find_value p es parts.1 later in (
             rest.0,
             rest.1,
             elim (eq_by_cmp nat_cmp rest.0 e.0)
-            as (λ b. eq_by_cmp nat_cmp rest.0 e.0 ≡ b → cond b (Some e.1) (find nat_cmp rest.0 es) ≡ Some rest.1) [
-              | true ↦ λ t.
-                  let none : find nat_cmp rest.0 es ≡ None = ap (λ k. find nat_cmp k es) (tied rest.0 e.0 t) ∙ missed e.0 es parts.0 in
-                  let some : find nat_cmp rest.0 es ≡ Some rest.1 = rest.2 in
-                  cc
-              | false ↦ λ t. rest.2
-            ] refl,
+                as (λ b. eq_by_cmp nat_cmp rest.0 e.0 ≡ b → cond b (Some e.1) (find nat_cmp rest.0 es) ≡ Some rest.1) [
+                  | true ↦ λ t.
+                      let none : find nat_cmp rest.0 es ≡ None = ap (λ k. find nat_cmp k es) (tied rest.0 e.0 t) ∙ missed e.0 es parts.0 in
+                      let some : find nat_cmp rest.0 es ≡ Some rest.1 = rest.2 in
+                      cc
+                  | false ↦ λ t. rest.2
+                ] refl,
             rest.3,
           )
     ]

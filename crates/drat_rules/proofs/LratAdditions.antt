@@ -1,9 +1,10 @@
 -- A good LRAT addition is a good DRAT addition over a list with the same clauses.
-use Rattle.std.proofs.Common.{◌≡◌, ℕ, ◌<◌, Bool, true, false, not, ◌||◌, ℤ, neg_ℤ, List, [], ◌∷◌, ◌++◌, None, Some, if◌then◌else◌, int_eq, nat_le}
+use Rattle.std.proofs.Common.{◌≡◌, ℕ, ◌<◌, Bool, true, false, not, ◌||◌, ℤ, neg_ℤ, List, [], ◌∷◌, ◌++◌, None, Some, if◌then◌else◌, int_eq}
+use Rattle.std.proofs.Common.{nat_le}
 use Rattle.std.proofs.Common.{Option, refl, sym, ap, ◌∙◌, subst}
 use Rattle.std.specs.List.{list_any, list_all}
 use Rattle.std.specs.FinMap as finmap
-use Rattle.std.proofs.lemmas.Bool.{and_parts, and_from, or_left, or_right, not_from_false, false_from_ne_true}
+use Rattle.std.proofs.lemmas.Bool.{and_parts, and_from, not_from_false, false_from_ne_true}
 use Rattle.std.proofs.lemmas.List.Folds.{list_all-append}
 use Rattle.cnf_base.specs.declared.list.Group.{Group}
 use Rattle.lrat_rules.specs.declared.outcome.Reason.{Reason}
@@ -17,7 +18,7 @@ use Rattle.drat_rules.specs.Clauses.{same_list}
 use Rattle.drat_rules.specs.FromLrat.{HaveSame}
 use Rattle.drat_rules.proofs.Members.{at_member, literals_of-filter}
 use Rattle.drat_rules.proofs.QuietSets.{HasQuietSet, some_quiet}
-use Rattle.drat_rules.proofs.Counts.{all_clauses, same_list-true, eq-same_list, counted, found, at_clause}
+use Rattle.drat_rules.proofs.Counts.{all_clauses, same_list-true, counted, found, at_clause}
 use Rattle.drat_rules.proofs.LiveClauses.{among_values, value_at}
 use Rattle.drat_rules.proofs.Chains.{LiveClosed, EndsWithin, chain-within}
 use Rattle.drat_rules.proofs.Candidates.{HasOthers, Settles-candidate, not_settled}
@@ -83,7 +84,8 @@ module _ (live : Live) (clauses : List (List ℤ)) (same : HaveSame live clauses
 
 -- by the outcome of the hints, where a quiet set has the clause's literals
 by_outcome : (live : Live) (clauses : List (List ℤ)) → HaveSame live clauses → (clause : List ℤ) (hints : List ℕ) (groups : List Group)
-    (q : FalseSet) (o : Outcome) → EndsWithin q o → chain live (literals_of clause) hints ≡ o → fault_after_hints live clause groups o ≡ None
+    (q : FalseSet) (o : Outcome) → EndsWithin q o → chain live (literals_of clause) hints ≡ o
+    → fault_after_hints live clause groups o ≡ None
     → open_fault clauses clause ≡ None
 by_outcome live clauses same clause hints groups q (Bad reason) w is h = cc
 by_outcome live clauses same clause hints groups q Closed w is h = absurd w

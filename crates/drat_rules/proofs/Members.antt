@@ -90,6 +90,7 @@ in_negations (y ∷ ys) x m =
         or_right (int_eq (neg_ℤ x) y) _ (or_left _ _ (eq-int_eq (neg_ℤ x) (neg_ℤ y) (ap neg_ℤ (int_eq-true x y here)))),
       )
       | inr later ↦
-          let rest : (literals_of (with_negations ys) x ≡ true) × (literals_of (with_negations ys) (neg_ℤ x) ≡ true) = in_negations ys x later in
+          let rest : (literals_of (with_negations ys) x ≡ true) × (literals_of (with_negations ys) (neg_ℤ x) ≡ true) =
+          in_negations ys x later in
           (in_right (y ∷ neg_ℤ y ∷ []) (with_negations ys) x rest.0, in_right (y ∷ neg_ℤ y ∷ []) (with_negations ys) (neg_ℤ x) rest.1)
     ]

@@ -44,7 +44,8 @@ all_closed-agree m n [] agree h = h
 all_closed-agree m n (clause ∷ clauses) agree h =
     and_from _ _ (closed_under-agree m n clause (λ x at. agree x (in_left clause (flat_map (λ c. c) clauses) x at))
     ∙ (and_parts (closed_under n clause) _ h).0)
-    (all_closed-agree m n clauses (λ x at. agree x (in_right clause (flat_map (λ c. c) clauses) x at)) (and_parts (closed_under n clause) _ h).1)
+    (all_closed-agree m n clauses (λ x at. agree x (in_right clause (flat_map (λ c. c) clauses) x at))
+    (and_parts (closed_under n clause) _ h).1)
 
 -- the set that has the clause's literals, cut to those at hand
 module _ (clauses : List (List ℤ)) (clause : List ℤ) (n : FalseSet) where
@@ -121,5 +122,5 @@ pub has_quiet-none : (clauses : List (List ℤ)) (clause : List ℤ) → ((n : F
     → has_quiet clauses clause ≡ false
 has_quiet-none clauses clause none =
     false_from_ne_true _ (λ found.
-      let some = some_quiet clauses clause found in
-      none some.set some.quiet some.falsifies)
+    let some = some_quiet clauses clause found in
+    none some.set some.quiet some.falsifies)

@@ -80,7 +80,8 @@ steps-sound a place clauses [] m own good = record { assignment = a; model = m; 
 steps-sound a place clauses (step ∷ steps) m own good =
     let parts : (drat_step_fault clauses step ≡ None) × (first_fault (place + 1) (after clauses step) steps ≡ None) =
     fault_or-none place (drat_step_fault clauses step) _ good in
-    let zeros : (drat_step_has_no_zero step ≡ true) × (list_all drat_step_has_no_zero steps ≡ true) = and_parts (drat_step_has_no_zero step) _ own in
+    let zeros : (drat_step_has_no_zero step ≡ true) × (list_all drat_step_has_no_zero steps ≡ true) =
+    and_parts (drat_step_has_no_zero step) _ own in
     let next : (b : Assignment) × IsModel b (after clauses step) = step-sound a clauses step m zeros.0 parts.0 in
     let rest : Survives (after clauses step) steps = steps-sound next.0 (place + 1) (after clauses step) steps next.1 zeros.1 parts.1 in
     record {

@@ -92,7 +92,8 @@ pub HaveSame-deleted : (live : Live) (clauses : List (List ℤ)) (id : ℕ) (cla
     → clause_at live id ≡ Some clause → HaveSame (finmap.remove live id) (without_first clause clauses)
 HaveSame-deleted live clauses id clause same at = record {
   counts = λ other.
-      let old : count_of other (finmap.values live) ≡ one_if (same_list other clause) + count_of other (finmap.values (finmap.remove live id)) =
+      let old : count_of other (finmap.values live) ≡ one_if (same_list other clause)
+      + count_of other (finmap.values (finmap.remove live id)) =
       count-remove (same_list other) live id clause at in
       let taken : count_of other clauses ≡ one_if (same_list other clause) + count_of other (without_first clause clauses) =
       count-without_first other clause clauses (live_in_list live clauses same id clause at) in

@@ -24,6 +24,6 @@ pub fn addition_example()
     ensures blocked { drat_verdict ((negsuc 0 ∷ pos 3 ∷ []) ∷ (pos 3 ∷ pos 4 ∷ []) ∷ (pos 3 ∷ negsuc 3 ∷ []) ∷ [])
         (adds (pos 1 ∷ []) ∷ []) ≡ Some (2, NoEmptyClause) }
     ensures open { drat_verdict ((negsuc 0 ∷ pos 3 ∷ []) ∷ (pos 3 ∷ pos 4 ∷ []) ∷ []) (adds (pos 1 ∷ []) ∷ []) ≡ Some (1, CandidateOpen) }
-    ensures refuted { drat_verdict ((pos 1 ∷ pos 2 ∷ []) ∷ (pos 1 ∷ negsuc 1 ∷ []) ∷ (negsuc 0 ∷ pos 2 ∷ []) ∷ (negsuc 0 ∷ negsuc 1 ∷ []) ∷ [])
-        (adds (pos 1 ∷ []) ∷ adds [] ∷ []) ≡ None }
+    ensures refuted { drat_verdict ((pos 1 ∷ pos 2 ∷ []) ∷ (pos 1 ∷ negsuc 1 ∷ []) ∷ (negsuc 0 ∷ pos 2 ∷ [])
+        ∷ (negsuc 0 ∷ negsuc 1 ∷ []) ∷ []) (adds (pos 1 ∷ []) ∷ adds [] ∷ []) ≡ None }
 {}
