@@ -82,6 +82,7 @@ module _ (clauses : List (List ℤ)) (clause : List ℤ) (n : FalseSet) where
       (λ x at. (cut_agrees x (in_left clause (flat_map (λ c. c) clauses) x at)).0 ∙ at_member n clause has x at)
 
   pub has_quiet-some : IsQuiet clauses n → Falsifies n clause → has_quiet clauses clause ≡ true
+  unfolding has_quiet
   has_quiet-some q has =
       some_subset-filter n (λ literals. is_quiet clauses literals && list_all (literals_of literals) clause) (at_hand clauses clause)
       (and_from _ _ (cut_quiet q) (cut_has has))
@@ -103,6 +104,7 @@ IsQuiet-list clauses literals h =
 
 pub some_list : (clauses : List (List ℤ)) (clause : List ℤ) → has_quiet clauses clause ≡ true
     → (literals : List ℤ) × IsQuiet clauses (literals_of literals) × Falsifies (literals_of literals) clause
+unfolding has_quiet
 some_list clauses clause h =
     let found : (chosen : List ℤ) × ((is_quiet clauses chosen && list_all (literals_of chosen) clause) ≡ true) =
     chosen_subset (λ literals. is_quiet clauses literals && list_all (literals_of literals) clause) (at_hand clauses clause) h in

@@ -1,7 +1,8 @@
--- When an addition is good: propagation from its clause's negation comes to a conflict (reverse unit propagation, RUP), or
--- it does so for the resolvents of the clause, on its first literal, the pivot, with each clause that has the pivot's
--- negation (resolution asymmetric tautology, RAT). No hints are given. (Järvisalo, Heule, Biere: Inprocessing Rules, IJCAR
--- 2012; Wetzler, Heule, Hunt: DRAT-trim, SAT 2014.)
+-- When an addition is good: unit propagation from its clause's negation comes to a conflict (reverse unit propagation,
+-- RUP), or the clause has a first literal, the pivot, and propagation comes to a conflict from the negation of the clause
+-- together with each candidate, a clause that has the pivot's negation, this one left out (resolution asymmetric tautology,
+-- RAT). Whether it does is told by quiet sets; no hints are given. (Järvisalo, Heule, Biere: Inprocessing Rules, IJCAR 2012;
+-- Wetzler, Heule, Hunt: DRAT-trim, SAT 2014.)
 use Rattle.std.specs.Prelude.{Bool, not, ◌||◌, ℤ, neg_ℤ, List, [], ◌∷◌, ◌++◌, Option, None, Some, if◌then◌else◌}
 use Rattle.std.specs.List.{filter, list_all}
 use Rattle.std.specs.Ordering.{int_eq}
@@ -14,12 +15,12 @@ use Rattle.drat_rules.specs.Quiet.{has_quiet}
 abbrev pub others_of : ℤ → List ℤ → List ℤ
 others_of pivot clause = filter (λ x. not (int_eq x (neg_ℤ pivot))) clause
 
--- this one has no negated pivot, or propagation from the resolvent's negation comes to a conflict
+-- this one is no candidate, or no quiet set has its other literals and those of the clause
 abbrev pub passes_candidate : List (List ℤ) → ℤ → List ℤ → List ℤ → Bool
 passes_candidate clauses pivot clause other =
     not (holds_negated pivot other) || not (has_quiet clauses (clause ++ others_of pivot other))
 
--- where propagation from the clause's own negation comes to no conflict
+-- where some quiet set has the clause's own literals
 abbrev pub open_fault : List (List ℤ) → List ℤ → Option Reason
 open_fault clauses [] = Some NoConflict
 open_fault clauses (pivot ∷ others) =

@@ -1,8 +1,8 @@
--- Which clauses unit propagation refutes the negation of, told without propagation: by the sets of false literals that
--- propagation can end in. Such a set is quiet: it has no literal beside its negation, no clause is false under it, and
--- where a clause has a single literal that isn't false, the negation of this one is false already. Propagation from a
--- clause's negation comes to a conflict exactly where no quiet set has the clause's literals. (Reverse unit propagation:
--- Wetzler, Heule, Hunt: DRAT-trim, SAT 2014.)
+-- Whether unit propagation from a clause's negation comes to a conflict, told without propagation: by the sets of false
+-- literals at which propagation ends without one. Such a set is quiet: it has no literal beside its negation, no clause is
+-- false under it, and where a clause has a single literal that isn't false, the negation of this one is in the set.
+-- Propagation comes to a conflict where no quiet set has the clause's literals. (Reverse unit propagation: Wetzler, Heule,
+-- Hunt: DRAT-trim, SAT 2014.)
 use Rattle.std.specs.Prelude.{◌≡◌, Bool, true, false, not, ◌||◌, ◌&&◌, ℤ, neg_ℤ, List, [], ◌∷◌, IsTrue, if◌then◌else◌}
 use Rattle.std.specs.List.{list_all, flat_map}
 use Rattle.lrat_rules.specs.declared.outcome.Effect.{Effect}
@@ -59,7 +59,7 @@ abbrev pub some_subset : (List ℤ → Bool) → List ℤ → Bool
 some_subset test [] = test []
 some_subset test (literal ∷ literals) = some_subset test literals || some_subset (λ chosen. test (literal ∷ chosen)) literals
 
--- some quiet set has all literals of the clause
-abbrev pub has_quiet : List (List ℤ) → List ℤ → Bool
+-- Some quiet set has all literals of the clause. (Proofs go by `quiet_law`; only examples compute it.)
+unfoldable pub has_quiet : List (List ℤ) → List ℤ → Bool
 has_quiet clauses clause =
     some_subset (λ literals. is_quiet clauses literals && list_all (literals_of literals) clause) (at_hand clauses clause)

@@ -6,6 +6,7 @@ ghost use Rattle.drat_rules.specs.Run.{drat_verdict};
 
 /// A deletion takes out one clause, by its list of literals: a unit clause too, one of two copies, and none where the literals
 /// stand in another order or are repeated.
+#[tactic(auto, unfolding(crate::specs::Quiet::has_quiet))]
 pub fn deletion_example()
     ensures one_copy { drat_verdict ((pos 1 ∷ []) ∷ (pos 1 ∷ []) ∷ (negsuc 0 ∷ []) ∷ []) (deletes (pos 1 ∷ []) ∷ adds [] ∷ []) ≡ None }
     ensures both_copies { drat_verdict ((pos 1 ∷ []) ∷ (pos 1 ∷ []) ∷ (negsuc 0 ∷ []) ∷ [])
@@ -18,6 +19,7 @@ pub fn deletion_example()
 
 /// An addition is good where propagation comes to a conflict, for the clause or for each candidate of its first literal: here a
 /// candidate that is blocked only by what is propagated.
+#[tactic(auto, unfolding(crate::specs::Quiet::has_quiet))]
 pub fn addition_example()
     ensures pivot_first { drat_verdict ((negsuc 0 ∷ pos 2 ∷ []) ∷ []) (adds (pos 2 ∷ pos 1 ∷ []) ∷ []) ≡ Some (2, NoEmptyClause) }
     ensures other_pivot { drat_verdict ((negsuc 0 ∷ pos 2 ∷ []) ∷ []) (adds (pos 1 ∷ pos 2 ∷ []) ∷ []) ≡ Some (1, CandidateOpen) }
