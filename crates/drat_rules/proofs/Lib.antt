@@ -1,0 +1,13 @@
+pub mod Members
+pub mod Subsets
+pub mod QuietSets
+pub mod Falsified
+pub mod Resolvents
+pub mod SoundSteps
+pub mod Counts
+pub mod LiveClauses
+pub mod Propagation
+pub mod Chains
+pub mod Candidates
+pub mod LratAdditions
+pub mod States

@@ -1,0 +1,6 @@
+pub mod Clauses
+pub mod Quiet
+pub mod Addition
+pub mod Run
+pub mod Soundness
+pub mod FromLrat
