@@ -11,3 +11,4 @@ pub mod Chains
 pub mod Candidates
 pub mod LratAdditions
 pub mod States
+pub mod DratAdditions

@@ -1,12 +1,15 @@
 // Laws of the rules, over everything: functions without work, whose clauses the crates above cite by a call.
-ghost use Rattle.std.specs.Prelude.{◌≡◌, ℕ, ℤ, neg_ℤ, List, None, Some, IsTrue, true, false};
+ghost use Rattle.std.specs.Prelude.{◌≡◌, ℕ, ℤ, neg_ℤ, List, [], ◌∷◌, ◌++◌, None, Some, IsTrue, true, false};
 ghost use Rattle.std.specs.FinMap as map;
 ghost use Rattle.drat_text.specs.DratText.{adds, deletes};
 ghost use Rattle.lrat_rules.specs.declared.outcome.Effect.TheVariants.{Conflict, Unit as Forced};
+ghost use Rattle.lrat_rules.specs.declared.outcome.Reason.TheVariants.{NoConflict, CandidateOpen};
 ghost use Rattle.lrat_rules.specs.State.{Live, clause_at, start, with_clause};
 ghost use Rattle.lrat_rules.specs.Chain.{FalseSet, literals_of, effect};
+ghost use Rattle.lrat_rules.specs.Addition.{holds_negated};
 ghost use Rattle.drat_rules.specs.Clauses.{is_among};
 ghost use Rattle.drat_rules.specs.Quiet.{closed_under, IsQuiet, Includes, Falsifies, has_quiet};
+ghost use Rattle.drat_rules.specs.Addition.{others_of, drat_fault};
 ghost use Rattle.drat_rules.specs.Run.{after};
 ghost use Rattle.drat_rules.specs.FromLrat.{HaveSame};
 
@@ -30,6 +33,21 @@ pub fn propagation_law()
         → IsTrue (is_among clauses clause) → effect begun clause ≡ Conflict → ⊥ }
     ensures ends { (clauses : List (List ℤ)) (n : FalseSet) → ((x : ℤ) → n x ≡ true → n (neg_ℤ x) ≡ false)
         → ((clause : List ℤ) → IsTrue (is_among clauses clause) → IsTrue (closed_under n clause)) → IsQuiet clauses n }
+{}
+
+/// The fault of an addition where clauses have numbers: by what propagation tells of the clause, and of each candidate.
+pub fn drat_addition_law()
+    ensures refuted { (clauses : List (List ℤ)) (clause : List ℤ) → has_quiet clauses clause ≡ false → drat_fault clauses clause ≡ None }
+    ensures empty { (clauses : List (List ℤ)) → has_quiet clauses [] ≡ true → drat_fault clauses [] ≡ Some NoConflict }
+    ensures resolved { (live : Live) (clauses : List (List ℤ)) (pivot : ℤ) (others : List ℤ) → HaveSame live clauses
+        → ((id : ℕ) (other : List ℤ) → clause_at live id ≡ Some other → IsTrue (holds_negated pivot other)
+        → has_quiet clauses ((pivot ∷ others) ++ others_of pivot other) ≡ false)
+        → drat_fault clauses (pivot ∷ others) ≡ None }
+    // One candidate that stays open is enough, whatever is known of the clause itself.
+    ensures open { (live : Live) (clauses : List (List ℤ)) (pivot : ℤ) (others : List ℤ) (id : ℕ) (other : List ℤ)
+        → HaveSame live clauses → clause_at live id ≡ Some other → IsTrue (holds_negated pivot other)
+        → has_quiet clauses ((pivot ∷ others) ++ others_of pivot other) ≡ true
+        → drat_fault clauses (pivot ∷ others) ≡ Some CandidateOpen }
 {}
 
 /// Clauses with numbers that are the same as those of a list: what stands in either stands in the other, and they stay the

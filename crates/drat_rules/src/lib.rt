@@ -10,5 +10,5 @@ mod soundness;
 
 pub use examples::{addition_example, deletion_example};
 pub use from_lrat::from_lrat_law;
-pub use laws::{propagation_law, quiet_law, same_clauses_law};
+pub use laws::{drat_addition_law, propagation_law, quiet_law, same_clauses_law};
 pub use soundness::drat_soundness_law;
