@@ -156,8 +156,8 @@ module _ {Draft Step : Type 0} (form : Form Draft Step) where
   before_spends r word old new s begun differs small more =
       rw (begun, differs) (settled_spends r (form.of_word word) old new s more (near_ahead form old.scan (form.of_word word) more small))
 
-none_near : {Step : Type 0} (more : ℕ) → is_near {Step = Step} more no_further ≡ true
-none_near more = grind (arith, nat_tests)
+none_near : (Step : Type 0) (more : ℕ) → is_near {Step = Step} more no_further ≡ true
+none_near Step more = grind (arith, nat_tests)
 
 module _ {Draft Step : Type 0} (form : Form Draft Step) (closed : form.is_begun form.no_draft ≡ false) where
   -- at the end
@@ -169,7 +169,7 @@ module _ {Draft Step : Type 0} (form : Form Draft Step) (closed : form.is_begun 
       elim (form.is_begun old.draft) as (λ b. form.is_begun old.draft ≡ b → Spends r (length more) (wants_after form (the_end old.scan.line) old.draft)
       (wants_ahead form new more)) [
         | true ↦ λ h.
-            let near : is_near (length more) (wants_after form (ahead old.scan more) form.no_draft) ≡ true = rw (ended, closed) (none_near (length more)) in
+            let near : is_near (length more) (wants_after form (ahead old.scan more) form.no_draft) ≡ true = rw (ended, closed) (none_near Step (length more)) in
             let spends = settled_spends form r form.no_draft old new (last h) more near in
             rw h (rw (ended, closed) at spends)
         | false ↦ λ h. rw (none h) tt
@@ -190,7 +190,7 @@ module _ {Draft Step : Type 0} (form : Form Draft Step) (closed : form.is_begun 
       (wants_ahead form new more)) [
         | true ↦ λ h.
             let both : (form.is_begun old.draft ≡ true) × (nat_lt (form.line old.draft) old.scan.line ≡ true) = and_parts _ _ h in
-            let near : is_near (length more) (wants_after form (ahead old.scan more) form.no_draft) ≡ true = rw none (none_near (length more)) in
+            let near : is_near (length more) (wants_after form (ahead old.scan more) form.no_draft) ≡ true = rw none (none_near Step (length more)) in
             rw (both.0, both.1) (subst (λ w. Spends r (length more) (spelled_then (form.judged old.draft) w) (wants_ahead form new more)) none
             (settled_spends form r form.no_draft old new (last h) more near))
         | false ↦ λ h. rw (over h) tt
