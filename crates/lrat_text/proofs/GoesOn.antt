@@ -1,6 +1,6 @@
 -- Numbers that are taken from the scanner at once say what their tokens say.
-use Rattle.std.proofs.Common.{◌≡◌, ℕ, suc, ◌≤◌, Bool, true, false, ℤ, pos, negsuc, w64, to_z, of_z, List, ◌++◌}
-use Rattle.std.proofs.Common.{◌==◌, if◌then◌else◌, refl, sym, ◌∙◌, ap, subst, arith}
+use Rattle.std.proofs.Common.{◌≡◌, ℕ, ◌≤◌, Bool, true, false, ℤ, pos, negsuc, w64, to_z, of_z, List, ◌++◌}
+use Rattle.std.proofs.Common.{◌==◌, if◌then◌else◌, sym, ◌∙◌, ap, subst, arith}
 use Rattle.std.specs.Prelude.{◌+◌, IsTrue, length, nat_abs}
 use Rattle.std.proofs.lemmas.Bool.Decides.{nat_tests}
 use Rattle.std.proofs.lemmas.Int.{to_z-of_z}

@@ -1,5 +1,5 @@
 -- The draft of an LRAT line says what its tokens say.
-use Rattle.std.proofs.Common.{◌≡◌, ℕ, zero, suc, ◌≤◌, Bool, true, false, ℤ, pos, negsuc, List, [], ◌∷◌, map, take, Option, Some, None}
+use Rattle.std.proofs.Common.{◌≡◌, ℕ, zero, suc, ◌≤◌, true, false, ℤ, pos, negsuc, List, [], ◌∷◌, map, take, Option, Some, None}
 use Rattle.std.proofs.Common.{◌==◌, if◌then◌else◌, refl, ◌∙◌, ap, arith}
 use Rattle.std.specs.Prelude.{nat_abs, min, is_some}
 use Rattle.std.specs.Option.{option_map, option_and_then}

@@ -11,7 +11,7 @@ use Rattle.std.proofs.lemmas.List.Sums.{sum_by-cons}
 use Rattle.cnf_base.specs.Text.{is_line_end, is_blank, begin_with, begins_with, pieces, Row, rows, rows_from, row_of, words_of, words_of_row}
 use Rattle.cnf_base.specs.Text.{line_ends, end_line, tokens}
 use Rattle.text_scan.specs.Items.{the_end, too_long, words_then, kept, ended_part}
-use Rattle.lrat_text.specs.LineSteps.{Spelling, StepsOf, no_more as at_the_end, overlong, rows_then, steps_of, steps_by, is_before, rows_within}
+use Rattle.lrat_text.specs.LineSteps.{Spelling, no_more as at_the_end, overlong, rows_then, steps_of, steps_by, is_before, rows_within}
 use Rattle.lrat_text.specs.LineSteps.{AreFirst}
 use Rattle.lrat_text.proofs.Lines.{at_end, at_limit, joined, lines_closed}
 

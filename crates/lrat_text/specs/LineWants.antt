@@ -1,6 +1,6 @@
 -- For what a reader of a proof may want memory, in the order of the text: for each number that it keeps of a line, and for the step of
 -- a line that is ended. Of a line whose tokens so far aren't all numbers nothing is kept, nor behind a line that spells no step.
-use Rattle.std.specs.Prelude.{◌≡◌, ℕ, ◌+◌, Bool, true, false, ◌||◌, List, Option, None, Some, Ok, Err, ⊤, IsTrue}
+use Rattle.std.specs.Prelude.{◌≡◌, ℕ, ◌+◌, Bool, false, ◌||◌, List, Option, None, Some, Ok, Err, ⊤, IsTrue}
 use Rattle.std.specs.Prelude.{nat_lt, nat_le, ◌==◌, if◌then◌else◌}
 use Rattle.text_scan.specs.Items.{Items, the_end, too_long, next_word, items}
 use Rattle.text_scan.specs.Scan.{block_size, ahead}

@@ -272,7 +272,11 @@ impl<F: LineForm> LineReader<F> {
     }
 
     // The same where the scanner has given the number of that token.
-    fn give_before_number(&mut self, number: i64, step: &mut F::Step) -> Result<Option<u64>, StepError>
+    fn give_before_number(
+        &mut self,
+        number: i64,
+        step: &mut F::Step,
+    ) -> Result<Option<u64>, StepError>
         requires { self.old.status ≡ Reading }
         ensures { Settles F.form (given step.new result) (F.form.of_number self.old.scan.line number) self.old self.new }
     {

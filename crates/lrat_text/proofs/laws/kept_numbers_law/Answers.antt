@@ -1,5 +1,4 @@
 -- Numbers that are cut, list by list.
-use Rattle.std.proofs.Common.{refl}
 use Rattle.cnf_base.specs.Number.{signed_number}
 use Rattle.cnf_base.specs.Truth.{is_literal_of}
 use Rattle.cnf_base.specs.ProofText.{max_literal, is_zero}
