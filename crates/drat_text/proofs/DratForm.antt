@@ -1,13 +1,12 @@
 -- The draft of a DRAT line says what its tokens say.
 use Rattle.std.proofs.Common.{◌≡◌, ℕ, ◌≤◌, Bool, true, false, ◌&&◌, ℤ, List, [], ◌∷◌, ◌++◌, map, take, Option, Some, None, option_map}
-use Rattle.std.proofs.Common.{option_and_then, nat_abs, if◌then◌else◌, refl, sym, ◌∙◌, ap, arith}
+use Rattle.std.proofs.Common.{option_and_then, nat_abs, if◌then◌else◌, refl, ◌∙◌, ap}
 use Rattle.std.specs.Prelude.{is_some}
 use Rattle.std.specs.List.{list_all}
-use Rattle.std.proofs.lemmas.Bool.{and_parts}
 use Rattle.cnf_base.specs.Number.{signed_number}
 use Rattle.cnf_base.specs.Truth.{is_literal_of}
 use Rattle.cnf_base.specs.Text.{Word}
-use Rattle.cnf_base.specs.ProofText.{max_literal, all_given, in_front, split_at, is_empty, is_zero, given_if, is_delete_word}
+use Rattle.cnf_base.specs.ProofText.{max_literal, all_given, split_at, is_empty, is_zero, given_if, is_delete_word}
 use Rattle.text_scan.specs.Items.{kept}
 use Rattle.text_scan.specs.Capped.{cap, capped_ℤ}
 use Rattle.lrat_text.specs.Form.{IsForm}
@@ -24,11 +23,11 @@ pub keeps_last : (numbers : List ℤ) (number : ℤ) → keeps_number (Some (num
 keeps_last [] number = refl
 keeps_last (first ∷ numbers) number = refl
 
-pub numbers-push : (kind : DratKind) (first : ℤ) (numbers : List ℤ) (number : ℤ) → all_numbers kind first (numbers ++ number ∷ [])
+pub numbers_push : (kind : DratKind) (first : ℤ) (numbers : List ℤ) (number : ℤ) → all_numbers kind first (numbers ++ number ∷ [])
     ≡ all_numbers kind first numbers ++ number ∷ []
-numbers-push Empty first numbers number = refl
-numbers-push Adds first numbers number = refl
-numbers-push Deletes first numbers number = refl
+numbers_push Empty first numbers number = refl
+numbers_push Adds first numbers number = refl
+numbers_push Deletes first numbers number = refl
 
 -- what is known of numbers that are cut, and of what is kept of a token
 pub record IsCut : Type 0 where
@@ -59,13 +58,13 @@ all_given-push f (next ∷ words) word = elim (f next) as (λ x. all_given (x �
 
 -- the draft of the tokens of a line
 abbrev kind_of : Bool → DratKind
-kind_of deletes = if deletes then Deletes else Adds
+kind_of deleted = if deleted then Deletes else Adds
 
 abbrev numbers_of : Bool → List ℕ → List (List ℕ) → Option (List ℤ)
-numbers_of deletes first words = if deletes then all_given (map signed_word words) else all_given (map signed_word (first ∷ words))
+numbers_of deleted first words = if deleted then all_given (map signed_word words) else all_given (map signed_word (first ∷ words))
 
 abbrev draft_by : Bool → ℕ → List ℕ → List (List ℕ) → DratDraft
-draft_by deletes line first words = draft_on line (kind_of deletes) (numbers_of deletes first words)
+draft_by deleted line first words = draft_on line (kind_of deleted) (numbers_of deleted first words)
 
 abbrev draft_of : ℕ → List ℕ → List (List ℕ) → DratDraft
 draft_of line first words = draft_by (is_delete_word first) line first words
@@ -171,35 +170,3 @@ module _ (cut : IsCut) where
     later_number = later_number_is;
     stays_begun = λ draft number is. is;
   }
-
--- The clause of an addition, of which the first number is kept apart.
-pub clause_from-cons : (first : ℤ) (rest : List ℤ) → is_zero first ≡ false → clause_from (first ∷ rest)
-    ≡ option_and_then (λ xs. given_if (is_literal_of max_literal first) (first ∷ xs)) (clause_from rest)
-clause_from-cons first rest other =
-    rw other (elim (split_at is_zero rest) as (λ (p : Option (List ℤ × List ℤ)). option_and_then clause_with (option_map (in_front first) p)
-    ≡ option_and_then (λ xs. given_if (is_literal_of max_literal first) (first ∷ xs)) (option_and_then clause_with p)) [
-      | None ↦ refl
-      | Some (literals, more) ↦ elim (list_all (is_literal_of max_literal) literals) as (λ b.
-          given_if ((is_literal_of max_literal first && b) && is_empty more) (first ∷ literals)
-          ≡ option_and_then (λ xs. given_if (is_literal_of max_literal first) (first ∷ xs)) (given_if (b && is_empty more) literals)) [
-            | true ↦ elim (is_literal_of max_literal first) as (λ a. given_if ((a && true) && is_empty more) (first ∷ literals)
-                ≡ option_and_then (λ xs. given_if a (first ∷ xs)) (given_if (true && is_empty more) literals)) [
-                  | true ↦ elim (is_empty more) as (λ c. given_if ((true && true) && c) (first ∷ literals)
-                      ≡ option_and_then (λ xs. given_if true (first ∷ xs)) (given_if (true && c) literals)) [ true ↦ refl | false ↦ refl ]
-                  | false ↦ elim (is_empty more) as (λ c. given_if ((false && true) && c) (first ∷ literals)
-                      ≡ option_and_then (λ xs. given_if false (first ∷ xs)) (given_if (true && c) literals)) [ true ↦ refl | false ↦ refl ]
-                ]
-            | false ↦ elim (is_literal_of max_literal first) as (λ a. given_if ((a && false) && is_empty more) (first ∷ literals)
-                ≡ None) [ true ↦ refl | false ↦ refl ]
-          ]
-    ])
-
--- what is said where those behind it end by a zero, or don't
-pub cons_none : (first : ℤ) (rest : List ℤ) → is_zero first ≡ false → clause_from rest ≡ None → clause_from (first ∷ rest) ≡ None
-cons_none first rest other none = clause_from-cons first rest other
-    ∙ ap (option_and_then (λ xs. given_if (is_literal_of max_literal first) (first ∷ xs))) none
-
-pub cons_some : (first : ℤ) (rest literals : List ℤ) → is_zero first ≡ false → clause_from rest ≡ Some literals → clause_from (first ∷ rest)
-    ≡ given_if (is_literal_of max_literal first) (first ∷ literals)
-cons_some first rest literals other some = clause_from-cons first rest other
-    ∙ ap (option_and_then (λ xs. given_if (is_literal_of max_literal first) (first ∷ xs))) some

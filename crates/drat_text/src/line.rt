@@ -151,7 +151,7 @@ impl LineForm for DratLine {
 
 impl DratLine {
     // One number more, unless a token was none. Mostly there is room for it.
-    #[tactic(auto, using(crate::proofs::DratForm::numbers-push, crate::proofs::DratForm::keeps_last))]
+    #[tactic(auto, using(crate::proofs::DratForm::numbers_push, crate::proofs::DratForm::keeps_last))]
     #[inline(always)]
     fn put_number(&mut self, number: i64) -> Result<(), OutOfMemory>
         ensures ok { OnOk result (self.new ≡ drat_with self.old (Some number)) }
