@@ -1,1 +1,4 @@
 pub mod Lines
+pub mod DratForm
+pub mod ReadBack
+pub mod DratLines

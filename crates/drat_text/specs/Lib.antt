@@ -1,2 +1,4 @@
 pub mod DratText
 pub mod LineText
+pub mod Draft
+pub mod DratSteps

@@ -9,7 +9,7 @@ use Rattle.cnf_base.specs.Truth.{is_literal_of}
 use Rattle.cnf_base.specs.ProofText.{max_id, max_literal, is_id, is_hint, all_given, in_front, split_at, is_empty, is_zero, given_if}
 use Rattle.cnf_base.specs.ProofText.{hints_before_group, groups_of, addition_of, addition_from, deletion_of}
 use Rattle.text_scan.specs.Capped.{capped, capped_ℤ}
-use Rattle.lrat_text.specs.Numbers.{positive, deletion_with, deletion_from, addition_by}
+use Rattle.lrat_text.specs.Numbers.{both, positive, deletion_with, deletion_from, addition_by}
 
 -- Lists under a map.
 pub all_given-map : {W X Y : Type 0} (c : X → Y) (f : W → Option X) (ws : List W) → all_given (map (λ w. option_map c (f w)) ws)
@@ -23,9 +23,6 @@ all_given-map {W} {X} {Y} c f (w ∷ ws) = elim (f w) as (λ x. all_given (optio
           ≡ option_map (map c) (option_map (λ ys. x ∷ ys) xs)) [ None ↦ refl | Some xs ↦ refl ]
     ]
 
-abbrev both : {X Y : Type 0} → (X → Y) → List X × List X → List Y × List Y
-both c (before, after) = (map c before, map c after)
-
 pub split_at-map : {X Y : Type 0} (c : X → Y) (t : X → Bool) (u : Y → Bool) → ((x : X) → u (c x) ≡ t x) → (xs : List X)
     → split_at u (map c xs) ≡ option_map (both c) (split_at t xs)
 split_at-map c t u same [] = refl
@@ -38,7 +35,7 @@ split_at-map {X} {Y} c t u same (x ∷ xs) =
           ≡ option_map (both c) (option_map (in_front x) p)) [ None ↦ refl | Some (before, after) ↦ refl ]
     ])
 
-list_all-under : {X Y : Type 0} (c : X → Y) (t : X → Bool) (u : Y → Bool) → ((x : X) → u (c x) ≡ t x) → (xs : List X)
+pub list_all-under : {X Y : Type 0} (c : X → Y) (t : X → Bool) (u : Y → Bool) → ((x : X) → u (c x) ≡ t x) → (xs : List X)
     → list_all u (map c xs) ≡ list_all t xs
 list_all-under c t u same [] = refl
 list_all-under c t u same (x ∷ xs) = rw (same x, list_all-under c t u same xs) refl
@@ -47,7 +44,7 @@ is_empty-map : {X Y : Type 0} (c : X → Y) (xs : List X) → is_empty (map c xs
 is_empty-map c [] = refl
 is_empty-map c (x ∷ xs) = refl
 
-map_same : {X : Type 0} (c : X → X) (t : X → Bool) → ((x : X) → t x ≡ true → c x ≡ x) → (xs : List X) → list_all t xs ≡ true → map c xs ≡ xs
+pub map_same : {X : Type 0} (c : X → X) (t : X → Bool) → ((x : X) → t x ≡ true → c x ≡ x) → (xs : List X) → list_all t xs ≡ true → map c xs ≡ xs
 map_same c t same [] all = refl
 map_same c t same (x ∷ xs) all =
     let parts = and_parts (t x) (list_all t xs) all in
@@ -91,10 +88,10 @@ nat_abs-capped (negsuc n) = nat_abs-neg (capped (suc n))
 is_hint-capped : (z : ℤ) → is_hint (capped_ℤ z) ≡ is_hint z
 is_hint-capped z = ap is_id (nat_abs-capped z) ∙ is_id-capped (nat_abs z)
 
-is_zero-capped : (z : ℤ) → is_zero (capped_ℤ z) ≡ is_zero z
+pub is_zero-capped : (z : ℤ) → is_zero (capped_ℤ z) ≡ is_zero z
 is_zero-capped z = ap (λ n. n == 0) (nat_abs-capped z) ∙ sym (capped_zero (nat_abs z))
 
-is_literal-capped : (z : ℤ) → is_literal_of max_literal (capped_ℤ z) ≡ is_literal_of max_literal z
+pub is_literal-capped : (z : ℤ) → is_literal_of max_literal (capped_ℤ z) ≡ is_literal_of max_literal z
 is_literal-capped z = ap (λ n. nat_lt 0 n && nat_le n max_literal) (nat_abs-capped z)
     ∙ rw (← capped_above (nat_abs z), ← capped_literal (nat_abs z)) refl
 
@@ -111,7 +108,7 @@ hint_same z hint = capped_ℤ-small z (and_parts (nat_lt 0 (nat_abs z)) (nat_le 
 literal_fits : (n : ℕ) → nat_le n max_literal ≡ true → nat_le n max_id ≡ true
 literal_fits n small = grind (arith, nat_tests)
 
-literal_same : (z : ℤ) → is_literal_of max_literal z ≡ true → capped_ℤ z ≡ z
+pub literal_same : (z : ℤ) → is_literal_of max_literal z ≡ true → capped_ℤ z ≡ z
 literal_same z literal = capped_ℤ-small z (literal_fits (nat_abs z)
     (and_parts (nat_lt 0 (nat_abs z)) (nat_le (nat_abs z) max_literal) literal).1)
 

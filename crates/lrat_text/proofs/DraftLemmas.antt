@@ -1,17 +1,15 @@
 -- The draft of a line says which step its tokens spell.
 use Rattle.std.proofs.Common.{◌≡◌, ℕ, true, false, List, [], ◌∷◌, ◌++◌, map, ℤ, Option, Some, None, option_map, option_and_then, ◌==◌}
-use Rattle.std.proofs.Common.{if◌then◌else◌, refl, sym, ◌∙◌, ap}
+use Rattle.std.proofs.Common.{if◌then◌else◌, refl, ◌∙◌, ap}
 use Rattle.cnf_base.specs.Number.{plain_number, signed_number}
 use Rattle.cnf_base.specs.Text.{Word}
 use Rattle.cnf_base.specs.ProofText.{all_given, split_at, is_zero, addition_from, deletion_of, is_delete_word, step_with, step_of}
-use Rattle.text_scan.specs.Items.{Items, the_end, too_long, next_word}
 use Rattle.lrat_text.specs.declared.draft.Kind.{Kind}
 use Rattle.lrat_text.specs.declared.draft.Kind.TheVariants.{Empty, Begun, Adds, Deletes}
 use Rattle.text_scan.specs.Capped.{capped, capped_ℤ}
 use Rattle.lrat_text.specs.Numbers.{positive, signed_word, plain_word, deletion_from, addition_by}
-use Rattle.lrat_text.specs.Steps.{step_then, steps_after, steps_of, row_of_word}
-use Rattle.lrat_text.specs.Draft.{DraftLine, no_draft, behind, draft_from, draft_of_word, with_given, draft_with, judged, judged_in}
-use Rattle.lrat_text.specs.Draft.{is_open, is_open_kind, drafted}
+use Rattle.lrat_text.specs.Draft.{DraftLine, behind, draft_from, with_given, draft_with, judged, judged_in, is_open, is_open_kind}
+use Rattle.lrat_text.specs.Draft.{keeps_number}
 use Rattle.lrat_text.proofs.Cut.{all_given-map, addition_by-capped, deletion_from-capped}
 
 -- the draft of the tokens of a line
@@ -84,7 +82,7 @@ draft_of-open line first [] = refl
 draft_of-open line first (next ∷ words) = elim (is_delete_word next) as (λ b. is_open_kind (if b then Deletes else Adds)
     ≡ true) [ true ↦ refl | false ↦ refl ]
 
-draft_of-line : (line : ℕ) (first : List ℕ) (words : List (List ℕ)) → (draft_of line (first ∷ words)).line ≡ line
+pub draft_of-line : (line : ℕ) (first : List ℕ) (words : List (List ℕ)) → (draft_of line (first ∷ words)).line ≡ line
 draft_of-line line first [] = refl
 draft_of-line line first (next ∷ words) = refl
 
@@ -128,38 +126,7 @@ judged-is line first (next ∷ words) = elim (plain_number first) as
           ]
     ]
 
-drafted-open : (draft : DraftLine) (word : Word) (items : Items) → is_open draft ≡ true →
-    drafted (next_word word items) draft
-    ≡ (if draft.line == word.line then drafted items (draft_with draft word) else step_then (judged draft) draft.line
-    (drafted items (draft_of_word word)))
-drafted-open draft word items begun = rw begun refl
-
--- the steps by drafts are those by lines
-pub drafted-is : (items : Items) (line : ℕ) (first : List ℕ) (words : List (List ℕ))
-    → steps_after items (record { line = line; words = first ∷ words }) ≡ drafted items (draft_of line (first ∷ words))
-drafted-is (the_end at) line first words = rw (
-  draft_of-open line first words,
-  draft_of-line line first words,
-  judged-is line first words,
-) refl
-drafted-is (too_long at) line first words = rw (
-  draft_of-open line first words,
-  draft_of-line line first words,
-  judged-is line first words,
-) refl
-drafted-is (next_word word items) line first words =
-    let draft : DraftLine = draft_of line (first ∷ words) in
-    ap (λ s. if line == word.line then s else step_then (step_of (first ∷ words)) line (steps_after items (row_of_word word)))
-    (drafted-is items line first (words ++ word.bytes ∷ []) ∙ ap (drafted items) (draft_of-push line first words word))
-    ∙ ap (λ s. if line == word.line then drafted items (draft_with draft word) else step_then (step_of (first ∷ words)) line s)
-    (drafted-is items word.line word.bytes [])
-    ∙ ap (λ j. if line == word.line then drafted items (draft_with draft word) else step_then j line (drafted items (draft_of_word word)))
-    (sym (judged-is line first words))
-    ∙ ap (λ n. if n == word.line then drafted items (draft_with draft word) else step_then (judged draft) n
-    (drafted items (draft_of_word word))) (sym (draft_of-line line first words))
-    ∙ sym (drafted-open draft word items (draft_of-open line first words))
-
-pub drafted-start : (items : Items) → steps_of items ≡ drafted items no_draft
-drafted-start (the_end at) = refl
-drafted-start (too_long at) = refl
-drafted-start (next_word word items) = drafted-is items word.line word.bytes []
+-- the last number of a list is kept
+pub keeps_last : (numbers : List ℤ) (number : ℤ) → keeps_number (Some (numbers ++ number ∷ [])) ≡ true
+keeps_last [] number = refl
+keeps_last (first ∷ numbers) number = refl

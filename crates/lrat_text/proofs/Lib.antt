@@ -1,6 +1,9 @@
 pub mod Cut
 pub mod DraftLemmas
+pub mod LratForm
+pub mod LratLines
 pub mod Zero
+pub mod Drafted
 pub mod Lines
 pub mod Overlong
 pub mod Wanted

@@ -8,12 +8,12 @@ use Rattle.std.proofs.lemmas.Bool.Decides.{nat_tests}
 use Rattle.std.proofs.lemmas.List.{take-append-drop}
 use Rattle.std.proofs.lemmas.List.Elements.{filter-append}
 use Rattle.std.proofs.lemmas.List.Sums.{sum_by-cons}
-use Rattle.cnf_base.specs.Text.{is_line_end, is_blank, begin_with, begins_with, pieces, Row, rows_from, row_of, words_of, words_of_row}
+use Rattle.cnf_base.specs.Text.{is_line_end, is_blank, begin_with, begins_with, pieces, Row, rows, rows_from, row_of, words_of, words_of_row}
 use Rattle.cnf_base.specs.Text.{line_ends, end_line, tokens}
-use Rattle.cnf_base.specs.ProofText.{Line, line_of_row, proof_lines}
 use Rattle.text_scan.specs.Items.{the_end, too_long, words_then, kept, ended_part}
-use Rattle.lrat_text.specs.Steps.{overlong, lines_then, lines_within, steps_of, steps, AreFront}
-use Rattle.lrat_text.proofs.Lines.{IsKept, at_limit, joined, lines_closed}
+use Rattle.lrat_text.specs.LineSteps.{Spelling, no_more as at_the_end, overlong, rows_then, steps_of, steps_by, is_before, rows_within}
+use Rattle.lrat_text.specs.LineSteps.{AreFirst}
+use Rattle.lrat_text.proofs.Lines.{at_end, at_limit, joined, lines_closed}
 
 -- The lines of a text that end in it. Its tokens with a byte behind them are those of these lines and of one more.
 record IsCut (text : List ℕ) : Type 0 where
@@ -118,10 +118,6 @@ cut (byte ∷ bytes) =
       ]
     ]
 
-map-append : {X Y : Type 0} (f : X → Y) (xs ys : List X) → map f (xs ++ ys) ≡ map f xs ++ map f ys
-map-append f [] ys = refl
-map-append f (x ∷ xs) ys = ap (λ (l : List _). f x ∷ l) (map-append f xs ys)
-
 rows_append : (line : ℕ) (texts more : List (List ℕ)) → rows_from 99 line (texts ++ more) ≡ rows_from 99 line texts
     ++ rows_from 99 (line + length texts) more
 rows_append line [] more = ap (λ (n : ℕ). rows_from 99 n more) (omega arith)
@@ -132,47 +128,41 @@ rows_append line (text ∷ texts) more =
 
 -- Lines before the line `e`, and lines from it on.
 module _ (e : ℕ) where
-  abbrev is_before : Line → Bool
-  is_before line = nat_lt line.line e
-
   abbrev row_at : ℕ → List (List ℕ) → Row
   row_at n words = record { line = n; words = words }
 
-  abbrev lines_behind : ℕ → Bool → List (List ℕ) → List (List ℕ) → List Line
-  lines_behind n comment words texts = map line_of_row ((if comment then [] else row_at n words ∷ []) ++ rows_from 99 (n + 1) texts)
+  abbrev rows_behind : ℕ → Bool → List (List ℕ) → List (List ℕ) → List Row
+  rows_behind n comment words texts = (if comment then [] else row_at n words ∷ []) ++ rows_from 99 (n + 1) texts
 
   not_before : (n : ℕ) → e ≤ n → nat_lt n e ≡ false
   not_before n at = grind (arith, nat_tests)
 
-  all_before : (n : ℕ) (texts : List (List ℕ)) → n + length texts ≤ e → filter is_before (map line_of_row (rows_from 99 n texts))
-      ≡ map line_of_row (rows_from 99 n texts)
+  all_before : (n : ℕ) (texts : List (List ℕ)) → n + length texts ≤ e → filter (is_before e) (rows_from 99 n texts) ≡ rows_from 99 n texts
   all_before n [] at = refl
   all_before n (text ∷ texts) at =
-      elim (words_of text) as (λ (words : List (List ℕ)). filter is_before
-      (map line_of_row (row_of 99 n words ++ rows_from 99 (n + 1) texts))
-      ≡ map line_of_row (row_of 99 n words ++ rows_from 99 (n + 1) texts)) [
+      elim (words_of text) as (λ (words : List (List ℕ)). filter (is_before e) (row_of 99 n words ++ rows_from 99 (n + 1) texts)
+      ≡ row_of 99 n words ++ rows_from 99 (n + 1) texts) [
         | [] ↦ all_before (n + 1) texts (omega (arith, at))
-        | word ∷ words ↦ elim (begins_with 99 word) as (λ b. filter is_before (lines_behind n b (word ∷ words) texts)
-            ≡ lines_behind n b (word ∷ words) texts) [
+        | word ∷ words ↦ elim (begins_with 99 word) as (λ b. filter (is_before e) (rows_behind n b (word ∷ words) texts)
+            ≡ rows_behind n b (word ∷ words) texts) [
               | true ↦ all_before (n + 1) texts (omega (arith, at))
-              | false ↦ rw (lt-ltb n e (omega (arith, at))) (ap (λ (l : List Line). line_of_row (row_at n (word ∷ words))
-                  ∷ l) (all_before (n + 1) texts (omega (arith, at))))
+              | false ↦ rw (lt-ltb n e (omega (arith, at))) (ap (λ (l : List Row). row_at n (word ∷ words) ∷ l)
+                  (all_before (n + 1) texts (omega (arith, at))))
             ]
       ]
 
-  none_before : (n : ℕ) (texts : List (List ℕ)) → e ≤ n → filter is_before (map line_of_row (rows_from 99 n texts)) ≡ []
+  none_before : (n : ℕ) (texts : List (List ℕ)) → e ≤ n → filter (is_before e) (rows_from 99 n texts) ≡ []
   none_before n [] at = refl
   none_before n (text ∷ texts) at =
-      elim (words_of text) as (λ (words : List (List ℕ)). filter is_before
-      (map line_of_row (row_of 99 n words ++ rows_from 99 (n + 1) texts)) ≡ []) [
+      elim (words_of text) as (λ (words : List (List ℕ)). filter (is_before e) (row_of 99 n words ++ rows_from 99 (n + 1) texts) ≡ []) [
         | [] ↦ none_before (n + 1) texts (omega (arith, at))
-        | word ∷ words ↦ elim (begins_with 99 word) as (λ b. filter is_before (lines_behind n b (word ∷ words) texts) ≡ []) [
+        | word ∷ words ↦ elim (begins_with 99 word) as (λ b. filter (is_before e) (rows_behind n b (word ∷ words) texts) ≡ []) [
           | true ↦ none_before (n + 1) texts (omega (arith, at))
           | false ↦ rw (not_before n at) (none_before (n + 1) texts (omega (arith, at)))
         ]
       ]
 
-module _ (keeps : IsKept) (limit : ℕ) (bytes : List ℕ) (long : limit < length bytes) where
+module _ (limit : ℕ) (bytes : List ℕ) where
   abbrev text : List ℕ
   text = take limit bytes
 
@@ -188,41 +178,49 @@ module _ (keeps : IsKept) (limit : ℕ) (bytes : List ℕ) (long : limit < lengt
   at : 1 + length c.texts ≡ e
   at = omega (arith, c.count)
 
-  beyond : nat_le (length bytes) limit ≡ false
-  beyond = grind (arith, nat_tests)
+  abbrev before : List Row
+  before = rows_from 99 1 c.texts
 
-  abbrev before : List Line
-  before = map line_of_row (rows_from 99 1 c.texts)
+  abbrev behind : List Row
+  behind = rows_from 99 (1 + length c.texts) later.0
 
-  abbrev behind : List Line
-  behind = map line_of_row (rows_from 99 (1 + length c.texts) later.0)
-
-  parts : proof_lines bytes ≡ before ++ behind
+  parts : rows 99 bytes ≡ before ++ behind
   parts =
-      ap (λ (b : List ℕ). map line_of_row (rows_from 99 1 (pieces is_line_end b))) (sym (take-append-drop limit bytes))
-      ∙ ap (λ (texts : List (List ℕ)). map line_of_row (rows_from 99 1 texts)) later.1
-      ∙ ap (map line_of_row) (rows_append 1 c.texts later.0)
-      ∙ map-append line_of_row (rows_from 99 1 c.texts) (rows_from 99 (1 + length c.texts) later.0)
+      ap (λ (b : List ℕ). rows_from 99 1 (pieces is_line_end b)) (sym (take-append-drop limit bytes))
+      ∙ ap (rows_from 99 1) later.1
+      ∙ rows_append 1 c.texts later.0
 
-  given : steps limit bytes ≡ lines_then before overlong
-  given =
-      ap (λ (b : Bool). steps_of (if b then words_then (map kept (tokens 99 bytes)) (the_end (end_line bytes)) else words_then
-      (map kept (tokens 99 (ended_part text))) (too_long e))) beyond
-      ∙ ap (λ (texts : List (List ℕ)). steps_of (words_then (map kept (flat_map words_of_row (rows_from 99 1 texts))) (too_long e))) c.ended
-      ∙ ap steps_of (joined keeps e c.texts (c.tail ∷ []) 1 (too_long e) at)
-      ∙ lines_closed keeps e (words_then (map kept (flat_map words_of_row (rows_from 99 e (c.tail ∷ [])))) (too_long e)) overlong
-      (at_limit keeps e c.tail) c.texts 1 at
-
-  pub front : AreFront (steps limit bytes) (proof_lines bytes)
-  front = record { front = before; rest = behind; parts = parts; steps = given }
-
-  lines_are : lines_within limit bytes ≡ before
-  lines_are =
+  rows_are : rows_within limit bytes ≡ before
+  rows_are =
       ap (filter (is_before e)) parts
       ∙ filter-append (is_before e) before behind
-      ∙ ap (λ (l : List Line). l ++ filter (is_before e) behind) (all_before e 1 c.texts (omega (arith, at)))
-      ∙ ap (λ (l : List Line). before ++ l) (none_before e (1 + length c.texts) later.0 (omega (arith, at)))
+      ∙ ap (λ (l : List Row). l ++ filter (is_before e) behind) (all_before e 1 c.texts (omega (arith, at)))
+      ∙ ap (λ (l : List Row). before ++ l) (none_before e (1 + length c.texts) later.0 (omega (arith, at)))
       ∙ append-nil before
 
-  pub within : steps limit bytes ≡ lines_then (lines_within limit bytes) overlong
-  within = given ∙ ap (λ (lines : List Line). lines_then lines overlong) (sym lines_are)
+  pub first : AreFirst (rows_within limit bytes) (rows 99 bytes)
+  first = record { rest = behind; parts = parts ∙ ap (λ (l : List Row). l ++ behind) (sym rows_are) }
+
+module _ {Step : Type 0} (step_of : Spelling Step) (keeps : (words : List (List ℕ)) → step_of (map (take 65) words) ≡ step_of words)
+    (limit : ℕ) (bytes : List ℕ) where
+  pub within : limit < length bytes → steps_by step_of limit bytes ≡ rows_then step_of (rows_within limit bytes) overlong
+  within long =
+      let beyond : nat_le (length bytes) limit ≡ false = grind (arith, nat_tests) in
+      let cut_text : IsCut (take limit bytes) = c limit bytes in
+      let last : ℕ = end_line (take limit bytes) in
+      let on : 1 + length cut_text.texts ≡ last = omega (arith, cut_text.count) in
+      ap (λ (b : Bool). steps_of step_of (if b then words_then (map kept (tokens 99 bytes)) (the_end (end_line bytes)) else words_then
+      (map kept (tokens 99 (ended_part (take limit bytes)))) (too_long last))) beyond
+      ∙ ap (λ (texts : List (List ℕ)). steps_of step_of (words_then (map kept (flat_map words_of_row (rows_from 99 1 texts))) (too_long last)))
+      cut_text.ended
+      ∙ ap (steps_of step_of) (joined last cut_text.texts (cut_text.tail ∷ []) 1 (too_long last) on)
+      ∙ lines_closed step_of keeps last (words_then (map kept (flat_map words_of_row (rows_from 99 last (cut_text.tail ∷ []))))
+      (too_long last)) overlong
+      (at_limit step_of keeps last cut_text.tail) cut_text.texts 1 on
+      ∙ ap (λ (l : List Row). rows_then step_of l overlong) (sym (rows_are limit bytes))
+
+  pub whole : length bytes ≤ limit → steps_by step_of limit bytes ≡ rows_then step_of (rows 99 bytes) (at_the_end (end_line bytes))
+  whole fits =
+      let e : nat_le (length bytes) limit ≡ true = grind (arith, nat_tests) in
+      rw e (lines_closed step_of keeps (1 + length (pieces is_line_end bytes)) (the_end (end_line bytes)) (at_the_end (end_line bytes))
+      (at_end step_of keeps (1 + length (pieces is_line_end bytes)) (end_line bytes)) (pieces is_line_end bytes) 1 refl)

@@ -1,18 +1,17 @@
 -- A line as it is read: which kind of step it is, its first number, and the numbers behind, nothing where a token or
 -- the first one is none.
-use Rattle.std.specs.Prelude.{ℕ, Bool, true, false, ℤ, pos, negsuc, List, [], ◌∷◌, ◌++◌, Option, None, Some, is_some, nat_lt, ◌==◌}
+use Rattle.std.specs.Prelude.{ℕ, Bool, true, false, ℤ, pos, negsuc, List, [], ◌∷◌, ◌++◌, Option, None, Some, is_some}
 use Rattle.std.specs.Prelude.{if◌then◌else◌}
 use Rattle.std.specs.Option.{option_map, option_and_then}
 use Rattle.cnf_base.specs.declared.step.Step.{Step}
 use Rattle.cnf_base.specs.Number.{plain_number}
 use Rattle.cnf_base.specs.Text.{Word}
-use Rattle.cnf_base.specs.ProofText.{is_delete_word}
-use Rattle.text_scan.specs.Items.{Items, the_end, too_long, next_word}
+use Rattle.cnf_base.specs.ProofText.{is_delete_word, step_of}
 use Rattle.lrat_text.specs.declared.draft.Kind.{Kind}
 use Rattle.lrat_text.specs.declared.draft.Kind.TheVariants.{Empty, Begun, Adds, Deletes}
 use Rattle.text_scan.specs.Capped.{capped}
+use Rattle.lrat_text.specs.Form.{Form}
 use Rattle.lrat_text.specs.Numbers.{signed_word, plain_word, deletion_from, addition_by}
-use Rattle.lrat_text.specs.Steps.{Steps, no_more, overlong, step_then}
 
 pub record DraftLine : Type 0 where
   pub line : ℕ
@@ -100,19 +99,24 @@ is_open_kind Deletes = true
 abbrev pub is_open : DraftLine → Bool
 is_open draft = is_open_kind draft.kind
 
-abbrev pub draft_then : DraftLine → Steps → Steps
-draft_then draft steps = if is_open draft then step_then (judged draft) draft.line steps else steps
+-- a token behind the first was taken, and these are the numbers of the line now
+abbrev pub keeps_number : Option (List ℤ) → Bool
+keeps_number None = false
+keeps_number (Some []) = false
+keeps_number (Some (number ∷ numbers)) = true
 
--- a token of the line, or the first of one
-abbrev pub with_token : DraftLine → Word → DraftLine
-with_token draft word = if is_open draft then draft_with draft word else draft_of_word word
-
--- the steps that these tokens go on with
-abbrev pub drafted : Items → DraftLine → Steps
-drafted (the_end line) draft = draft_then draft (no_more line)
-drafted (too_long line) draft = if nat_lt draft.line line then draft_then draft overlong else overlong
-drafted (next_word word items) draft =
-    if is_open draft
-    then if draft.line == word.line then drafted items (draft_with draft word) else step_then (judged draft) draft.line
-    (drafted items (draft_of_word word))
-    else drafted items (draft_of_word word)
+-- the form of the lines of an LRAT proof
+abbrev pub lrat_form : Form DraftLine Step
+lrat_form = record {
+  step_of = step_of;
+  no_draft = no_draft;
+  is_begun = is_open;
+  line = λ draft. draft.line;
+  of_word = draft_of_word;
+  of_number = draft_of_number;
+  with_word = draft_with;
+  with_number = draft_with_number;
+  has_numbers = has_numbers;
+  keeps_number = λ draft. keeps_number draft.numbers;
+  judged = judged;
+}

@@ -1,5 +1,9 @@
-pub mod Steps
+pub mod Form
+pub mod LineSteps
+pub mod LineReader
+pub mod LineWants
 pub mod Numbers
 pub mod Draft
+pub mod Steps
 pub mod Reader
 pub mod Wants

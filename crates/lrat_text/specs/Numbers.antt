@@ -18,6 +18,10 @@ signed_word bytes = option_map capped_ℤ (signed_number bytes)
 abbrev pub plain_word : List ℕ → Option ℤ
 plain_word bytes = option_map positive (plain_number bytes)
 
+-- both of two lists, item by item
+abbrev pub both : {X Y : Type 0} → (X → Y) → List X × List X → List Y × List Y
+both f (before, after) = (map f before, map f after)
+
 -- the deletion of these identifiers
 abbrev pub deletion_with : ℕ → List ℤ × List ℤ → Option Step
 deletion_with id (ids, rest) = given_if (nat_le id max_id && list_all is_hint ids && is_empty rest) (Delete id (map nat_abs ids))

@@ -16,7 +16,7 @@ use std::alloc::Global;
 const MAX_ID: u64 = 999_999_999_999_999_999;
 
 /// The greatest magnitude of a literal.
-const MAX_LITERAL: u64 = 2_147_483_647;
+pub const MAX_LITERAL: u64 = 2_147_483_647;
 
 #[inline(always)]
 fn is_zero_at(numbers: &[i64], place: usize) -> bool
@@ -26,9 +26,9 @@ fn is_zero_at(numbers: &[i64], place: usize) -> bool
     numbers[place] == 0
 }
 
-// Where the first zero stands, and whether the numbers before it have at most this magnitude. No test of a number before it
-// is a branch but the one for zero.
-fn first_zero(numbers: &[i64], most: u64) -> Option<(usize, bool)>
+/// Where the first zero stands, and whether the numbers before it have at most this magnitude. No test of a number before it
+/// is a branch but the one for zero.
+pub fn first_zero(numbers: &[i64], most: u64) -> Option<(usize, bool)>
     ensures split { split_at is_zero numbers.now
         ≡ option_map (λ found. (take found.0 numbers.now, drop (found.0 + 1) numbers.now)) result }
     ensures within { IfSome result (λ found. found.0 < length numbers.now) }
@@ -44,8 +44,9 @@ fn first_zero(numbers: &[i64], most: u64) -> Option<(usize, bool)>
     None
 }
 
+/// Whether a number isn't 0 and has at most this magnitude.
 #[inline(always)]
-fn is_within(number: i64, most: u64) -> bool
+pub fn is_within(number: i64, most: u64) -> bool
     ensures { result ≡ is_literal_of most number }
 {
     let magnitude = number.unsigned_abs();
@@ -71,8 +72,9 @@ fn put_clause(clause: &mut LitList, literals: &[i64]) -> Result<(), OutOfMemory>
     Ok(())
 }
 
+/// Appends the literal that is this number.
 #[inline(always)]
-fn push_literal(clause: &mut LitList, literal: i64) -> Result<(), OutOfMemory>
+pub fn push_literal(clause: &mut LitList, literal: i64) -> Result<(), OutOfMemory>
     requires { is_literal_of max_literal literal ≡ true }
     ensures { OnOk result (clause.new ≡ clause.old ++ literal ∷ []) }
 {

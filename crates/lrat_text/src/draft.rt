@@ -1,18 +1,18 @@
-// One line as it is read, token by token.
+// A line of an LRAT proof as it is read, token by token.
 ghost use Rattle.std.specs.Prelude.{◌≡◌, ◌≤◌, [], None, Some, Ok, OnOk, OnErr, IfOk, Option, IsTrue, is_some};
 ghost use Rattle.std.specs.Option.{option_map};
 ghost use Rattle.cnf_base.specs.ProofText.{is_delete_word, given_if};
 ghost use Rattle.lrat_text.specs.declared.draft.Kind.TheVariants.{Empty};
 ghost use Rattle.lrat_text.specs.Draft.{no_draft, draft_of_word, draft_with, draft_with_number, draft_of_number, first_number, unsigned};
-ghost use Rattle.lrat_text.specs.Draft.{with_given, draft_as, has_numbers, judged, is_open};
-ghost use Rattle.lrat_text.specs.Wants.{keeps_number};
+ghost use Rattle.lrat_text.specs.Draft.{with_given, draft_as, has_numbers, judged, is_open, keeps_number, lrat_form};
 
 use crate::build::{put_addition, put_deletion};
+use crate::form::LineForm;
 use crate::lists::Lists;
 use cnf_base::{OutOfMemory, Step};
 use std::alloc::Global;
 use std::marker::Model;
-use text_scan::{Token, plain_number, signed_number};
+use text_scan::{Token, kept_word_law, plain_number, signed_number};
 
 /// What was read of a line: nothing, its first token, or that it is an addition or a deletion.
 #[derive(Clone, Copy, Debug, PartialEq, Eq)]
@@ -23,18 +23,19 @@ pub enum Kind {
     Deletes,
 }
 
-/// The numbers of a line.
+/// A line of an LRAT proof: the numbers of its tokens so far.
 #[derive(Debug, Drop)]
-pub struct Draft {
+pub struct LratLine {
     line: u64,
     kind: Kind,
     id: Option<u64>,
     // whether a token is no number
     broken: bool,
     numbers: Vec<i64>,
+    lists: Lists,
 }
 
-impl Model for Draft {
+impl Model for LratLine {
     ghost use Rattle.std.specs.Prelude.{None, Some, if◌then◌else◌};
     ghost use Rattle.lrat_text.specs.Draft.{DraftLine};
 
@@ -70,37 +71,37 @@ fn unsigned(number: i64) -> Option<i64>
     if number < 0 { None } else { Some(number) }
 }
 
-impl Draft {
-    pub fn new(alloc: Global) -> Draft
-        ensures { result ≡ no_draft }
-    {
-        Draft {
+impl LineForm for LratLine {
+    type Step = Step;
+
+    ghost form = { lrat_form };
+
+    fn form_law() {
+        kept_word_law();
+    }
+
+    fn new(alloc: Global) -> Self {
+        LratLine {
             line: 0,
             kind: Kind::Empty,
             id: None,
             broken: false,
             numbers: Vec::new(alloc),
+            lists: Lists::new(alloc),
         }
     }
 
     #[inline(always)]
-    pub fn line(&self) -> u64
-        ensures { result ≡ self.now.line }
-    {
-        self.line
-    }
-
-    #[inline(always)]
-    pub fn is_open(&self) -> bool
-        ensures { result ≡ is_open self.now }
-    {
+    fn is_begun(&self) -> bool {
         self.kind != Kind::Empty
     }
 
-    /// Lets the line go.
-    pub fn clear(&mut self)
-        ensures { self.new ≡ no_draft }
-    {
+    #[inline(always)]
+    fn line(&self) -> u64 {
+        self.line
+    }
+
+    fn clear(&mut self) {
         self.line = 0;
         self.kind = Kind::Empty;
         self.id = None;
@@ -108,10 +109,7 @@ impl Draft {
         self.numbers.clear();
     }
 
-    /// Lets the line go and begins the one of this token.
-    pub fn begin(&mut self, token: &Token)
-        ensures { self.new ≡ draft_of_word token.now }
-    {
+    fn begin(&mut self, token: &Token) {
         self.line = token.line();
         self.kind = Kind::Begun;
         self.id = plain_number(token);
@@ -119,11 +117,8 @@ impl Draft {
         self.numbers.clear();
     }
 
-    /// Lets the line go and begins this one with a token that spells this number.
     #[inline(always)]
-    pub fn begin_with(&mut self, line: u64, number: i64)
-        ensures { self.new ≡ draft_of_number line number }
-    {
+    fn begin_with(&mut self, line: u64, number: i64) {
         self.line = line;
         self.kind = Kind::Begun;
         self.id = first_number(number);
@@ -131,13 +126,8 @@ impl Draft {
         self.numbers.clear();
     }
 
-    /// Takes one more token of the line. Memory is wanted only for a number that is kept: all tokens so far are numbers.
     #[inline(always)]
-    pub fn take(&mut self, token: &Token) -> Result<(), OutOfMemory>
-        ensures ok { OnOk result (self.new ≡ draft_with self.old token.now) }
-        ensures memory { OnErr result (IsTrue (keeps_number (draft_with self.old token.now).numbers)) }
-        ensures kept { OnErr result (IsTrue (has_numbers self.new)) }
-    {
+    fn take(&mut self, token: &Token) -> Result<(), OutOfMemory> {
         match self.kind {
             Kind::Empty => Ok(()),
             Kind::Begun => {
@@ -153,13 +143,8 @@ impl Draft {
         }
     }
 
-    /// Takes one more token of the line, which spells this number.
     #[inline(always)]
-    pub fn take_number(&mut self, number: i64) -> Result<(), OutOfMemory>
-        ensures ok { OnOk result (self.new ≡ draft_with_number self.old number) }
-        ensures memory { OnErr result (IsTrue (keeps_number (draft_with_number self.old number).numbers)) }
-        ensures kept { OnErr result (IsTrue (has_numbers self.new)) }
-    {
+    fn take_number(&mut self, number: i64) -> Result<(), OutOfMemory> {
         // Most numbers are of additions.
         if self.kind == Kind::Adds || self.kind == Kind::Begun {
             self.kind = Kind::Adds;
@@ -168,6 +153,26 @@ impl Draft {
         self.take_rare_number(number)
     }
 
+    fn blank_step(&self) -> Step {
+        self.lists.blank_step()
+    }
+
+    fn put_step(&mut self, step: &mut Step) -> Result<bool, OutOfMemory> {
+        let Some(id) = self.id else {
+            return Ok(false);
+        };
+        if self.broken {
+            return Ok(false);
+        }
+        match self.kind {
+            Kind::Empty | Kind::Begun => Ok(false),
+            Kind::Adds => put_addition(&mut self.lists, id, self.numbers.as_slice(), step),
+            Kind::Deletes => put_deletion(&mut self.lists, id, self.numbers.as_slice(), step),
+        }
+    }
+}
+
+impl LratLine {
     // The same of any line. It stands apart, so that the loop over an addition's numbers stays small.
     #[cold]
     #[inline(never)]
@@ -201,7 +206,7 @@ impl Draft {
     }
 
     // One number more, unless a token was none. Mostly there is room for it.
-    #[tactic(auto, using(crate::proofs::Wanted::keeps_last))]
+    #[tactic(auto, using(crate::proofs::DraftLemmas::keeps_last))]
     #[inline(always)]
     fn put_number(&mut self, number: i64) -> Result<(), OutOfMemory>
         ensures ok { OnOk result (self.new ≡ draft_as self.old self.old.kind (with_given self.old.numbers (Some number))) }
@@ -217,23 +222,5 @@ impl Draft {
             self.numbers.push(number)?;
         }
         Ok(())
-    }
-
-    /// Whether the line spells a step, which then is the step. Memory is wanted only for that.
-    pub fn put_step(&self, lists: &mut Lists, step: &mut Step) -> Result<bool, OutOfMemory>
-        ensures step { IfOk result (λ is_step. judged self.now ≡ given_if is_step step.new) }
-        ensures memory { OnErr result (IsTrue (is_some (judged self.now))) }
-    {
-        let Some(id) = self.id else {
-            return Ok(false);
-        };
-        if self.broken {
-            return Ok(false);
-        }
-        match self.kind {
-            Kind::Empty | Kind::Begun => Ok(false),
-            Kind::Adds => put_addition(lists, id, self.numbers.as_slice(), step),
-            Kind::Deletes => put_deletion(lists, id, self.numbers.as_slice(), step),
-        }
     }
 }

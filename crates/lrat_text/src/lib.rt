@@ -6,10 +6,14 @@
 mod build;
 mod draft;
 mod error;
+mod form;
 mod laws;
 mod lists;
 mod reader;
 
+pub use build::{MAX_LITERAL, first_zero, is_within, push_literal};
+pub use draft::LratLine;
 pub use error::StepError;
-pub use laws::{long_text_law, whole_text_law};
-pub use reader::StepReader;
+pub use form::LineForm;
+pub use laws::{kept_numbers_law, line_law, long_text_law, whole_text_law};
+pub use reader::{LineReader, StepReader};

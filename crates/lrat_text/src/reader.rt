@@ -4,16 +4,14 @@ ghost use Rattle.host_io.specs.Channel.{Rose};
 ghost use Rattle.text_scan.specs.Decides.{gained, Decides, OnlyReads};
 ghost use Rattle.lrat_text.specs.declared.error.StepError.TheVariants.{ReadFault, TooLong, OutOfMemory};
 ghost use Rattle.lrat_text.specs.declared.reader.ReaderStatus.TheVariants.{Reading, Ended, Failed};
-ghost use Rattle.lrat_text.specs.Steps.{steps, steps_so_far};
-ghost use Rattle.lrat_text.specs.Draft.{no_draft, draft_of_number, draft_of_word, draft_with, has_numbers, is_open, with_token};
-ghost use Rattle.lrat_text.specs.Reader.{given, Gives, GivesSoFar, Moves, steps_ahead, so_far, is_reading, last_answer, is_under};
-ghost use Rattle.lrat_text.specs.Reader.{BeginsLine, GoesOn, Judges, Settles};
-ghost use Rattle.lrat_text.specs.Wants.{keeps_number, wants_of, wants_ahead, is_near, may_want, Spends, Leads};
+ghost use Rattle.lrat_text.specs.LineSteps.{steps_by, steps_so_far_by};
+ghost use Rattle.lrat_text.specs.LineReader.{given, with_token, Gives, GivesSoFar, Moves, steps_ahead, so_far, is_reading, last_answer};
+ghost use Rattle.lrat_text.specs.LineReader.{is_under, BeginsLine, GoesOn, Judges, Settles};
+ghost use Rattle.lrat_text.specs.LineWants.{wants_of, wants_ahead, is_near, may_want, Spends, Leads};
 
-use crate::draft::Draft;
+use crate::draft::LratLine;
 use crate::error::StepError;
-use crate::lists::Lists;
-use cnf_base::Step;
+use crate::form::LineForm;
 use host_io::Source;
 use std::alloc::Global;
 use std::marker::Model;
@@ -27,43 +25,45 @@ enum ReaderStatus {
     Failed(StepError),
 }
 
-/// Reads the lines of a textual LRAT proof as steps.
+/// Reads the lines of a textual proof as steps, in one form of lines.
 #[derive(Debug, Drop)]
-pub struct StepReader {
+pub struct LineReader<F: LineForm> {
     scanner: Scanner,
-    draft: Draft,
-    lists: Lists,
+    draft: F,
     status: ReaderStatus,
     line: u64,
 }
 
-impl Model for StepReader {
+/// Reads the lines of a textual LRAT proof as steps.
+pub type StepReader = LineReader<LratLine>;
+
+impl<F: LineForm> Model for LineReader<F> {
     ghost use Rattle.std.specs.Prelude.{◌≡◌, false};
     ghost use Rattle.text_scan.specs.Scan.{is_faulted};
     ghost use Rattle.lrat_text.specs.declared.reader.ReaderStatus.TheVariants.{Reading};
-    ghost use Rattle.lrat_text.specs.Reader.{Reader};
+    ghost use Rattle.lrat_text.specs.LineReader.{ReaderOf};
 
-    ghost Value = { Reader };
+    ghost Value = { ReaderOf F };
 
     ghost view = { λ r. record { scan = r.scanner; draft = r.draft; status = r.status; line = r.line } };
 
     ghost invariant = { λ r. r.status ≡ Reading → is_faulted r.scanner.status ≡ false };
 }
 
-impl StepReader {
+impl<F: LineForm> LineReader<F> {
     /// A reader of a proof that may have as many bytes as the limit says.
-    pub fn new(alloc: Global, limit: u64) -> StepReader
+    pub fn new(alloc: Global, limit: u64) -> Self
         requires { limit + 1 < 2 ^ 64 }
-        ensures steps { (bytes : List ℕ) → steps_ahead result bytes ≡ steps limit bytes }
-        ensures so_far { (bytes : List ℕ) → so_far result bytes ≡ steps_so_far bytes }
-        ensures wants { (bytes : List ℕ) → wants_ahead result bytes ≡ wants_of limit bytes }
+        ensures steps { (bytes : List ℕ) → steps_ahead F.form result bytes ≡ steps_by F.form.step_of limit bytes }
+        ensures so_far { (bytes : List ℕ) → so_far F.form result bytes ≡ steps_so_far_by F.form.step_of bytes }
+        ensures wants { (bytes : List ℕ) → wants_ahead F.form result bytes ≡ wants_of F.form limit bytes }
         ensures reading { result.status ≡ Reading }
         ensures line { result.line ≡ 1 }
     {
-        StepReader {
+        F::form_law();
+        LineReader {
             scanner: Scanner::new(b'c', limit),
-            draft: Draft::new(alloc),
-            lists: Lists::new(alloc),
+            draft: F::new(alloc),
             status: ReaderStatus::Reading,
             line: 1,
         }
@@ -78,14 +78,14 @@ impl StepReader {
 
     /// The next step with its line; None is the end. A line is judged once the first token of a later one, or the end of
     /// the text, was read. After None or an error it gives the same again and reads nothing.
-    pub fn next<S: Source>(&mut self, source: &mut S) -> Result<Option<(Step, u64)>, StepError>
+    pub fn next<S: Source>(&mut self, source: &mut S) -> Result<Option<(F::Step, u64)>, StepError>
         // The answer is the next of the steps of the bytes that were taken and whatever may follow them.
         ensures gives { IsTrue S.tells → Decides (S.channel source.old) (S.channel source.new)
-            (λ bytes more. Gives result self.new.line (steps_ahead self.old bytes) (steps_ahead self.new more)) }
+            (λ bytes more. Gives result self.new.line (steps_ahead F.form self.old bytes) (steps_ahead F.form self.new more)) }
         // A read fails only where no line that was ended is left.
         ensures so_far { IsTrue S.tells → is_reading self.old.status ≡ true →
-            GivesSoFar result self.old self.new (gained (S.channel source.old) (S.channel source.new)) }
-        ensures moves { Moves result self.old self.new }
+            GivesSoFar F.form result self.old self.new (gained (S.channel source.old) (S.channel source.new)) }
+        ensures moves { Moves F.form result self.old self.new }
         ensures fault { result ≡ Err ReadFault → is_reading self.old.status ≡ true →
             Rose (S.channel source.old).faults (S.channel source.new).faults }
         // No failed read is told as anything else.
@@ -93,8 +93,8 @@ impl StepReader {
         // Memory is wanted only for a number of the next line that is kept, or for its step. No more numbers are kept behind
         // that place than a block of bytes can spell, and what may follow those taken.
         ensures spends { IsTrue S.tells → is_reading self.old.status ≡ true → Decides (S.channel source.old) (S.channel source.new)
-            (λ bytes more. Spends result (length more) (wants_ahead self.old bytes) (wants_ahead self.new more)) }
-        ensures memory { result ≡ Err OutOfMemory → is_reading self.old.status ≡ true → IsTrue (has_numbers self.new.draft) }
+            (λ bytes more. Spends result (length more) (wants_ahead F.form self.old bytes) (wants_ahead F.form self.new more)) }
+        ensures memory { result ≡ Err OutOfMemory → is_reading self.old.status ≡ true → IsTrue (F.form.has_numbers self.new.draft) }
         // Once it has stopped, nothing changes.
         ensures stopped_answer { is_reading self.old.status ≡ false → result ≡ last_answer self.old.status }
         ensures stopped_reader { is_reading self.old.status ≡ false → self.new ≡ self.old }
@@ -103,7 +103,7 @@ impl StepReader {
         ensures reads { OnlyReads (S.channel source.old) (S.channel source.new) }
         ensures beside { S.beside source.new ≡ S.beside source.old }
     {
-        let mut step = self.lists.blank_step();
+        let mut step = self.draft.blank_step();
         match self.next_into(source, &mut step) {
             Ok(Some(line)) => Ok(Some((step, line))),
             Ok(None) => Ok(None),
@@ -117,15 +117,15 @@ impl StepReader {
     pub fn next_into<S: Source>(
         &mut self,
         source: &mut S,
-        step: &mut Step,
+        step: &mut F::Step,
     ) -> Result<Option<u64>, StepError>
         // The answer is the next of the steps of the bytes that were taken and whatever may follow them.
         ensures gives { IsTrue S.tells → Decides (S.channel source.old) (S.channel source.new)
-            (λ bytes more. Gives (given step.new result) self.new.line (steps_ahead self.old bytes) (steps_ahead self.new more)) }
+            (λ bytes more. Gives (given step.new result) self.new.line (steps_ahead F.form self.old bytes) (steps_ahead F.form self.new more)) }
         // A read fails only where no line that was ended is left.
         ensures so_far { IsTrue S.tells → is_reading self.old.status ≡ true →
-            GivesSoFar (given step.new result) self.old self.new (gained (S.channel source.old) (S.channel source.new)) }
-        ensures moves { Moves (given step.new result) self.old self.new }
+            GivesSoFar F.form (given step.new result) self.old self.new (gained (S.channel source.old) (S.channel source.new)) }
+        ensures moves { Moves F.form (given step.new result) self.old self.new }
         ensures fault { result ≡ Err ReadFault → is_reading self.old.status ≡ true →
             Rose (S.channel source.old).faults (S.channel source.new).faults }
         // No failed read is told as anything else.
@@ -133,8 +133,8 @@ impl StepReader {
         // Memory is wanted only for a number of the next line that is kept, or for its step. No more numbers are kept behind
         // that place than a block of bytes can spell, and what may follow those taken.
         ensures spends { IsTrue S.tells → is_reading self.old.status ≡ true → Decides (S.channel source.old) (S.channel source.new)
-            (λ bytes more. Spends (given step.new result) (length more) (wants_ahead self.old bytes) (wants_ahead self.new more)) }
-        ensures memory { result ≡ Err OutOfMemory → is_reading self.old.status ≡ true → IsTrue (has_numbers self.new.draft) }
+            (λ bytes more. Spends (given step.new result) (length more) (wants_ahead F.form self.old bytes) (wants_ahead F.form self.new more)) }
+        ensures memory { result ≡ Err OutOfMemory → is_reading self.old.status ≡ true → IsTrue (F.form.has_numbers self.new.draft) }
         // Once it has stopped, nothing changes.
         ensures stopped_answer { is_reading self.old.status ≡ false → given step.new result ≡ last_answer self.old.status }
         ensures stopped_reader { is_reading self.old.status ≡ false → self.new ≡ self.old }
@@ -153,22 +153,23 @@ impl StepReader {
     fn read_on<S: Source>(
         &mut self,
         source: &mut S,
-        step: &mut Step,
+        step: &mut F::Step,
     ) -> Result<Option<u64>, StepError>
         requires { self.old.status ≡ Reading }
         ensures gives { IsTrue S.tells → Decides (S.channel source.old) (S.channel source.new)
-            (λ bytes more. Gives (given step.new result) self.new.line (steps_ahead self.old bytes) (steps_ahead self.new more)) }
-        ensures so_far { IsTrue S.tells → GivesSoFar (given step.new result) self.old self.new
+            (λ bytes more. Gives (given step.new result) self.new.line (steps_ahead F.form self.old bytes) (steps_ahead F.form self.new more)) }
+        ensures so_far { IsTrue S.tells → GivesSoFar F.form (given step.new result) self.old self.new
             (gained (S.channel source.old) (S.channel source.new)) }
-        ensures moves { Moves (given step.new result) self.old self.new }
+        ensures moves { Moves F.form (given step.new result) self.old self.new }
         ensures fault { result ≡ Err ReadFault → Rose (S.channel source.old).faults (S.channel source.new).faults }
         ensures unfailed { result ≢ Err ReadFault → (S.channel source.new).faults ≡ (S.channel source.old).faults }
         ensures spends { IsTrue S.tells → Decides (S.channel source.old) (S.channel source.new)
-            (λ bytes more. Spends (given step.new result) (length more) (wants_ahead self.old bytes) (wants_ahead self.new more)) }
-        ensures memory { result ≡ Err OutOfMemory → IsTrue (has_numbers self.new.draft) }
+            (λ bytes more. Spends (given step.new result) (length more) (wants_ahead F.form self.old bytes) (wants_ahead F.form self.new more)) }
+        ensures memory { result ≡ Err OutOfMemory → IsTrue (F.form.has_numbers self.new.draft) }
         ensures reads { OnlyReads (S.channel source.old) (S.channel source.new) }
         ensures beside { S.beside source.new ≡ S.beside source.old }
     {
+        F::form_law();
         'tokens: loop {
             self.take_numbers()?;
             match self.number_of_another_line() {
@@ -182,7 +183,7 @@ impl StepReader {
             match self.scanner.next_into(source, &mut token) {
                 Ok(true) => {
                     self.scanner.unread_law();
-                    if self.draft.is_open() && self.draft.line() != token.line() {
+                    if self.draft.is_begun() && self.draft.line() != token.line() {
                         return self.give_before(&token, step);
                     }
                     self.take(&token)?;
@@ -201,15 +202,16 @@ impl StepReader {
     #[inline(always)]
     fn take_numbers(&mut self) -> Result<(), StepError>
         requires { self.old.status ≡ Reading }
-        ensures ok { OnOk result (GoesOn self.old self.new) }
-        ensures leads { OnOk result ((more : List ℕ) → Leads (wants_ahead self.old more) (wants_ahead self.new more)) }
-        ensures wants { OnErr result ((more : List ℕ) → IsTrue (may_want (length more) (wants_ahead self.old more))) }
+        ensures ok { OnOk result (GoesOn F.form self.old self.new) }
+        ensures leads { OnOk result ((more : List ℕ) → Leads (wants_ahead F.form self.old more) (wants_ahead F.form self.new more)) }
+        ensures wants { OnErr result ((more : List ℕ) → IsTrue (may_want (length more) (wants_ahead F.form self.old more))) }
         ensures err { OnErr result (result ≡ Err OutOfMemory) }
         ensures stopped { OnErr result (self.new.status ≡ Failed OutOfMemory) }
-        ensures kept { OnErr result (IsTrue (has_numbers self.new.draft)) }
+        ensures kept { OnErr result (IsTrue (F.form.has_numbers self.new.draft)) }
         ensures line { self.new.line ≡ self.old.line }
     {
-        if !self.draft.is_open() {
+        F::form_law();
+        if !self.draft.is_begun() {
             return Ok(());
         }
         'numbers: loop {
@@ -229,10 +231,10 @@ impl StepReader {
     // Takes the number that comes next where it stands on another line than the one that is begun.
     #[inline(always)]
     fn number_of_another_line(&mut self) -> Option<i64>
-        ensures some { IfSome result (λ number. BeginsLine number self.old self.new) }
+        ensures some { IfSome result (λ number. BeginsLine F.form number self.old self.new) }
         ensures none { result ≡ None → self.new ≡ self.old }
     {
-        if !self.draft.is_open() {
+        if !self.draft.is_begun() {
             return None;
         }
         self.scanner.number_past(self.draft.line())
@@ -241,15 +243,15 @@ impl StepReader {
     // A token of the line that is begun, or the first of one.
     #[inline(always)]
     fn take(&mut self, token: &Token) -> Result<(), StepError>
-        ensures ok { OnOk result (self.new ≡ record self.old { draft = with_token self.old.draft token.now }) }
+        ensures ok { OnOk result (self.new ≡ record self.old { draft = with_token F.form self.old.draft token.now }) }
         ensures err { OnErr result (result ≡ Err OutOfMemory) }
         ensures stopped { OnErr result (self.new.status ≡ Failed OutOfMemory) }
-        ensures begun { OnErr result (is_open self.old.draft ≡ true) }
-        ensures memory { OnErr result (IsTrue (keeps_number (draft_with self.old.draft token.now).numbers)) }
-        ensures kept { OnErr result (IsTrue (has_numbers self.new.draft)) }
+        ensures begun { OnErr result (F.form.is_begun self.old.draft ≡ true) }
+        ensures memory { OnErr result (IsTrue (F.form.keeps_number (F.form.with_word self.old.draft token.now))) }
+        ensures kept { OnErr result (IsTrue (F.form.has_numbers self.new.draft)) }
         ensures line { self.new.line ≡ self.old.line }
     {
-        if !self.draft.is_open() {
+        if !self.draft.is_begun() {
             self.draft.begin(token);
             return Ok(());
         }
@@ -260,9 +262,9 @@ impl StepReader {
     }
 
     // The line that a token of another line has ended. That token begins the next.
-    fn give_before(&mut self, token: &Token, step: &mut Step) -> Result<Option<u64>, StepError>
+    fn give_before(&mut self, token: &Token, step: &mut F::Step) -> Result<Option<u64>, StepError>
         requires { self.old.status ≡ Reading }
-        ensures { Settles (given step.new result) (draft_of_word token.now) self.old self.new }
+        ensures { Settles F.form (given step.new result) (F.form.of_word token.now) self.old self.new }
     {
         let line = self.judge(step)?;
         self.draft.begin(token);
@@ -270,9 +272,13 @@ impl StepReader {
     }
 
     // The same where the scanner has given the number of that token.
-    fn give_before_number(&mut self, number: i64, step: &mut Step) -> Result<Option<u64>, StepError>
+    fn give_before_number(
+        &mut self,
+        number: i64,
+        step: &mut F::Step,
+    ) -> Result<Option<u64>, StepError>
         requires { self.old.status ≡ Reading }
-        ensures { Settles (given step.new result) (draft_of_number self.old.scan.line number) self.old self.new }
+        ensures { Settles F.form (given step.new result) (F.form.of_number self.old.scan.line number) self.old self.new }
     {
         let line = self.judge(step)?;
         self.draft.begin_with(self.scanner.line(), number);
@@ -280,15 +286,15 @@ impl StepReader {
     }
 
     // The last line, if one is begun, or the end.
-    fn give_at_end(&mut self, step: &mut Step) -> Result<Option<u64>, StepError>
+    fn give_at_end(&mut self, step: &mut F::Step) -> Result<Option<u64>, StepError>
         requires { self.old.status ≡ Reading }
         ensures same_scan { self.new.scan ≡ self.old.scan }
         ensures unfailed { result ≢ Err ReadFault }
-        ensures last { is_open self.old.draft ≡ true → Settles (given step.new result) no_draft self.old self.new }
-        ensures ended { is_open self.old.draft ≡ false → result ≡ Ok None }
-        ensures stopped { is_open self.old.draft ≡ false → self.new ≡ record self.old { status = Ended; line = self.old.scan.line } }
+        ensures last { F.form.is_begun self.old.draft ≡ true → Settles F.form (given step.new result) F.form.no_draft self.old self.new }
+        ensures ended { F.form.is_begun self.old.draft ≡ false → result ≡ Ok None }
+        ensures stopped { F.form.is_begun self.old.draft ≡ false → self.new ≡ record self.old { status = Ended; line = self.old.scan.line } }
     {
-        if !self.draft.is_open() {
+        if !self.draft.is_begun() {
             self.status = ReaderStatus::Ended;
             self.line = self.scanner.line();
             return Ok(None);
@@ -299,15 +305,15 @@ impl StepReader {
     }
 
     // The last line whose end stands under the limit, if it isn't given yet; else that the text is too long.
-    fn give_at_limit(&mut self, step: &mut Step) -> Result<Option<u64>, StepError>
+    fn give_at_limit(&mut self, step: &mut F::Step) -> Result<Option<u64>, StepError>
         requires { self.old.status ≡ Reading }
         ensures same_scan { self.new.scan ≡ self.old.scan }
         ensures unfailed { result ≢ Err ReadFault }
-        ensures last { is_under self.old ≡ true → Settles (given step.new result) no_draft self.old self.new }
-        ensures over { is_under self.old ≡ false → result ≡ Err TooLong }
-        ensures stopped { is_under self.old ≡ false → self.new ≡ record self.old { status = Failed TooLong } }
+        ensures last { is_under F.form self.old ≡ true → Settles F.form (given step.new result) F.form.no_draft self.old self.new }
+        ensures over { is_under F.form self.old ≡ false → result ≡ Err TooLong }
+        ensures stopped { is_under F.form self.old ≡ false → self.new ≡ record self.old { status = Failed TooLong } }
     {
-        if !(self.draft.is_open() && self.draft.line() < self.scanner.line()) {
+        if !(self.draft.is_begun() && self.draft.line() < self.scanner.line()) {
             return Err(self.fail(StepError::TooLong));
         }
         let line = self.judge(step)?;
@@ -316,12 +322,12 @@ impl StepReader {
     }
 
     // Judges the line and takes it as the one that is given.
-    fn judge(&mut self, step: &mut Step) -> Result<u64, StepError>
+    fn judge(&mut self, step: &mut F::Step) -> Result<u64, StepError>
         requires { self.old.status ≡ Reading }
-        ensures { Judges result step.new self.old self.new }
+        ensures { Judges F.form result step.new self.old self.new }
     {
         let line = self.draft.line();
-        match self.draft.put_step(&mut self.lists, step) {
+        match self.draft.put_step(step) {
             Err(_) => Err(self.fail(StepError::OutOfMemory)),
             Ok(false) => Err(self.fail(StepError::Syntax(line))),
             Ok(true) => {
@@ -334,7 +340,7 @@ impl StepReader {
     /// No more numbers are ahead than a block of bytes, and what follows it, can spell.
     #[inline(always)]
     pub fn near_law(&self)
-        ensures { (more : List ℕ) → is_near (length more) (wants_ahead self.now more) ≡ true }
+        ensures { (more : List ℕ) → is_near (length more) (wants_ahead F.form self.now more) ≡ true }
     {
         self.scanner.unread_law();
     }
