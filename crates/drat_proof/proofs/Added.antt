@@ -4,7 +4,8 @@ use Rattle.std.proofs.lemmas.List.{take-append-drop}
 use Rattle.std.proofs.lemmas.Grind.{flat_map-append}
 use Rattle.std.proofs.Math.Seq.{drop-append_seam}
 use Rattle.host_io.specs.Channel.{Channel}
-use Rattle.drat_text.specs.DratText.{DratStep, line_of_drat, drat_text}
+use Rattle.drat_text.specs.declared.step.DratStep.{DratStep}
+use Rattle.drat_text.specs.DratText.{line_of_drat, drat_text}
 use Rattle.drat_proof.specs.TwoRoles.{added}
 
 pub added_is : (old new : Channel) (text : List ℕ) → new.written ≡ old.written ++ text → added old new ≡ text

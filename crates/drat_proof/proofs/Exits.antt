@@ -20,7 +20,8 @@ use Rattle.lrat_checker.specs.TextVerdict.{end_verdict, error_answer, steps_verd
 use Rattle.lrat_checker.specs.Memory.{reading_may_want_memory}
 use Rattle.lrat_checker.proofs.Turns.{at_end, at_no_step, at_limit, at_bad_step, fault_so_far}
 use Rattle.lrat_checker.proofs.Wanted.{error_wants, step_is_wanted}
-use Rattle.drat_text.specs.DratText.{DratStep, drat_text}
+use Rattle.drat_text.specs.declared.step.DratStep.{DratStep}
+use Rattle.drat_text.specs.DratText.{drat_text}
 use Rattle.drat_proof.specs.declared.error.ConvertError.{ConvertError}
 use Rattle.drat_proof.specs.declared.error.ConvertError.TheVariants.{ReadFault, TooLong, OutOfMemory, WriteFault}
 use Rattle.drat_proof.specs.Drat.{drat_of_step, drat_of}

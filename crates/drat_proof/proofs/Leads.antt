@@ -16,7 +16,8 @@ use Rattle.lrat_checker.specs.TextVerdict.{steps_verdict}
 use Rattle.lrat_checker.specs.Memory.{reading_may_want_memory}
 use Rattle.lrat_checker.proofs.Turns.{at_good_step, good_so_far}
 use Rattle.lrat_checker.proofs.Wanted.{behind_wants}
-use Rattle.drat_text.specs.DratText.{DratStep, drat_text}
+use Rattle.drat_text.specs.declared.step.DratStep.{DratStep}
+use Rattle.drat_text.specs.DratText.{drat_text}
 use Rattle.drat_proof.specs.Drat.{drat_of_step, drat_of}
 use Rattle.drat_proof.specs.TwoRoles.{OnlyWrites}
 use Rattle.drat_proof.specs.Conversion.{ReadsStep}

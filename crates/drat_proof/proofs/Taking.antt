@@ -9,7 +9,8 @@ use Rattle.host_io.specs.declared.source.Failed.{Failed}
 use Rattle.host_io.specs.Channel.{Channel, WritesAll}
 use Rattle.host_io.proofs.Emitting.{in_turn, fails_within, alone, written_out, cut_before}
 use Rattle.lrat_rules.specs.State.{Live, clause_at, without_clauses}
-use Rattle.drat_text.specs.DratText.{DratStep, line_of_drat, drat_text}
+use Rattle.drat_text.specs.declared.step.DratStep.{DratStep}
+use Rattle.drat_text.specs.DratText.{line_of_drat, drat_text}
 use Rattle.drat_proof.specs.Drat.{deletion_of, deletions}
 use Rattle.drat_proof.proofs.Added.{text-append}
 

@@ -16,7 +16,8 @@ use Rattle.lrat_checker.specs.declared.verdict.CheckError.{CheckError}
 use Rattle.lrat_checker.specs.declared.verdict.CheckError.TheVariants.{ReadFault as CheckFault, TooLong as LongText, OutOfMemory as CheckMemory}
 use Rattle.lrat_checker.specs.Memory.{may_want_memory, reading_may_want_memory}
 use Rattle.lrat_checker.specs.TextVerdict.{steps_verdict}
-use Rattle.drat_text.specs.DratText.{DratStep, drat_text}
+use Rattle.drat_text.specs.declared.step.DratStep.{DratStep}
+use Rattle.drat_text.specs.DratText.{drat_text}
 use Rattle.drat_proof.specs.declared.error.ConvertError.{ConvertError}
 use Rattle.drat_proof.specs.declared.error.ConvertError.TheVariants.{ReadFault, TooLong, OutOfMemory, WriteFault}
 use Rattle.drat_proof.specs.Drat.{drat_of_step, drat_of}

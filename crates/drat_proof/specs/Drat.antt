@@ -10,7 +10,9 @@ use Rattle.lrat_text.specs.Steps.{Steps, no_more, overlong, no_step, next_step, 
 use Rattle.lrat_rules.specs.declared.outcome.Reason.{Reason}
 use Rattle.lrat_rules.specs.State.{State, Live, clause_at, start}
 use Rattle.lrat_rules.specs.Run.{step_fault, after_step}
-use Rattle.drat_text.specs.DratText.{DratStep, adds, deletes, drat_text}
+use Rattle.drat_text.specs.declared.step.DratStep.{DratStep}
+use Rattle.drat_text.specs.declared.step.DratStep.TheVariants.{Add as adds, Delete as deletes}
+use Rattle.drat_text.specs.DratText.{drat_text}
 
 -- the deletion of a clause, where there is one
 abbrev pub deletion_of : Option (List ℤ) → List DratStep

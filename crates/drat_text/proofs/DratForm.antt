@@ -14,7 +14,9 @@ use Rattle.lrat_text.specs.Numbers.{both, signed_word}
 use Rattle.lrat_text.specs.Draft.{with_given, keeps_number}
 use Rattle.drat_text.specs.declared.line.DratKind.{DratKind}
 use Rattle.drat_text.specs.declared.line.DratKind.TheVariants.{Empty, Adds, Deletes}
-use Rattle.drat_text.specs.DratText.{DratStep, adds, deletes, clause_with, clause_from, clause_of, drat_step_of}
+use Rattle.drat_text.specs.declared.step.DratStep.{DratStep}
+use Rattle.drat_text.specs.declared.step.DratStep.TheVariants.{Add as adds, Delete as deletes}
+use Rattle.drat_text.specs.DratText.{clause_with, clause_from, clause_of, drat_step_of}
 use Rattle.drat_text.specs.Draft.{DratDraft, all_numbers, draft_on, drat_of_word, drat_of_number, drat_with, drat_judged, judged_in}
 use Rattle.drat_text.specs.Draft.{is_begun_kind, drat_form}
 

@@ -4,7 +4,8 @@ use Rattle.std.specs.Prelude.{nat_lt}
 use Rattle.std.specs.List.{filter}
 use Rattle.cnf_base.specs.Text.{Row, rows, end_line}
 use Rattle.lrat_text.specs.LineSteps.{StepsOf, step_then, is_before, rows_then, rows_within}
-use Rattle.drat_text.specs.DratText.{DratStep, DratLine, drat_step_of, drat_line_of}
+use Rattle.drat_text.specs.declared.step.DratStep.{DratStep}
+use Rattle.drat_text.specs.DratText.{DratLine, drat_step_of, drat_line_of}
 use Rattle.drat_text.specs.DratSteps.{drat_lines_then, drat_lines_within}
 
 pub lines_are : (rows : List Row) (last : StepsOf DratStep) → rows_then drat_step_of rows last

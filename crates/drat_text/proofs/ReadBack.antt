@@ -12,7 +12,9 @@ use Rattle.cnf_base.specs.Text.{is_line_end, begins_with, words_of, row_of, rows
 use Rattle.cnf_base.specs.ProofText.{max_literal, all_given, split_at, is_zero, are_whole_lines}
 use Rattle.cnf_base.proofs.TextLemmas.{is_word, none_pass, words_of-join, join_one_line, rows-line, whole_lines-append}
 use Rattle.cnf_base.proofs.NumberLemmas.{signed_number-signed_decimal, word_signed_decimal, delete_word_signed, first_digit}
-use Rattle.drat_text.specs.DratText.{DratStep, adds, deletes, clause_of, drat_step_of, drat_line_of, drat_lines, clause_words, drat_words}
+use Rattle.drat_text.specs.declared.step.DratStep.{DratStep}
+use Rattle.drat_text.specs.declared.step.DratStep.TheVariants.{Add as adds, Delete as deletes}
+use Rattle.drat_text.specs.DratText.{clause_of, drat_step_of, drat_line_of, drat_lines, clause_words, drat_words}
 use Rattle.drat_text.specs.DratText.{line_of_drat, is_drat_printable}
 
 abbrev are_literals : List ℤ → Type 0

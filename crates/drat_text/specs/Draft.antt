@@ -8,7 +8,9 @@ use Rattle.lrat_text.specs.Numbers.{signed_word}
 use Rattle.lrat_text.specs.Draft.{with_given, keeps_number}
 use Rattle.drat_text.specs.declared.line.DratKind.{DratKind}
 use Rattle.drat_text.specs.declared.line.DratKind.TheVariants.{Empty, Adds, Deletes}
-use Rattle.drat_text.specs.DratText.{DratStep, adds, deletes, clause_from, drat_step_of}
+use Rattle.drat_text.specs.declared.step.DratStep.{DratStep}
+use Rattle.drat_text.specs.declared.step.DratStep.TheVariants.{Add as adds, Delete as deletes}
+use Rattle.drat_text.specs.DratText.{clause_from, drat_step_of}
 
 pub record DratDraft : Type 0 where
   pub line : ℕ

@@ -4,7 +4,8 @@ use Rattle.std.specs.Prelude.{ℕ, List, [], ◌∷◌, take, nat_lt}
 use Rattle.std.specs.List.{filter}
 use Rattle.cnf_base.specs.Text.{end_line}
 use Rattle.lrat_text.specs.LineSteps.{StepsOf, step_then, steps_by}
-use Rattle.drat_text.specs.DratText.{DratStep, DratLine, drat_step_of, drat_lines}
+use Rattle.drat_text.specs.declared.step.DratStep.{DratStep}
+use Rattle.drat_text.specs.DratText.{DratLine, drat_step_of, drat_lines}
 
 -- these lines, and behind them those steps
 abbrev pub drat_lines_then : List DratLine → StepsOf DratStep → StepsOf DratStep

@@ -10,8 +10,8 @@ use Rattle.cnf_base.specs.Truth.{is_literal_of}
 use Rattle.cnf_base.specs.Number.{signed_number}
 use Rattle.cnf_base.specs.Text.{Row, rows}
 use Rattle.cnf_base.specs.ProofText.{max_literal, all_given, split_at, is_empty, is_zero, given_if, is_delete_word}
-pub use Rattle.drat_text.specs.declared.step.DratStep.{DratStep}
-pub use Rattle.drat_text.specs.declared.step.DratStep.TheVariants.{Add as adds, Delete as deletes}
+use Rattle.drat_text.specs.declared.step.DratStep.{DratStep}
+use Rattle.drat_text.specs.declared.step.DratStep.TheVariants.{Add as adds, Delete as deletes}
 
 abbrev pub step_on : Bool → List ℤ → DratStep
 step_on deleted clause = if deleted then deletes clause else adds clause

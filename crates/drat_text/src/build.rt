@@ -4,7 +4,8 @@ ghost use Rattle.std.specs.List.{list_all};
 ghost use Rattle.std.specs.Option.{option_map};
 ghost use Rattle.cnf_base.specs.Truth.{is_literal_of};
 ghost use Rattle.cnf_base.specs.ProofText.{given_if, max_literal};
-ghost use Rattle.drat_text.specs.DratText.{adds, deletes, clause_from};
+ghost use Rattle.drat_text.specs.declared.step.DratStep.TheVariants.{Add as adds, Delete as deletes};
+ghost use Rattle.drat_text.specs.DratText.{clause_from};
 
 use crate::step::DratStep;
 use cnf_base::{LitList, OutOfMemory};

@@ -4,7 +4,8 @@ ghost use Rattle.std.specs.List.{join_with_byte};
 ghost use Rattle.cnf_base.specs.Text.{rows, words_of, line_ends, end_line};
 ghost use Rattle.cnf_base.specs.ProofText.{are_whole_lines};
 ghost use Rattle.lrat_text.specs.LineSteps.{no_more, overlong, rows_within, steps_by};
-ghost use Rattle.drat_text.specs.DratText.{DratStep, drat_step_of, drat_lines, drat_line_of, drat_words, line_of_drat, is_drat_printable};
+ghost use Rattle.drat_text.specs.declared.step.DratStep.{DratStep};
+ghost use Rattle.drat_text.specs.DratText.{drat_step_of, drat_lines, drat_line_of, drat_words, line_of_drat, is_drat_printable};
 ghost use Rattle.drat_text.specs.DratSteps.{drat_steps_in, drat_lines_then, drat_lines_within};
 
 use crate::line::DratLine;

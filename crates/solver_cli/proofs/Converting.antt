@@ -13,7 +13,8 @@ use Rattle.lrat_checker.specs.TextVerdict.{Answers, text_verdict, verdict_so_far
 use Rattle.lrat_checker.specs.declared.verdict.Verdict.{Verdict}
 use Rattle.lrat_checker.specs.declared.verdict.CheckError.{CheckError}
 use Rattle.lrat_checker.specs.declared.verdict.CheckError.TheVariants as check_error
-use Rattle.drat_text.specs.DratText.{DratStep, drat_text, line_of_drat}
+use Rattle.drat_text.specs.declared.step.DratStep.{DratStep}
+use Rattle.drat_text.specs.DratText.{drat_text, line_of_drat}
 use Rattle.drat_proof.specs.Drat.{drat_steps}
 use Rattle.drat_proof.specs.Conversion.{AreFirstLines, HasVerdict, HasWritten, converted}
 use Rattle.drat_proof.specs.TwoRoles.{KeptButTwo, OnlyWrites, added}

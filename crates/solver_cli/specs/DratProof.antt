@@ -6,7 +6,8 @@ use Rattle.lrat_checker.specs.TextVerdict.{text_verdict, verdict_so_far}
 use Rattle.lrat_checker.specs.declared.verdict.Verdict.{Verdict}
 use Rattle.lrat_checker.specs.declared.verdict.CheckError.{CheckError}
 use Rattle.text_scan.specs.Decides.{gained}
-use Rattle.drat_text.specs.DratText.{DratStep, drat_text}
+use Rattle.drat_text.specs.declared.step.DratStep.{DratStep}
+use Rattle.drat_text.specs.DratText.{drat_text}
 use Rattle.drat_proof.specs.Drat.{drat_steps}
 use Rattle.drat_proof.specs.Conversion.{AreFirstLines, HasVerdict as IsAnswered, HasWritten, converted}
 use Rattle.drat_proof.specs.TwoRoles.{added}

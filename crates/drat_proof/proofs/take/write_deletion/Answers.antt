@@ -1,5 +1,5 @@
 -- What is left to show of `write_deletion`.
-use Rattle.drat_text.specs.DratText.{deletes}
+use Rattle.drat_text.specs.declared.step.DratStep.TheVariants.{Delete as deletes}
 use Rattle.drat_proof.proofs.Taking.{one_line, nothing_written}
 use Rattle.drat_proof.proofs.take.write_deletion.Goals as goal
 

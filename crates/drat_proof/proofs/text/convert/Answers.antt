@@ -8,7 +8,7 @@ use Rattle.lrat_rules.specs.State.{State}
 use Rattle.lrat_checker.specs.declared.verdict.Verdict.{Verdict}
 use Rattle.lrat_checker.specs.TextVerdict.{max_bytes, steps_verdict, text_verdict, verdict_so_far}
 use Rattle.lrat_checker.specs.Memory.{reading_may_want_memory, check_may_want_memory}
-use Rattle.drat_text.specs.DratText.{DratStep}
+use Rattle.drat_text.specs.declared.step.DratStep.{DratStep}
 use Rattle.host_io.specs.declared.role.Role.TheVariants.{ProofIn, ProofOut}
 use Rattle.drat_proof.specs.Drat.{drat_of, drat_steps}
 use Rattle.drat_proof.specs.TwoRoles.{added}
