@@ -15,7 +15,8 @@ use Rattle.lrat_rules.specs.Addition.{fault}
 use Rattle.lrat_rules.specs.Run.{step_fault, after_step, step_adds_empty}
 use Rattle.lrat_checker.specs.declared.verdict.Verdict.TheVariants.{Verified}
 use Rattle.lrat_checker.specs.TextVerdict.{max_bytes, end_verdict, judged, steps_verdict, text_verdict}
-use Rattle.drat_text.specs.DratText.{DratStep, adds, deletes}
+use Rattle.drat_text.specs.declared.step.DratStep.{DratStep}
+use Rattle.drat_text.specs.declared.step.DratStep.TheVariants.{Add as adds, Delete as deletes}
 use Rattle.drat_proof.specs.Drat.{deletion_of, deletions, drat_of_step, unless_fault, drat_of, drat_steps}
 use Rattle.drat_rules.specs.Addition.{drat_fault}
 use Rattle.drat_rules.specs.Run.{after, drat_step_fault, after_all, fault_or, first_fault, adds_empty, DratRefutes}

@@ -5,7 +5,8 @@ use Rattle.std.specs.List.{list_any, list_all}
 use Rattle.std.proofs.lemmas.Bool.{and_parts, and_from, or_from, both_ways}
 use Rattle.std.proofs.lemmas.List.Folds.{list_all-append}
 use Rattle.cnf_base.specs.Truth.{Assignment, clause_holds, is_literal_of, Satisfies}
-use Rattle.drat_text.specs.DratText.{DratStep, adds, deletes}
+use Rattle.drat_text.specs.declared.step.DratStep.{DratStep}
+use Rattle.drat_text.specs.declared.step.DratStep.TheVariants.{Add as adds, Delete as deletes}
 use Rattle.lrat_rules.specs.declared.outcome.Reason.{Reason}
 use Rattle.lrat_rules.specs.Soundness.{make_true, is_nonzero, has_no_zero}
 use Rattle.drat_rules.specs.Clauses.{same_list, without_first}

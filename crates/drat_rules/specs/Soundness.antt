@@ -3,7 +3,8 @@
 use Rattle.std.specs.Prelude.{◌⊎◌, Bool, true, ℤ, List, [], ◌∷◌}
 use Rattle.std.specs.List.{list_all}
 use Rattle.cnf_base.specs.Truth.{Assignment, Satisfies}
-use Rattle.drat_text.specs.DratText.{DratStep, adds, deletes}
+use Rattle.drat_text.specs.declared.step.DratStep.{DratStep}
+use Rattle.drat_text.specs.declared.step.DratStep.TheVariants.{Add as adds, Delete as deletes}
 use Rattle.lrat_rules.specs.Soundness.{make_true, has_no_zero}
 
 -- the clauses hold under the assignment, or under it with the added clause's first literal made true

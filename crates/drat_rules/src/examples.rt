@@ -1,6 +1,6 @@
 // Steps with their verdicts, worked out by hand: a row is the clauses at the start, the steps, and the verdict.
 ghost use Rattle.std.specs.Prelude.{◌≡◌, [], ◌∷◌, None, Some, pos, negsuc};
-ghost use Rattle.drat_text.specs.DratText.{adds, deletes};
+ghost use Rattle.drat_text.specs.declared.step.DratStep.TheVariants.{Add as adds, Delete as deletes};
 ghost use Rattle.lrat_rules.specs.declared.outcome.Reason.TheVariants.{NoConflict, CandidateOpen, NoEmptyClause};
 ghost use Rattle.drat_rules.specs.Run.{drat_verdict};
 

@@ -2,7 +2,7 @@
 ghost use Rattle.std.specs.Prelude.{◌≡◌, ℕ, ℤ, List, None, Some};
 ghost use Rattle.std.specs.FinMap as map;
 ghost use Rattle.cnf_base.specs.declared.list.Group.{Group};
-ghost use Rattle.drat_text.specs.DratText.{adds, deletes};
+ghost use Rattle.drat_text.specs.declared.step.DratStep.TheVariants.{Add as adds, Delete as deletes};
 ghost use Rattle.lrat_rules.specs.State.{State, clause_at, start, with_clause};
 ghost use Rattle.lrat_rules.specs.Addition.{fault};
 ghost use Rattle.drat_rules.specs.Addition.{drat_fault};

@@ -1,7 +1,7 @@
 // Laws of the rules, over everything: functions without work, whose clauses the crates above cite by a call.
 ghost use Rattle.std.specs.Prelude.{◌≡◌, ℕ, ℤ, neg_ℤ, List, [], ◌∷◌, ◌++◌, None, Some, IsTrue, true, false};
 ghost use Rattle.std.specs.FinMap as map;
-ghost use Rattle.drat_text.specs.DratText.{adds, deletes};
+ghost use Rattle.drat_text.specs.declared.step.DratStep.TheVariants.{Add as adds, Delete as deletes};
 ghost use Rattle.lrat_rules.specs.declared.outcome.Effect.TheVariants.{Conflict, Unit as Forced};
 ghost use Rattle.lrat_rules.specs.declared.outcome.Reason.TheVariants.{NoConflict, CandidateOpen};
 ghost use Rattle.lrat_rules.specs.State.{Live, clause_at, start, with_clause};

@@ -2,7 +2,8 @@
 ghost use Rattle.std.specs.Prelude.{◌≡◌, ◌++◌, ℕ, ℤ, List, [], ◌∷◌, IsTrue, None, false};
 ghost use Rattle.std.specs.List.{list_all};
 ghost use Rattle.cnf_base.specs.Truth.{Assignment, Satisfies, AreClausesOf, clause_holds};
-ghost use Rattle.drat_text.specs.DratText.{DratStep, deletes};
+ghost use Rattle.drat_text.specs.declared.step.DratStep.{DratStep};
+ghost use Rattle.drat_text.specs.declared.step.DratStep.TheVariants.{Delete as deletes};
 ghost use Rattle.lrat_rules.specs.Soundness.{has_no_zero};
 ghost use Rattle.drat_rules.specs.Quiet.{has_quiet};
 ghost use Rattle.drat_rules.specs.Addition.{drat_fault};
