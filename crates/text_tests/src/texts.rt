@@ -1,8 +1,9 @@
 // What is read: tokens, formulas, orders, schedules and the steps of proofs, in pieces of one byte, of three, and whole. The expected
 // answers are those of the formats' rules.
 use crate::support::{cut, push_clauses, push_ids, push_literals, push_moves, push_order, text_of};
-use cnf_base::{Cnf, Group, Id, IdList, OutOfMemory, Step};
+use cnf_base::{Cnf, Group, Id, IdList, LitList, OutOfMemory, Step};
 use dimacs_reader::{Mode, read_cnf};
+use drat_text::{DratReader, DratStep};
 use host_io::SliceSource;
 use lrat_text::{StepError, StepReader};
 use schedule_plan::{Order, Plan};
@@ -17,8 +18,9 @@ const FORMULA: &[u8] = b"p cnf 3 3\n1 -2 0\n2 -3 0\n3 0";
 
 // A format, a text, and what it is. Each token stands behind its line, a long one marked; a formula behind the number of its variables;
 // an order is of three variables; a schedule is one for the formula above. A step is told by its line, its number, `+` with the literals
-// and the hints, each group by its candidate, or `-` with the numbers. Behind tokens and steps stands the end or the error, and which
-// line is told. Behind `=` stands how many bytes the text may have. The last row has the texts of errors that no text leads to.
+// and the hints, each group by its candidate, or `-` with the numbers; one of DRAT by its line, and `+` or `-` with the literals. Behind
+// tokens and steps stands the end or the error, and which line is told. Behind `=` stands how many bytes the text may have. The last row
+// has the texts of errors that no text leads to.
 const TEXTS: &str = "\
 tokens=9;; end 1
 tokens=9;/ \t\r/; end 3
@@ -148,6 +150,17 @@ steps=5;1 0 0/2 0 0/; the text is too long 1
 steps=6;1 0 0/2 0 0/; 1:1 + | the text is too long 1
 steps=11;1 0 0/2 0 0/; 1:1 + | the text is too long 1
 steps=12;1 0 0/2 0 0/; 1:1 + | 2:2 + | end 3
+drat=1000;; end 1
+drat=1000;1 -2 0/d 1 -2 0/0/; 1:+ 1 -2 2:- 1 -2 3:+ end 4
+drat=1000;c 1 0/ 1 0 /\t/d 0; 2:+ 1 4:- end 4
+drat=1000;007 -01 00; 1:+ 7 -1 end 1
+drat=1000;2147483647 0/2147483648 0; 1:+ 2147483647 line 2 is no step of a proof 1
+drat=1000;1 0/1 2/; 1:+ 1 line 2 is no step of a proof 1
+drat=1000;1 0 2 0; line 1 is no step of a proof 1
+drat=1000;-0 0; line 1 is no step of a proof 1
+drat=1000;d; line 1 is no step of a proof 1
+drat=1000;1 d 0; line 1 is no step of a proof 1
+drat=5;1 0/2 0/; 1:+ 1 the text is too long 1
 step;6 -4 1 3 0 7 -4 8 -5 0; 1:6 + -4 1 3 | 7 (4 8) (5)
 memory;;out of memory, out of memory";
 
@@ -387,6 +400,56 @@ fn first_step(alloc: Global, out: &mut String, source: &mut SliceSource) -> Resu
     }
 }
 
+fn push_drat_step(out: &mut String, step: &DratStep, line: u64) -> Result<(), AllocError> {
+    match step {
+        DratStep::Add { lits } => {
+            write!(out, " {line}:+")?;
+            push_literals(out, lits.as_slice())
+        }
+        DratStep::Delete { lits } => {
+            write!(out, " {line}:-")?;
+            push_literals(out, lits.as_slice())
+        }
+    }
+}
+
+fn push_drat_steps(
+    out: &mut String,
+    reader: &mut DratReader,
+    step: &mut DratStep,
+    source: &mut SliceSource,
+) -> Result<(), AllocError> {
+    for _ in 0..100 {
+        match reader.next_into(source, step) {
+            Ok(Some(line)) => push_drat_step(out, step, line)?,
+            end => return push_end(out, end.err(), reader.line()),
+        }
+    }
+    Ok(())
+}
+
+fn drat_steps_of(
+    alloc: Global,
+    out: &mut String,
+    reader: &mut DratReader,
+    source: &mut SliceSource,
+) -> Result<(), AllocError> {
+    let mut step = DratStep::Delete {
+        lits: LitList::new(alloc),
+    };
+    push_drat_steps(out, reader, &mut step, source)
+}
+
+fn drat_steps(
+    alloc: Global,
+    out: &mut String,
+    limit: u32,
+    source: &mut SliceSource,
+) -> Result<(), AllocError> {
+    let mut reader = DratReader::new(alloc, u64::from(limit));
+    drat_steps_of(alloc, out, &mut reader, source)
+}
+
 fn push_answer(
     alloc: Global,
     out: &mut String,
@@ -403,6 +466,7 @@ fn push_answer(
         "schedule" => schedule(alloc, out, source),
         "steps" => steps(alloc, out, limit, source),
         "step" => first_step(alloc, out, source),
+        "drat" => drat_steps(alloc, out, limit, source),
         _ => write!(out, "{OutOfMemory}, {}", StepError::OutOfMemory),
     }
 }
