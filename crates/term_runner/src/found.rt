@@ -1,7 +1,7 @@
 // What a move finds: the term of a clause, the conjunction of two terms, and a term without a variable. A term implies what comes
 // of it without a variable, and so the new unit follows from its own. (Bryant, Heule: Generating Extended Resolution Proofs with a
 // BDD-Based SAT Solver, 2021, section 5.)
-ghost use Rattle.std.specs.Prelude.{◌≡◌, ◌≢◌, ◌≤◌, ◌<◌, ◌+◌, ◌*◌, ◌&&◌, ◌||◌, ℕ, Bool, List, [], ◌∷◌, Err, IsTrue, IfOk, length, true, false};
+ghost use Rattle.std.specs.Prelude.{◌≡◌, ◌≢◌, ◌≤◌, ◌<◌, ◌+◌, ◌-◌, ◌*◌, ◌&&◌, ◌||◌, ℕ, Bool, List, [], ◌∷◌, Err, IsTrue, IfOk, length, slice_index_or, true, false};
 ghost use Rattle.cnf_base.specs.Truth.{Assignment, with_value};
 ghost use Rattle.node_table.specs.declared.error.TableError.TheVariants.{NodeLimit};
 ghost use Rattle.node_table.specs.declared.node.Node.TheVariants.{False};
@@ -20,7 +20,7 @@ ghost use Rattle.schedule_plan.specs.Plan.{input as input_term, term_holds};
 ghost use Rattle.term_runner.specs.declared.caches.Caches.{Caches as CachesValue};
 ghost use Rattle.term_runner.specs.Caches.{HaveRoom, KeepsEntries, all_entries, sizes};
 ghost use Rattle.term_runner.specs.Finds.{Finds, IsOperand};
-ghost use Rattle.term_runner.specs.Held.{GivesUnit, IsReady};
+ghost use Rattle.term_runner.specs.Held.{GivesUnit, IsOver};
 ghost use Rattle.term_runner.specs.Width.{HasAtMost, term_function};
 
 use crate::caches::Caches;
@@ -42,9 +42,10 @@ pub fn input<S: Sink + Drop>(
     formula: &Cnf,
     number: u32,
 ) -> Result<HeldTerm, TableError>
-    requires ready { (kept : List Entry) × IsReady formula.now table.old kept }
+    requires over { (kept : List Entry) × IsOver formula.now table.old kept }
     requires from_one { 1 ≤ number }
     requires to_len { number ≤ length formula.now.clauses }
+    requires some { slice_index_or formula.now.clauses (number - 1) [] ≢ [] }
     ensures finds { (caches : CachesValue) → Fits table.old (all_entries caches)
         → Finds (term_function formula.now table.old.graph.order (input_term number))
         (λ a. term_holds formula.now a (input_term number)) [] table.old table.new caches caches result }

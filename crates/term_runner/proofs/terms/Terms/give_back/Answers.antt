@@ -31,7 +31,7 @@ reclaim-requires-clause-may g c =
     c.as_slice.ensures.value c.as_slice-2.ensures.value c.in_ok-roots.ensures in
     subst (λ (roots : List Node). MayReclaim table entries roots) (sym same)
     (may_reclaim c.args.formula.now table entries c.args.self.now.out.items c.args.self.now.trail c.requires.possible.0
-    c.requires.ready.sound.tied.reduced c.requires.own c.requires.possible.1)
+    c.requires.ready.over.sound.tied.reduced c.requires.own c.requires.possible.1)
 
 pub returns-clause-at : goal.returns-clause-at
 returns-clause-at g c =
