@@ -39,7 +39,7 @@ some_clause : (o : Option (List ℤ)) → is_some o ≡ true → (clause : List 
 some_clause None is = absurd (let e : false ≡ true = is in cc)
 some_clause (Some clause) is = (clause, refl)
 
-same_clause : (id other : ℕ) → Clause id ≡ Clause other → id ≡ other
+pub same_clause : (id other : ℕ) → Clause id ≡ Clause other → id ≡ other
 same_clause id other is = cc
 
 pub no_clause : (id : ℕ) → Trivial ≡ Clause id → ⊥

@@ -3,7 +3,7 @@ use Rattle.std.proofs.Common.{◌+◌, refl, ℕ, ℤ, List, Contains, Err, ap, 
 use Rattle.cnf_base.specs.Truth.{clause_holds}
 use Rattle.node_table.specs.declared.error.TableError.TheVariants.{NodeLimit, WriteFault}
 use Rattle.node_table.specs.Diagram.{levels}
-use Rattle.node_table.specs.HandedOn.{came_from, handed_on, no_answer, no_error, same_error}
+use Rattle.node_table.specs.HandedOn.{came_from, handed_on, if_handed, no_answer, no_error, same_error}
 use Rattle.node_table.specs.declared.node.Node.{Node}
 use Rattle.node_table.specs.declared.node.Justification.{Justification}
 use Rattle.node_table.specs.Made.{LacksPart, MakesOnly}
@@ -98,3 +98,16 @@ returns-clause-one g c = c.in_ok-node.ensures.steps.adds
 
 pub returns-in_err-node-clause-one : goal.returns-in_err-node-clause-one
 returns-in_err-node-clause-one g c = c.in_err-node.ensures.steps.adds
+
+pub returns-in_err-node-clause-refused : goal.returns-in_err-node-clause-refused
+returns-in_err-node-clause-refused g c =
+    let old = c.args.table.now in
+    let new = c.push_clause.new.table in
+    let came = c.in_err-node.field-0.0 in
+    let found = c.in_err-node.ensures in
+    let sound = c.requires.over.1.sound in
+    if_handed _ came _ c.from_residual.ensures.1 (λ whole kept terms has.
+    units_behind c.steps_law.ensures old new kept kept terms sound
+    (went_on {T = Node × Justification} old new (Err came) found.steps.leaves (λ torn. whole (same_error torn))).sound
+    found.steps.extends has (record { each = λ id gone. inl (subst (λ (ids : List ℕ). Contains ids id) found.retired gone) })
+    (record { each = λ entry there. inl there }) (none_added old new kept sound found.retired (found.none_added whole)))
