@@ -43,3 +43,5 @@ pub mod Owners
 pub mod Repeated
 pub mod Given
 pub mod Released
+pub mod Opened
+pub mod Kept

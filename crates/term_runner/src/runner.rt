@@ -9,6 +9,7 @@ ghost use Rattle.schedule_plan.specs.Plan.{IsAdmissible};
 ghost use Rattle.term_runner.specs.Caches.{HaveSize, all_entries};
 ghost use Rattle.term_runner.specs.Ends.{Ends};
 ghost use Rattle.term_runner.specs.Opened.{EndsWithin};
+ghost use Rattle.term_runner.specs.Runner.{IsRunner};
 ghost use Rattle.term_runner.specs.Unused.{IsOpenedOver, IsUnused};
 
 use crate::caches::Caches;
@@ -72,6 +73,7 @@ impl<'a, S: Sink + Drop> Runner<'a, S> {
         requires order { length order.now ≡ formula.now.vars }
         requires limits { AreLimits limits }
         ensures opened { IfOk result (IsOpenedOver formula.now order.now limits sink) }
+        ensures runner { IfOk result IsRunner }
         ensures refused { IfErr result (λ back. back.0 ≡ sink) }
     {
         formula.formula_law();
@@ -95,8 +97,11 @@ impl<'a, S: Sink + Drop> Runner<'a, S> {
         requires diagram { parts.diagram ≡ record { order = order.now; nodes = map.empty } }
         requires no_entries { all_entries parts.caches ≡ [] }
         requires size { HaveSize parts.caches limits.cache }
-        ensures { IsOpenedOver formula.now order.now limits sink result }
+        ensures opened { IsOpenedOver formula.now order.now limits sink result }
+        ensures runner { IsRunner result }
     {
+        start_law();
+        opening_law::<S>();
         formula.formula_law();
         let _order = order.as_slice();
         let Parts { diagram, caches } = parts;

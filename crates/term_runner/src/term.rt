@@ -75,6 +75,23 @@ impl<'a, S: Sink + Drop> Runner<'a, S> {
         self.settle(found)
     }
 
+    /// Whether a term may be taken here: it is True, or this runner gave it and it is out yet.
+    pub fn has(&self, term: &Term) -> bool
+        ensures { IsTrue result → IsGood self.now term.now.held }
+    {
+        match term.held.unit {
+            Justification::Trivial => is_same(term.held.node, Node::True),
+            Justification::Clause(_) => place_of(self.terms.out.as_slice(), &term.held).is_some(),
+        }
+    }
+
+    /// How many terms are out.
+    pub fn terms_out(&self) -> usize
+        ensures { result ≡ length self.now.terms.out.items }
+    {
+        self.terms.out.len()
+    }
+
     /// Takes a term back. Its unit is retired, but for the first empty clause; after a failed write nothing changes.
     pub fn release(&mut self, term: Term)
         requires runner { IsTrue self.old.terms.table.book.in_step → IsRunner self.old }

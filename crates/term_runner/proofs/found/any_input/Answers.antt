@@ -15,3 +15,11 @@ use Rattle.term_runner.proofs.Inputs.{input_live}
 use Rattle.term_runner.proofs.Leaving.{refutes_handed, went_on}
 use Rattle.term_runner.proofs.Repeated.{last_of}
 use Rattle.term_runner.proofs.found.any_input.Goals as goal
+
+-- the clause is empty
+module _ (g : Over) (c : After-add_unit g) where
+  empty : slice_index_or c.args.formula.now.clauses (c.args.number - 1) [] ≡ []
+  empty = ?
+
+pub add_unit-requires-clause-strict : goal.add_unit-requires-clause-strict
+add_unit-requires-clause-strict g c clause is = ?
