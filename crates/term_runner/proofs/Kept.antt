@@ -10,13 +10,15 @@ use Rattle.node_table.specs.Diagram.{is_node}
 use Rattle.node_table.specs.Laws.{Growth, Reachability}
 use Rattle.node_table.specs.Table.{TableState, IsSound}
 use Rattle.operations.specs.Entries.{Entry}
+use Rattle.clause_terms.specs.Term.{IsTerm}
 use Rattle.reclaim.specs.Reclaimed.{MayReclaim, Reclaims}
 use Rattle.term_runner.specs.declared.caches.Caches.{Caches}
 use Rattle.term_runner.specs.declared.held.HeldTerm.{HeldTerm}
 use Rattle.term_runner.specs.declared.runner.Runner.{Runner}
 use Rattle.term_runner.specs.Caches.{all_entries}
 use Rattle.term_runner.specs.Held.{IsUnitOf}
-use Rattle.term_runner.specs.Runner.{IsRunner, OwnsTerms, nodes_of, owners}
+use Rattle.term_runner.specs.Finds.{IsProved}
+use Rattle.term_runner.specs.Runner.{IsGood, IsRunner, OwnsTerms, holds_in, nodes_of, owners}
 use Rattle.term_runner.specs.Tidy.{LeavesReached, held_nodes}
 use Rattle.term_runner.proofs.Reclaimed.{in_map, leaves_reached, may_reclaim_owned, of_map, over_reclaimed, proved_stays, units_reclaimed}
 
@@ -68,3 +70,16 @@ module _ {S : Type 0} (runner : Runner S) (is : IsRunner runner) where
     pub reached_terms : Reachability → LeavesReached runner.terms.table.graph new.graph (nodes_of runner.terms.out.items)
     reached_terms reach = leaves_reached growth runner.terms.table new (nodes_of runner.terms.out.items) (all_entries runner.terms.caches)
         (all_entries caches) sound reclaims reach roots_stood
+
+-- a term that a call may take is proved
+pub good_proved : {S : Type 0} (runner : Runner S) → IsRunner runner → (held : HeldTerm) → IsGood runner held
+    → IsProved runner.terms.table.graph runner.terms.table.book.state.live held
+good_proved runner is held (inl true_one) = subst (λ (h : HeldTerm). IsProved runner.terms.table.graph runner.terms.table.book.state.live h)
+    (sym true_one) (record { stands = refl; unit = refl })
+good_proved runner is held (inr out) = is.proved held (Contains-append_left runner.terms.out.items (option_to_list runner.kept) held out)
+
+pub good_term : {S : Type 0} (runner : Runner S) → IsRunner runner → (held : HeldTerm) → IsGood runner held
+    → IsTerm runner.terms.table.graph runner.terms.table.book.state.live (holds_in runner held) held.node held.unit
+good_term runner is held good =
+    let proved = good_proved runner is held good in
+    record { stands = proved.stands; value = λ a. refl; proved = proved.unit }

@@ -13,7 +13,7 @@ use Rattle.node_table.specs.Diagram.{KeepsNodes, levels}
 use Rattle.node_table.specs.Made.{LacksPart, MakesOnly}
 use Rattle.node_table.specs.Progress.{Continues, Leaves, error_of}
 use Rattle.node_table.specs.Table.{AddsAtMost, UnlessTorn}
-use Rattle.node_table.specs.Value.{Levels}
+use Rattle.node_table.specs.Value.{Levels, by_level, value_of}
 use Rattle.operations.specs.Budget.{most_additions}
 use Rattle.clause_terms.specs.Term.{IsTerm}
 use Rattle.term_runner.specs.declared.held.HeldTerm.{HeldTerm}
@@ -60,6 +60,10 @@ IsGood runner held = (held ≡ true_term) ⊎ Contains runner.terms.out.items he
 -- the term came onto the list of those that are out, or it is True and the list is as it was
 abbrev pub IsListed : List HeldTerm → List HeldTerm → HeldTerm → Type 0
 IsListed before after held = ((held ≡ true_term) × (after ≡ before)) ⊎ (after ≡ before ++ held ∷ [])
+
+-- whether a term of this runner holds
+abbrev pub holds_in : {S : Type 0} → Runner S → HeldTerm → Assignment → Bool
+holds_in runner held a = value_of runner.terms.table.graph (by_level runner.terms.table.graph.order a) held.node
 
 -- only the terms that are out, and what was added, changed
 pub record IsSameRun {S : Type 0} (old new : Runner S) : Type 0 where

@@ -9,11 +9,10 @@ ghost use Rattle.node_table.specs.Progress.{Leaves, error_of};
 ghost use Rattle.node_table.specs.Table.{AddsAtMost, UnlessTorn, live_nodes};
 ghost use Rattle.node_table.specs.Value.{Levels};
 ghost use Rattle.apply_and.specs.Conjunction.{conjunction_of};
-ghost use Rattle.clause_terms.specs.Term.{IsTerm};
 ghost use Rattle.schedule_plan.specs.Plan.{input as input_term, term_holds};
 ghost use Rattle.term_runner.specs.declared.held.HeldTerm.{HeldTerm as HeldValue};
 ghost use Rattle.term_runner.specs.declared.runner.Runner.{Runner as RunnerValue};
-ghost use Rattle.term_runner.specs.Runner.{Gives, IsGood, IsListed, IsRunner, Releases, nodes_of};
+ghost use Rattle.term_runner.specs.Runner.{Gives, IsGood, IsListed, IsRunner, Releases, holds_in, nodes_of};
 ghost use Rattle.term_runner.specs.Tidy.{LeavesReached};
 ghost use Rattle.term_runner.specs.Width.{term_function};
 
@@ -65,11 +64,9 @@ impl<'a, S: Sink + Drop> Runner<'a, S> {
         requires runner { IsRunner self.old }
         requires first { IsGood self.old u.now.held }
         requires second { IsGood self.old v.now.held }
-        ensures gives { (one other : Assignment → Bool)
-            → IsTerm self.old.terms.table.graph self.old.terms.table.book.state.live one u.now.held.node u.now.held.unit
-            → IsTerm self.old.terms.table.graph self.old.terms.table.book.state.live other v.now.held.node v.now.held.unit
-            → Gives (conjunction_of self.old.terms.table.graph u.now.held.node v.now.held.node) (λ a. one a && other a)
-            (v.now.held ∷ u.now.held ∷ []) self.old self.new result }
+        ensures gives { Gives (conjunction_of self.old.terms.table.graph u.now.held.node v.now.held.node)
+            (λ a. holds_in self.old u.now.held a && holds_in self.old v.now.held a) (v.now.held ∷ u.now.held ∷ []) self.old self.new
+            result }
     {
         let found = self.find_conjunction(u, v);
         self.settle(found)
@@ -106,12 +103,16 @@ impl<'a, S: Sink + Drop> Runner<'a, S> {
         let Some(place) = place_of(self.terms.out.as_slice(), &term.held) else {
             unreachable!();
         };
-        let held = self.terms.out.remove(place);
-        if self.kept.is_none() && is_same(held.node, Node::False) {
-            self.kept = Some(held);
+        let _ = self.terms.out.remove(place);
+        if self.kept.is_none() && is_same(term.held.node, Node::False) {
+            self.kept = Some(term.held);
             return;
         }
-        retire_unit(&mut self.terms.table, &held.unit, &Justification::Trivial);
+        retire_unit(
+            &mut self.terms.table,
+            &term.held.unit,
+            &Justification::Trivial,
+        );
     }
 
     /// Gives back the nodes that no term reaches that is out, with their clauses, and answers how many. Want of memory changes
@@ -166,11 +167,9 @@ impl<'a, S: Sink + Drop> Runner<'a, S> {
         requires runner { IsRunner self.old }
         requires first { IsGood self.old u.now.held }
         requires second { IsGood self.old v.now.held }
-        ensures gives { (one other : Assignment → Bool)
-            → IsTerm self.old.terms.table.graph self.old.terms.table.book.state.live one u.now.held.node u.now.held.unit
-            → IsTerm self.old.terms.table.graph self.old.terms.table.book.state.live other v.now.held.node v.now.held.unit
-            → Gives (conjunction_of self.old.terms.table.graph u.now.held.node v.now.held.node) (λ a. one a && other a)
-            (v.now.held ∷ u.now.held ∷ []) self.old self.new result }
+        ensures gives { Gives (conjunction_of self.old.terms.table.graph u.now.held.node v.now.held.node)
+            (λ a. holds_in self.old u.now.held a && holds_in self.old v.now.held a) (v.now.held ∷ u.now.held ∷ []) self.old self.new
+            result }
     {
         growth_law();
         steps_law::<S>();
