@@ -96,10 +96,10 @@ module _ {S : Type 0} (growth : Growth) (steps : StepByStep S) (function : Level
               ((found.no_empty (untorn whole) tt).each id empty);
         }
 
-    goes_on : came ≢ WriteFault → IsRunner new
-    goes_on whole =
+    goes_on_refused : came ≢ WriteFault → IsRunner new
+    goes_on_refused whole =
         let out = new.terms.out in
-        subst IsRunner (sym same)
+        subst (λ (r : Runner S). IsRunner r) (sym same)
         (subst (λ (list : List HeldTerm). OwnsTerms (record old { terms = record old.terms { table = mid; caches = caches; out = out } })
         (list ++ option_to_list old.kept)) (sym items)
         (let own = refused_owns whole in record {
@@ -117,7 +117,7 @@ module _ {S : Type 0} (growth : Growth) (steps : StepByStep S) (function : Level
 
     pub gives_none : (end : Result Term TableError) → end ≡ Err came → Gives function holds operands old new end
     gives_none end is = subst (λ (r : Result Term TableError). Gives function holds operands old new r) (sym is) (record {
-      goes_on = λ whole. goes_on (λ torn. whole (ap Err torn));
+      goes_on = λ whole. goes_on_refused (λ torn. whole (ap Err torn));
       term = tt;
       listed = tt;
       refused = λ whole failed. items;
@@ -161,21 +161,23 @@ module _ {S : Type 0} (growth : Growth) (steps : StepByStep S) (function : Level
       pub this : term.held.node ≡ False → Contains list term.held
 
     new_list : (items : List HeldTerm) → IsListed old.terms.out.items items term.held → IsNewList (items ++ option_to_list old.kept)
-    new_list items (inl is) = subst (λ (list : List HeldTerm). IsNewList (list ++ option_to_list old.kept)) (sym is.1) (record {
-      units = units_of_rest mid (all_entries caches) term.held (owners old) (ap (λ (h : HeldTerm). h.unit) is.0) units_with;
-      from = λ one among. inr among;
-      still = λ one among. among;
-      this = λ none. absurd (let e : True ≡ False = sym (ap (λ (h : HeldTerm). h.node) is.0) ∙ none in cc);
-    })
-    new_list items (inr is) =
-        let behind = option_to_list old.kept in
-        subst IsNewList (sym (ap (λ (list : List HeldTerm). list ++ behind) is ∙ append_assoc old.terms.out.items (term.held ∷ []) behind))
-        (record {
-          units = units_back mid (all_entries caches) old.terms.out.items behind term.held units_with;
-          from = which_among old.terms.out.items behind term.held;
-          still = among_others old.terms.out.items behind term.held;
-          this = λ none. among_here old.terms.out.items behind term.held;
-        })
+    new_list items listed = elim listed [
+      | inl is ↦ subst (λ (list : List HeldTerm). IsNewList (list ++ option_to_list old.kept)) (sym is.1) (record {
+        units = units_of_rest mid (all_entries caches) term.held (owners old) (ap (λ (h : HeldTerm). h.unit) is.0) units_with;
+        from = λ one among. inr among;
+        still = λ one among. among;
+        this = λ none. absurd (let e : True ≡ False = sym (ap (λ (h : HeldTerm). h.node) is.0) ∙ none in cc);
+      })
+      | inr is ↦
+          let behind = option_to_list old.kept in
+          subst IsNewList (sym (ap (λ (list : List HeldTerm). list ++ behind) is ∙ append_assoc old.terms.out.items (term.held ∷ []) behind))
+          (record {
+            units = units_back mid (all_entries caches) old.terms.out.items behind term.held units_with;
+            from = which_among old.terms.out.items behind term.held;
+            still = among_others old.terms.out.items behind term.held;
+            this = λ none. among_here old.terms.out.items behind term.held;
+          })
+    ]
 
     abbrev list : List HeldTerm
     list = new.terms.out.items ++ option_to_list old.kept
@@ -212,7 +214,7 @@ module _ {S : Type 0} (growth : Growth) (steps : StepByStep S) (function : Level
 
     pub gives_one : Gives function holds operands old new (Ok term)
     gives_one = record {
-      goes_on = λ whole. subst IsRunner (sym same) owns;
+      goes_on = λ whole. subst (λ (r : Runner S). IsRunner r) (sym same) owns;
       term = subst (λ (t : TableState S). IsTerm t.graph t.book.state.live holds term.held.node term.held.unit) (sym here) found.term;
       listed = listed;
       refused = λ whole failed. absurd (let e : false ≡ true = failed in cc);
@@ -336,11 +338,13 @@ module _ {S : Type 0} (function : Levels → Bool) (holds : Assignment → Bool)
 
     -- what was listed owns its clause, or has none
     good_of : (held : HeldTerm) → IsListed old.terms.out.items mid.terms.out.items held → (held ≡ true_term) ⊎ Contains (owners mid) held
-    good_of held (inl is) = inl is.0
-    good_of held (inr is) = inr (subst (λ (items : List HeldTerm). Contains (items ++ option_to_list mid.kept) held) (sym is)
-        (subst (λ (list : List HeldTerm). Contains list held)
-        (sym (append_assoc old.terms.out.items (held ∷ []) (option_to_list mid.kept)))
-        (among_here old.terms.out.items (option_to_list mid.kept) held)))
+    good_of held listed = elim listed [
+      | inl is ↦ inl is.0
+      | inr is ↦ inr (subst (λ (items : List HeldTerm). Contains (items ++ option_to_list mid.kept) held) (sym is)
+          (subst (λ (list : List HeldTerm). Contains list held)
+          (sym (append_assoc old.terms.out.items (held ∷ []) (option_to_list mid.kept)))
+          (among_here old.terms.out.items (option_to_list mid.kept) held)))
+    ]
 
     term_of : (end : Result Term TableError) → (end ≢ Err WriteFault → IsRunner mid)
         → IfOk end (λ term. IsTerm mid.terms.table.graph mid.terms.table.book.state.live holds term.held.node term.held.unit)

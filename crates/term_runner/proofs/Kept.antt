@@ -2,10 +2,11 @@
 use Rattle.std.proofs.Common.{◌≡◌, ◌⊎◌, ◌∙◌, ◌++◌, ℕ, zero, suc, Bool, false, true, List, [], ◌∷◌, Contains, Option, None, Some, map, refl, sym, ap, subst}
 use Rattle.std.proofs.Common.{arith, inl, inr}
 use Rattle.std.specs.Option.{option_to_list}
+use Rattle.std.specs.Prelude.{◌≢◌}
 use Rattle.std.proofs.lemmas.List.{append-nil}
 use Rattle.std.proofs.lemmas.List.Elements.{Contains-append_cases, Contains-append_left}
 use Rattle.node_table.specs.declared.node.Node.{Node}
-use Rattle.node_table.specs.declared.node.Node.TheVariants.{False}
+use Rattle.node_table.specs.declared.node.Node.TheVariants.{False, True}
 use Rattle.node_table.specs.Diagram.{is_node}
 use Rattle.node_table.specs.Laws.{Growth, Reachability}
 use Rattle.node_table.specs.Table.{TableState, IsSound}
@@ -18,8 +19,9 @@ use Rattle.term_runner.specs.declared.runner.Runner.{Runner}
 use Rattle.term_runner.specs.Caches.{all_entries}
 use Rattle.term_runner.specs.Held.{IsUnitOf}
 use Rattle.term_runner.specs.Finds.{IsProved}
-use Rattle.term_runner.specs.Runner.{IsGood, IsRunner, OwnsTerms, holds_in, nodes_of, owners}
+use Rattle.term_runner.specs.Runner.{IsGood, IsRunner, OwnsTerms, holds_in, nodes_of, owners, true_term}
 use Rattle.term_runner.specs.Tidy.{LeavesReached, held_nodes}
+use Rattle.term_runner.proofs.Given.{true_unit}
 use Rattle.term_runner.proofs.Reclaimed.{in_map, leaves_reached, may_reclaim_owned, of_map, over_reclaimed, proved_stays, units_reclaimed}
 
 -- no variable was quantified, so that the roots are the terms' nodes alone
@@ -74,12 +76,31 @@ module _ {S : Type 0} (runner : Runner S) (is : IsRunner runner) where
 -- a term that a call may take is proved
 pub good_proved : {S : Type 0} (runner : Runner S) → IsRunner runner → (held : HeldTerm) → IsGood runner held
     → IsProved runner.terms.table.graph runner.terms.table.book.state.live held
-good_proved runner is held (inl true_one) = subst (λ (h : HeldTerm). IsProved runner.terms.table.graph runner.terms.table.book.state.live h)
-    (sym true_one) (record { stands = refl; unit = refl })
-good_proved runner is held (inr out) = is.proved held (Contains-append_left runner.terms.out.items (option_to_list runner.kept) held out)
+good_proved {S} runner is held good = elim good [
+  | inl true_one ↦ subst (λ (h : HeldTerm). IsProved runner.terms.table.graph runner.terms.table.book.state.live h) (sym true_one)
+      (record { stands = refl; unit = refl })
+  | inr out ↦ is.proved held (Contains-append_left runner.terms.out.items (option_to_list runner.kept) held out)
+]
 
 pub good_term : {S : Type 0} (runner : Runner S) → IsRunner runner → (held : HeldTerm) → IsGood runner held
     → IsTerm runner.terms.table.graph runner.terms.table.book.state.live (holds_in runner held) held.node held.unit
 good_term runner is held good =
     let proved = good_proved runner is held good in
     record { stands = proved.stands; value = λ a. refl; proved = proved.unit }
+
+-- it is True, or it is out
+pub good_true : {S : Type 0} (runner : Runner S) → IsRunner runner → (held : HeldTerm) → IsGood runner held → held.node ≡ True
+    → held ≡ true_term
+good_true runner is held good same = elim good [
+  | inl true_one ↦ true_one
+  | inr out ↦
+      let proved = good_proved runner is held good in
+      λ k. record { node = same k; unit = true_unit runner.terms.table held.node held.unit same proved.unit k }
+]
+
+pub good_out : {S : Type 0} (runner : Runner S) (held : HeldTerm) → IsGood runner held → held.node ≢ True
+    → Contains runner.terms.out.items held
+good_out runner held good some = elim good [
+  | inl true_one ↦ absurd (some (ap (λ (h : HeldTerm). h.node) true_one))
+  | inr out ↦ out
+]

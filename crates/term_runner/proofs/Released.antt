@@ -68,7 +68,7 @@ module _ {S : Type 0} (old : Runner S) (runner : IsRunner old) (held : HeldTerm)
     some_inside one is = cc
 
     goes_on_kept : IsRunner new
-    goes_on_kept = subst IsRunner (sym same)
+    goes_on_kept = subst (λ (r : Runner S). IsRunner r) (sym same)
         (subst (λ (list : List HeldTerm). OwnsTerms (record old { terms = record old.terms { out = new.terms.out }; kept = Some held })
         (list ++ held ∷ [])) (sym items) (record {
           over = own_still.over;
@@ -153,7 +153,7 @@ module _ {S : Type 0} (old : Runner S) (runner : IsRunner old) (held : HeldTerm)
     }
 
     goes_on_rest : IsRunner new
-    goes_on_rest = subst IsRunner (sym same)
+    goes_on_rest = subst (λ (r : Runner S). IsRunner r) (sym same)
         (subst (OwnsTerms (record old { terms = record old.terms { table = table; out = new.terms.out } }))
         (sym (append_assoc front behind kept) ∙ ap (λ (list : List HeldTerm). list ++ kept) (sym items)) owns_rest)
 

@@ -27,8 +27,8 @@ pub record IsUnused {S : Type 0} (runner : Runner S) : Type 0 where
 
 -- A runner was opened over this formula, order and sink, within these limits.
 pub record IsOpenedOver {S : Type 0} (formula : Formula) (order : List ℕ) (limits : Limits) (sink : S) (runner : Runner S) : Type 0 where
-  pub formula : runner.formula.now ≡ formula
-  pub order : runner.terms.table.graph.order ≡ order
-  pub limits : runner.limits ≡ limits
+  pub of_formula : runner.formula.now ≡ formula
+  pub of_order : runner.terms.table.graph.order ≡ order
+  pub within : runner.limits ≡ limits
   pub origin : runner.terms.table.book.origin ≡ sink
   pub unused : IsUnused runner

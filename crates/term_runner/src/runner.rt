@@ -1,6 +1,6 @@
 // A runner, from its opening to the end of its proof. A plan is run in it; or its terms are asked for one by one, and what was
 // written is flushed at the end. Each call by value stands over those that work on a lent sink, too.
-ghost use Rattle.std.specs.Prelude.{◌≡◌, ◌≤◌, ◌×◌, [], length, IsTrue, IfOk, IfErr, OnOk, OnErr, is_ok, is_some};
+ghost use Rattle.std.specs.Prelude.{◌≡◌, ◌≤◌, [], length, IsTrue, IfOk, IfErr, OnOk, OnErr, is_ok, is_some};
 ghost use Rattle.std.specs.FinMap as map;
 ghost use Rattle.cnf_base.specs.Limits.{max_vars};
 ghost use Rattle.host_io.specs.Channel.{Rose};

@@ -1,6 +1,6 @@
 // Terms that a runner gives: of a clause, or of two terms together. Each has a unit of its own, which is retired when the term is
 // released; the first empty clause stays. Nodes that no term reaches are given back by a reclamation.
-ghost use Rattle.std.specs.Prelude.{◌≡◌, ◌≢◌, ◌×◌, ◌⊎◌, ◌→◌, ◌≤◌, ◌<◌, ◌+◌, ◌-◌, ◌&&◌, ◌∷◌, ℕ, Bool, List, [], Contains, Err, Ok, None, Some};
+ghost use Rattle.std.specs.Prelude.{◌≡◌, ◌≢◌, ◌⊎◌, ◌≤◌, ◌<◌, ◌+◌, ◌-◌, ◌&&◌, ◌∷◌, ℕ, Bool, List, [], Contains, Err, Ok, None, Some};
 ghost use Rattle.std.specs.Prelude.{IsTrue, IsFalse, IfErr, IfOk, OnErr, OnOk, MatchOption, get_or, length, true, false, vec_capacity, vec_len};
 ghost use Rattle.cnf_base.specs.Truth.{Assignment};
 ghost use Rattle.node_table.specs.declared.error.TableError.TheVariants.{NodeLimit, OutOfMemory, WriteFault};
@@ -21,7 +21,7 @@ use crate::held::HeldTerm;
 use crate::moves::is_node_limit;
 use crate::reclamation::roots_of;
 use crate::runner::Runner;
-use crate::unit::{is_same, is_same_unit, retire_unit};
+use crate::unit::{is_same, is_same_term, retire_unit};
 use host_io::Sink;
 use node_table::{
     Justification, Node, TableError, canonical_law, growth_law, reach_law, steps_law,
@@ -97,14 +97,17 @@ impl<'a, S: Sink + Drop> Runner<'a, S> {
         ensures torn { self.old.terms.table.book.in_step ≡ false → self.new ≡ self.old }
     {
         steps_law::<S>();
-        if !self.terms.table.ledger().is_in_step() || is_same(term.held.node, Node::True) {
+        if !self.terms.table.ledger().is_in_step() {
+            return;
+        }
+        if is_same(term.held.node, Node::True) {
             return;
         }
         let Some(place) = place_of(self.terms.out.as_slice(), &term.held) else {
             unreachable!();
         };
         let _ = self.terms.out.remove(place);
-        if self.kept.is_none() && is_same(term.held.node, Node::False) {
+        if is_first_false(&self.kept, &term.held) {
             self.kept = Some(term.held);
             return;
         }
@@ -231,6 +234,17 @@ impl<'a, S: Sink + Drop> Runner<'a, S> {
     }
 }
 
+// Whether a term is False, and none that was is kept yet.
+fn is_first_false(kept: &Option<HeldTerm>, held: &HeldTerm) -> bool
+    ensures first { IsTrue result → (kept.now ≡ None) × (held.now.node ≡ False) }
+    ensures other { result ≡ false → held.now.node ≡ False → (one : HeldValue) × (kept.now ≡ Some one) }
+{
+    match kept {
+        None => is_same(held.node, Node::False),
+        Some(_) => false,
+    }
+}
+
 // The place of a term on a list, the last one.
 fn place_of(out: &[HeldTerm], held: &HeldTerm) -> Option<usize>
     ensures { MatchOption result (Contains out.now held.now → ⊥) (λ place. (place < length out.now)
@@ -238,7 +252,7 @@ fn place_of(out: &[HeldTerm], held: &HeldTerm) -> Option<usize>
 {
     for i in 0..out.len() {
         let place = out.len() - 1 - i;
-        if is_same(out[place].node, held.node) && is_same_unit(&out[place].unit, &held.unit) {
+        if is_same_term(&out[place], held) {
             return Some(place);
         }
     }

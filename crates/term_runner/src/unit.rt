@@ -239,8 +239,15 @@ fn is_clause(just: &Justification, id: Id) -> bool
     }
 }
 
-/// Whether two justifications are one.
-pub(crate) fn is_same_unit(one: &Justification, other: &Justification) -> bool
+/// Whether two terms are one.
+pub(crate) fn is_same_term(one: &HeldTerm, other: &HeldTerm) -> bool
+    ensures { IsTrue result ↔ (one.now ≡ other.now) }
+{
+    is_same(one.node, other.node) && is_same_unit(&one.unit, &other.unit)
+}
+
+// Whether two justifications are one.
+fn is_same_unit(one: &Justification, other: &Justification) -> bool
     ensures { IsTrue result ↔ (one.now ≡ other.now) }
 {
     match (one, other) {

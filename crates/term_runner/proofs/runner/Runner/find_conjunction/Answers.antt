@@ -11,7 +11,7 @@ use Rattle.term_runner.specs.Held.{GivesUnit}
 use Rattle.term_runner.specs.Runner.{IsListed, holds_in}
 use Rattle.term_runner.proofs.Given.{gives_none, gives_one, nothing_found, true_unit}
 use Rattle.term_runner.proofs.Kept.{good_proved, good_term}
-use Rattle.term_runner.proofs.term.Runner.find_conjunction.Goals as goal
+use Rattle.term_runner.proofs.runner.Runner.find_conjunction.Goals as goal
 
 pub own_conjunction-requires-clause-first : goal.own_conjunction-requires-clause-first
 own_conjunction-requires-clause-first g c = good_proved c.args.self.now c.requires.runner c.args.u.now.held c.requires.first

@@ -9,7 +9,7 @@ use Rattle.term_runner.specs.Finds.{Finds}
 use Rattle.term_runner.specs.Runner.{IsListed}
 use Rattle.term_runner.specs.Width.{term_function}
 use Rattle.term_runner.proofs.Given.{gives_none, gives_one, nothing_found, true_unit}
-use Rattle.term_runner.proofs.term.Runner.find_input.Goals as goal
+use Rattle.term_runner.proofs.runner.Runner.find_input.Goals as goal
 
 pub any_input-requires-clause-over : goal.any_input-requires-clause-over
 any_input-requires-clause-over g c = (all_entries c.args.self.now.terms.caches, c.requires.runner.over)
