@@ -91,12 +91,9 @@ good_term runner is held good =
 -- it is True, or it is out
 pub good_true : {S : Type 0} (runner : Runner S) → IsRunner runner → (held : HeldTerm) → IsGood runner held → held.node ≡ True
     → held ≡ true_term
-good_true runner is held good same = elim good [
-  | inl true_one ↦ true_one
-  | inr out ↦
-      let proved = good_proved runner is held good in
-      λ k. record { node = same k; unit = true_unit runner.terms.table held.node held.unit same proved.unit k }
-]
+good_true runner is held good same =
+    let proved = good_proved runner is held good in
+    λ k. record { node = same k; unit = true_unit runner.terms.table held.node held.unit same proved.unit k }
 
 pub good_out : {S : Type 0} (runner : Runner S) (held : HeldTerm) → IsGood runner held → held.node ≢ True
     → Contains runner.terms.out.items held

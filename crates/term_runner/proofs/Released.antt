@@ -80,16 +80,19 @@ module _ {S : Type 0} (old : Runner S) (runner : IsRunner old) (held : HeldTerm)
           unrefuted = own_still.unrefuted;
         }))
 
+    here : new.terms.table ≡ old.terms.table
+    here = ap (λ (r : Runner S). r.terms.table) same
+
     pub releases_kept : Releases held old new
     releases_kept = record {
       goes_on = goes_on_kept;
       out = inr (record { front = front; behind = behind; was = was; is = items });
-      table = ap (λ (r : Runner S). r.terms.table) same;
+      table = here ∙ ap (λ (t : TableState S). record old.terms.table { retired = t.retired }) (sym here);
       caches = ap (λ (r : Runner S). r.terms.caches) same;
       formula = ap (λ (r : Runner S). r.formula) same;
       limits = ap (λ (r : Runner S). r.limits) same;
       refuted = ap (λ (r : Runner S). r.refuted) same;
-      continues = subst (λ (t : TableState S). Continues old.terms.table t) (sym (ap (λ (r : Runner S). r.terms.table) same)) continues;
+      continues = subst (λ (t : TableState S). Continues old.terms.table t) (sym here) continues;
     }
 
   -- its clause is retired
@@ -97,7 +100,7 @@ module _ {S : Type 0} (old : Runner S) (runner : IsRunner old) (held : HeldTerm)
       (same : new ≡ record old { terms = record old.terms { table = table; out = new.terms.out } })
       (items : new.terms.out.items ≡ front ++ behind) (retires : RetiresBut old.terms.table table held.unit Trivial)
       (more : Steps old.terms.table table 0 None) (other : held.node ≡ False → (one : HeldTerm) × (old.kept ≡ Some one)) where
-    rest : List HeldTerm
+    abbrev rest : List HeldTerm
     rest = front ++ (behind ++ kept)
 
     units_rest : HasUnits table (all_entries old.terms.caches) rest

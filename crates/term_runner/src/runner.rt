@@ -121,9 +121,9 @@ impl<'a, S: Sink + Drop> Runner<'a, S> {
         requires unused { IsUnused self }
         requires plan { IsAdmissible self.formula.now plan.now }
         requires fresh { IsTrue S.tells → (S.channel self.terms.table.book.origin).written ≡ [] }
-        ensures ends { Ends S.tells (S.channel self.terms.table.book.origin) (S.channel result.0) self.formula.now
-            self.terms.table.graph.order plan.now self.limits result.1 }
-        ensures beside { S.beside result.0 ≡ S.beside self.terms.table.book.origin }
+        ensures ends { Ends S.tells (S.channel self.entry.terms.table.book.origin) (S.channel result.0) self.entry.formula.now
+            self.entry.terms.table.graph.order plan.now self.entry.limits result.1 }
+        ensures beside { S.beside result.0 ≡ S.beside self.entry.terms.table.book.origin }
     {
         let mut progress = Progress::new(self.formula.len() as u64, self.limits.max_ids);
         self.run_counting(plan, &mut progress, false)
@@ -140,10 +140,10 @@ impl<'a, S: Sink + Drop> Runner<'a, S> {
         requires plan { IsAdmissible self.formula.now plan.now }
         requires fresh { IsTrue S.tells → (S.channel self.terms.table.book.origin).written ≡ [] }
         requires begun { progress.old.moves ≡ 0 }
-        ensures ends { EndsWithin S.tells (S.channel self.terms.table.book.origin) (S.channel result.0) self.formula.now
-            self.terms.table.graph.order plan.now self.limits result.1 }
+        ensures ends { EndsWithin S.tells (S.channel self.entry.terms.table.book.origin) (S.channel result.0) self.entry.formula.now
+            self.entry.terms.table.graph.order plan.now self.entry.limits result.1 }
         ensures counted { progress.new.moves ≤ length plan.now }
-        ensures beside { S.beside result.0 ≡ S.beside self.terms.table.book.origin }
+        ensures beside { S.beside result.0 ≡ S.beside self.entry.terms.table.book.origin }
     {
         start_law();
         derivation_law();
@@ -179,10 +179,10 @@ impl<'a, S: Sink + Drop> Runner<'a, S> {
     /// Flushes what was written, and answers the greatest clause number. Only `WriteFault` may come.
     pub fn close(self) -> (S, Result<u64, RunError>)
         requires in_step { IsTrue self.terms.table.book.in_step }
-        requires none_out { self.terms.out.items ≡ [] }
-        ensures last { IfOk result.1 (λ last. last ≡ self.terms.table.book.state.top) }
+        requires none_out { length self.terms.out.items ≡ 0 }
+        ensures last { IfOk result.1 (λ last. last ≡ self.entry.terms.table.book.state.top) }
         ensures error { IfErr result.1 (λ e. e ≡ RunError.WriteFault) }
-        ensures written { (S.channel result.0).written ≡ (S.channel self.terms.table.book.sink).written }
+        ensures written { (S.channel result.0).written ≡ (S.channel self.entry.terms.table.book.sink).written }
         ensures flushed { IsTrue S.tells → OnOk result.1 ((S.channel result.0).flushed ≡ length (S.channel result.0).written) }
     {
         let mut ledger = self.terms.into_ledger(false);
@@ -196,7 +196,7 @@ impl<'a, S: Sink + Drop> Runner<'a, S> {
 
     /// Hands the sink back as it is, at any time.
     pub fn into_sink(self) -> S
-        ensures { result ≡ self.terms.table.book.sink }
+        ensures { result ≡ self.entry.terms.table.book.sink }
     {
         self.terms.into_ledger(false).close()
     }

@@ -97,6 +97,7 @@ impl<'a, S: Sink + Drop> Runner<'a, S> {
         ensures torn { self.old.terms.table.book.in_step ≡ false → self.new ≡ self.old }
     {
         steps_law::<S>();
+        entry_law::<S>();
         if !self.terms.table.ledger().is_in_step() {
             return;
         }
@@ -162,7 +163,8 @@ impl<'a, S: Sink + Drop> Runner<'a, S> {
             return Err(TableError::OutOfMemory);
         }
         let held = any_input(alloc, &mut self.terms.table, self.formula, number)?;
-        Ok(self.place(held))
+        self.place(&held);
+        Ok(Term { held })
     }
 
     // Finds the conjunction of two terms, and puts it on the list.
@@ -187,35 +189,34 @@ impl<'a, S: Sink + Drop> Runner<'a, S> {
             &u.held,
             &v.held,
         )?;
-        Ok(self.place(held))
+        self.place(&held);
+        Ok(Term { held })
     }
 
     // Puts a term on the list of those that are out, for which there is room, unless it is True.
-    fn place(&mut self, held: HeldTerm) -> Term
+    fn place(&mut self, held: &HeldTerm)
         requires room { vec_len self.old.terms.out < vec_capacity self.old.terms.out }
-        requires true_alone { held.node ≡ True → held.unit ≡ Justification.Trivial }
-        ensures term { result.held ≡ held }
-        ensures listed { IsListed self.old.terms.out.items self.new.terms.out.items held }
-        ensures refutes { held.node ≡ False → IsTrue self.new.refuted }
-        ensures unrefuted { held.node ≢ False → self.new.refuted ≡ self.old.refuted }
+        requires true_alone { held.now.node ≡ True → held.now.unit ≡ Justification.Trivial }
+        ensures listed { IsListed self.old.terms.out.items self.new.terms.out.items held.now }
+        ensures refutes { held.now.node ≡ False → IsTrue self.new.refuted }
+        ensures unrefuted { held.now.node ≢ False → self.new.refuted ≡ self.old.refuted }
         ensures same { self.new ≡ record self.old { terms = record self.old.terms { out = self.new.terms.out };
             refuted = self.new.refuted } }
     {
-        if is_same(held.node, Node::False) {
-            self.refuted = true;
+        if is_same(held.node, Node::True) {
+            return;
         }
-        if !is_same(held.node, Node::True) {
-            self.terms.out.push_reserved(held);
-        }
-        Term { held }
+        let refutes = is_same(held.node, Node::False);
+        self.refuted = self.refuted || refutes;
+        self.terms.out.push_reserved(*held);
     }
 
     // Deletes the retired clauses behind a call, but where it broke off for want of memory or of numbers.
     fn settle(&mut self, found: Result<Term, TableError>) -> Result<Term, TableError>
         requires runner { UnlessTorn found (IsRunner self.old) }
-        ensures gives { (function : Levels → Bool) (holds : Assignment → Bool) (operands : List HeldValue) (old : RunnerValue S.Denot)
+        ensures gives { (function : Levels → Bool) (holds : Assignment → Bool) (operands : List HeldValue) (old : RunnerValue S)
             → Gives function holds operands old self.old found → Gives function holds operands old self.new result }
-        ensures adds { (most : ℕ) (old : RunnerValue S.Denot) → AddsAtMost most old.terms.table self.old.terms.table
+        ensures adds { (most : ℕ) (old : RunnerValue S) → AddsAtMost most old.terms.table self.old.terms.table
             → AddsAtMost most old.terms.table self.new.terms.table }
     {
         steps_law::<S>();

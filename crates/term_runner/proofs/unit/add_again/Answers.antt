@@ -1,5 +1,5 @@
 -- The clause of a node alone follows from itself.
-use Rattle.std.proofs.Common.{subst}
+use Rattle.std.proofs.Common.{[], ◌∷◌, subst}
 use Rattle.node_table.specs.declared.node.Justification.{Justification}
 use Rattle.node_table.specs.Defined.{atom_of}
 use Rattle.node_table.specs.Justification.{IsJustified}

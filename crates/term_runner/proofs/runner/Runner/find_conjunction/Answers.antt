@@ -6,8 +6,6 @@ use Rattle.node_table.specs.declared.error.TableError.TheVariants.{OutOfMemory, 
 use Rattle.apply_and.specs.Conjunction.{conjunction_of}
 use Rattle.term_runner.specs.declared.held.HeldTerm.{HeldTerm}
 use Rattle.term_runner.specs.Caches.{all_entries}
-use Rattle.term_runner.specs.Finds.{Finds}
-use Rattle.term_runner.specs.Held.{GivesUnit}
 use Rattle.term_runner.specs.Runner.{IsListed, holds_in}
 use Rattle.term_runner.proofs.Given.{gives_none, gives_one, nothing_found, true_unit}
 use Rattle.term_runner.proofs.Kept.{good_proved, good_term}
@@ -19,8 +17,8 @@ own_conjunction-requires-clause-first g c = good_proved c.args.self.now c.requir
 pub own_conjunction-requires-clause-second : goal.own_conjunction-requires-clause-second
 own_conjunction-requires-clause-second g c = good_proved c.args.self.now c.requires.runner c.args.v.now.held c.requires.second
 
-pub returns-then-is_err-clause-gives : goal.returns-then-is_err-clause-gives
-returns-then-is_err-clause-gives g c =
+pub returns-then-is_err : goal.returns-then-is_err
+returns-then-is_err g c =
     let old = c.args.self.now in
     let over = c.requires.runner.over in
     let function = conjunction_of old.terms.table.graph c.args.u.now.held.node c.args.v.now.held.node in
@@ -31,8 +29,8 @@ returns-then-is_err-clause-gives g c =
     (nothing_found c.steps_law.ensures c.subfunction_law.ensures function holds operands old.terms.table old.terms.caches over.sound over.fits)
     (λ whole terms has. has) (record old { terms = record old.terms { out = c.reserve.new.self } }) refl c.reserve.ensures.items _ refl
 
-pub returns-in_err-held-clause-gives : goal.returns-in_err-held-clause-gives
-returns-in_err-held-clause-gives g c =
+pub returns-in_err-held : goal.returns-in_err-held
+returns-in_err-held g c =
     let old = c.args.self.now in
     let came = c.in_err-held.field-0.0 in
     let mid = c.own_conjunction.new.table in
@@ -54,24 +52,17 @@ place-requires-clause-true_alone g c is =
     (good_term old c.requires.runner c.args.v.now.held c.requires.second) in
     true_unit c.own_conjunction.new.table c.in_ok-held.held.node c.in_ok-held.held.unit is found.term.proved
 
-pub returns-clause-gives : goal.returns-clause-gives
-returns-clause-gives g c =
+pub returns : goal.returns
+returns g c =
     let old = c.args.self.now in
-    let mid = c.own_conjunction.new.table in
-    let caches = c.own_conjunction.new.caches in
-    let function = conjunction_of old.terms.table.graph c.args.u.now.held.node c.args.v.now.held.node in
-    let holds : Assignment → Bool = λ a. holds_in old c.args.u.now.held a && holds_in old c.args.v.now.held a in
-    let operands = c.args.v.now.held ∷ c.args.u.now.held ∷ [] in
-    let found = subst (λ (held : HeldTerm). Finds function holds operands old.terms.table mid old.terms.caches caches (Ok held))
-    (sym c.place.ensures.term) (c.in_ok-held.ensures.finds (holds_in old c.args.u.now.held) (holds_in old c.args.v.now.held)
+    let found = c.in_ok-held.ensures.finds (holds_in old c.args.u.now.held) (holds_in old c.args.v.now.held)
     (good_term old c.requires.runner c.args.u.now.held c.requires.first)
-    (good_term old c.requires.runner c.args.v.now.held c.requires.second)) in
-    let own = subst (λ (held : HeldTerm). GivesUnit old.terms.table mid (all_entries old.terms.caches) (all_entries caches) [] held.unit)
-    (sym c.place.ensures.term) c.in_ok-held.ensures.own in
-    gives_one c.growth_law.ensures c.steps_law.ensures function holds operands old c.requires.runner mid caches c.place.result
-    found own c.place.new.self c.place.ensures.same
-    (subst (λ (held : HeldTerm). IsListed old.terms.out.items c.place.new.self.terms.out.items held) (sym c.place.ensures.term)
+    (good_term old c.requires.runner c.args.v.now.held c.requires.second) in
+    gives_one c.growth_law.ensures c.steps_law.ensures
+    (conjunction_of old.terms.table.graph c.args.u.now.held.node c.args.v.now.held.node)
+    (λ a. holds_in old c.args.u.now.held a && holds_in old c.args.v.now.held a) (c.args.v.now.held ∷ c.args.u.now.held ∷ []) old
+    c.requires.runner c.own_conjunction.new.table c.own_conjunction.new.caches (record { held = c.in_ok-held.held }) found
+    c.in_ok-held.ensures.own c.place.new.self c.place.ensures.same
     (subst (λ (items : List HeldTerm). IsListed items c.place.new.self.terms.out.items c.in_ok-held.held) c.reserve.ensures.items
-    c.place.ensures.listed))
-    (λ is. c.place.ensures.refutes (sym (ap (λ (h : HeldTerm). h.node) c.place.ensures.term) ∙ is))
-    (λ some. c.place.ensures.unrefuted (λ is. some (ap (λ (h : HeldTerm). h.node) c.place.ensures.term ∙ is)))
+    c.place.ensures.listed)
+    c.place.ensures.refutes c.place.ensures.unrefuted

@@ -31,3 +31,23 @@ reclaim-requires-clause-may g c =
     c.in_ok-roots.ensures c.requires.runner.no_trail in
     subst (λ (roots : List Node). MayReclaim runner.terms.table (all_entries runner.terms.caches) roots) (sym same)
     (terms_may_reclaim runner c.requires.runner)
+
+pub returns-clause-goes_on : goal.returns-clause-goes_on
+returns-clause-goes_on g c whole =
+    let runner = c.args.self.now in
+    let same : c.as_slice-2.result.now ≡ nodes_of runner.terms.out.items = roots_are runner.terms.out.items c.as_slice.result.now
+    runner.terms.trail c.as_slice-2.result.now c.in_ok-roots.roots.items c.as_slice.ensures.value c.as_slice-2.ensures.value
+    c.in_ok-roots.ensures c.requires.runner.no_trail in
+    runner_reclaimed runner c.requires.runner c.growth_law.ensures c.reclaim.new.table c.reclaim.new.caches c.in_ok-count.ensures.leaves.sound
+    (subst (λ (roots : List Node). Reclaims runner.terms.table c.reclaim.new.table roots (all_entries runner.terms.caches)
+    (all_entries c.reclaim.new.caches)) same c.in_ok-count.ensures.reclaims)
+
+pub returns-clause-reached : goal.returns-clause-reached
+returns-clause-reached g c =
+    let runner = c.args.self.now in
+    let same : c.as_slice-2.result.now ≡ nodes_of runner.terms.out.items = roots_are runner.terms.out.items c.as_slice.result.now
+    runner.terms.trail c.as_slice-2.result.now c.in_ok-roots.roots.items c.as_slice.ensures.value c.as_slice-2.ensures.value
+    c.in_ok-roots.ensures c.requires.runner.no_trail in
+    reached_terms runner c.requires.runner c.growth_law.ensures c.reclaim.new.table c.reclaim.new.caches c.in_ok-count.ensures.leaves.sound
+    (subst (λ (roots : List Node). Reclaims runner.terms.table c.reclaim.new.table roots (all_entries runner.terms.caches)
+    (all_entries c.reclaim.new.caches)) same c.in_ok-count.ensures.reclaims) c.reach_law.ensures

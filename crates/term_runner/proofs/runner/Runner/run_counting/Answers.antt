@@ -27,20 +27,20 @@ returns-in-Some-clause-ends g c =
     let old = c.args.self.terms.table.book in
     let tells = g.S.Sink.tells in
     let channel : g.row.S.Denot → Channel = g.S.Sink.channel in
-    let ledger = c.into_ledger.result in
+    let ledger = c.into_ledger-ledger.result in
     let opened : IsOpened formula limits.max_ids ledger = subst (λ (b : Book g.row.S.Denot). IsOpened formula limits.max_ids b)
-    (sym c.into_ledger.ensures) c.requires.unused.book in
+    (sym c.into_ledger-ledger.ensures) c.requires.unused.book in
     let fresh : IsTrue tells → (channel ledger.origin).written ≡ [] = λ t.
-    ap (λ (b : Book g.row.S.Denot). (channel b.origin).written) c.into_ledger.ensures ∙ c.requires.fresh t in
-    subst (λ (s : g.row.S.Denot). EndsWithin tells (channel old.origin) (channel s) formula order c.args.plan.now limits c.refute.result)
+    ap (λ (b : Book g.row.S.Denot). (channel b.origin).written) c.into_ledger-ledger.ensures ∙ c.requires.fresh t in
+    subst (λ (s : g.row.S.Denot). EndsWithin tells (channel old.origin) (channel s) formula order c.args.plan.now limits c.refute-result.result)
     (sym c.close.ensures)
-    (subst (λ (b : Book g.row.S.Denot). EndsWithin tells (channel b.origin) (channel c.refute.new.ledger.sink) formula order c.args.plan.now
-    limits c.refute.result) c.into_ledger.ensures
-    (c.refute.ensures.ends formula order c.args.plan.now limits opened fresh c.in-Some.ensures.0 c.in-Some.ensures.1
+    (subst (λ (b : Book g.row.S.Denot). EndsWithin tells (channel b.origin) (channel c.refute-result.new.ledger.sink) formula order c.args.plan.now
+    limits c.refute-result.result) c.into_ledger-ledger.ensures
+    (c.refute-result.ensures.ends formula order c.args.plan.now limits opened fresh c.in-Some.ensures.0 c.in-Some.ensures.1
     (some_moves formula c.args.plan.now c.requires.plan c.in-Some.ensures.1)))
 
-pub decide-requires-clause-ready : goal.decide-requires-clause-ready
-decide-requires-clause-ready g c =
+pub decide-found-requires-clause-ready : goal.decide-found-requires-clause-ready
+decide-found-requires-clause-ready g c =
     let unused = c.requires.unused in
     let table = c.args.self.terms.table in
     let formula = c.args.self.formula.now in
@@ -48,7 +48,7 @@ decide-requires-clause-ready g c =
       over = over_at c.start_law.ensures.clauses c.opening_law.ensures formula table.graph.order table.book table
           c.args.self.limits.max_nodes unused.table unused.book.state unused.book.in_step unused.order unused.vars
           c.formula_law.ensures.literals;
-      none_empty = c.in-None.ensures;
+      none_empty = c.in_default.ensures;
     }
 
 pub returns-clause-ends : goal.returns-clause-ends
@@ -61,11 +61,11 @@ returns-clause-ends g c =
     let order = table.graph.order in
     let tells = g.S.Sink.tells in
     let channel : g.row.S.Denot → Channel = g.S.Sink.channel in
-    let new = c.decide.new.self.table in
-    let found = c.decide.result in
-    let told = c.decide.ensures in
-    let ledger = c.into_ledger.result in
-    let kept : ledger ≡ new.book = c.into_ledger.ensures in
+    let new = c.decide-found.new.self.table in
+    let found = c.decide-found.result in
+    let told = c.decide-found.ensures in
+    let ledger = c.into_ledger-ledger-2.result in
+    let kept : ledger ≡ new.book = c.into_ledger-ledger-2.ensures in
     let same : new.book.origin ≡ table.book.origin = origin_left table new (error_of found) told.leaves in
     let of_formula : new.book.formula ≡ formula.clauses = formula_left table new (error_of found) told.leaves ∙ unused.book.of_formula in
     let before : Channel = channel new.book.origin in
@@ -78,7 +78,7 @@ returns-clause-ends g c =
     let ready : IsReady formula table [] = record {
       over = over_at c.start_law.ensures.clauses c.opening_law.ensures formula order table.book table limits.max_nodes unused.table
           unused.book.state unused.book.in_step unused.order unused.vars c.formula_law.ensures.literals;
-      none_empty = c.in-None.ensures;
+      none_empty = c.in_default.ensures;
     } in
     let unwritten : table.book.sink ≡ new.book.origin = unused.sink ∙ sym same in
     let leads = decided_leads c.canonical_law.ensures c.soundness_law.ensures.derived c.derivation_law.ensures.refutes c.in_use_law.ensures
@@ -101,26 +101,26 @@ returns-clause-ends g c =
     (sym c.outcome_of.ensures) leads in
     let handed = subst (λ (b : Book g.row.S.Denot). Leads tells before (channel b.sink) formula order moves limits b c.outcome_of.result)
     (sym kept) outcome in
-    let ended = c.finish.ensures.ends before formula order moves limits handed in
-    subst (λ (s : g.row.S.Denot). EndsWithin tells (channel table.book.origin) (channel s) formula order moves limits c.finish.result)
-    (sym c.close.ensures)
-    (subst (λ (s : g.row.S.Denot). EndsWithin tells (channel s) (channel c.finish.new.ledger.sink) formula order moves limits
-    c.finish.result) same ended)
+    let ended = c.finish-result.ensures.ends before formula order moves limits handed in
+    subst (λ (s : g.row.S.Denot). EndsWithin tells (channel table.book.origin) (channel s) formula order moves limits c.finish-result.result)
+    (sym c.close-2.ensures)
+    (subst (λ (s : g.row.S.Denot). EndsWithin tells (channel s) (channel c.finish-result.new.ledger.sink) formula order moves limits
+    c.finish-result.result) same ended)
 
-pub finish-requires : goal.finish-requires
-finish-requires g c = record {
-  in_step = λ whole. ap (λ (b : Book g.row.S.Denot). b.in_step) c.into_ledger.ensures
-      ∙ (went_on c.args.self.terms.table c.decide.new.self.table c.decide.result c.decide.ensures.leaves
+pub finish-result-requires : goal.finish-result-requires
+finish-result-requires g c = record {
+  in_step = λ whole. ap (λ (b : Book g.row.S.Denot). b.in_step) c.into_ledger-ledger-2.ensures
+      ∙ (went_on c.args.self.terms.table c.decide-found.new.self.table c.decide-found.result c.decide-found.ensures.leaves
       (λ torn. whole (c.outcome_of.ensures ∙ ap outcome_of torn))).sound.in_step;
 }
 
 pub returns-clause-beside : goal.returns-clause-beside
 returns-clause-beside g c =
-    ap g.S.Sink.beside c.close.ensures ∙ c.book_law-3.ensures.book.rest
-    ∙ ap g.S.Sink.beside (c.finish.ensures.origin ∙ ap (λ (b : Book g.row.S.Denot). b.origin) c.into_ledger.ensures
-    ∙ origin_left c.args.self.terms.table c.decide.new.self.table (error_of c.decide.result) c.decide.ensures.leaves)
+    ap g.S.Sink.beside c.close-2.ensures ∙ c.book_law-3.ensures.book.rest
+    ∙ ap g.S.Sink.beside (c.finish-result.ensures.origin ∙ ap (λ (b : Book g.row.S.Denot). b.origin) c.into_ledger-ledger-2.ensures
+    ∙ origin_left c.args.self.terms.table c.decide-found.new.self.table (error_of c.decide-found.result) c.decide-found.ensures.leaves)
 
 pub returns-in-Some-clause-beside : goal.returns-in-Some-clause-beside
 returns-in-Some-clause-beside g c =
     ap g.S.Sink.beside c.close.ensures ∙ c.book_law.ensures.book.rest
-    ∙ ap g.S.Sink.beside (c.refute.ensures.origin ∙ ap (λ (b : Book g.row.S.Denot). b.origin) c.into_ledger.ensures)
+    ∙ ap g.S.Sink.beside (c.refute-result.ensures.origin ∙ ap (λ (b : Book g.row.S.Denot). b.origin) c.into_ledger-ledger.ensures)
