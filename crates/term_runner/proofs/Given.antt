@@ -20,7 +20,7 @@ use Rattle.node_table.specs.Laws.{Growth, StepByStep, Subfunctions}
 use Rattle.node_table.specs.Made.{LacksPart, MakesOnly}
 use Rattle.node_table.specs.Progress.{Continues, Leaves, error_of}
 use Rattle.node_table.specs.Refused.{no_nodes_left}
-use Rattle.node_table.specs.Table.{TableState, AddsAtMost, AddsNoEmpty, Extends, IsSound, defining_clauses}
+use Rattle.node_table.specs.Table.{TableState, AddsAtMost, AddsNoEmpty, Extends, IsSound, defining_clauses, live_nodes}
 use Rattle.node_table.specs.Value.{Levels}
 use Rattle.operations.specs.Budget.{most_additions}
 use Rattle.operations.specs.Entries.{Fits, Fitting}
@@ -179,14 +179,14 @@ module _ {S : Type 0} (growth : Growth) (steps : StepByStep S) (function : Level
           })
     ]
 
-    abbrev list : List HeldTerm
-    list = new.terms.out.items ++ option_to_list old.kept
+    abbrev owned : List HeldTerm
+    owned = new.terms.out.items ++ option_to_list old.kept
 
-    now : IsNewList list
+    now : IsNewList owned
     now = new_list new.terms.out.items listed
 
     owns : OwnsTerms (record old { terms = record old.terms { table = mid; caches = caches; out = new.terms.out }; refuted = new.refuted })
-        list
+        owned
     owns = record {
       over = over_after old.formula.now old.terms.table mid (all_entries old.terms.caches) (all_entries caches) runner.over more
           found.steps.extends (found.fits no_error);
@@ -200,7 +200,7 @@ module _ {S : Type 0} (growth : Growth) (steps : StepByStep S) (function : Level
       kept = runner.kept;
       refuted = λ is. elim (false_or term.held.node) [
         | inl none ↦ record { held = term.held; among = now.this none; is_false = none }
-        | inr some ↦ more_false (owners old) list now.still (runner.refuted (sym (unrefuted some) ∙ is))
+        | inr some ↦ more_false (owners old) owned now.still (runner.refuted (sym (unrefuted some) ∙ is))
       ];
       unrefuted = λ no id above empty. elim (false_or term.held.node) [
         | inl none ↦ absurd (let e : true ≡ false = sym (refutes none) ∙ no in cc)
@@ -370,3 +370,31 @@ module _ {S : Type 0} (function : Levels → Bool) (holds : Assignment → Bool)
       made = subst (λ (graph : Graph). MakesOnly old.terms.table.graph graph function) (sym nodes) own.made;
       lacks = λ limit. subst (λ (graph : Graph). LacksPart graph function) (sym nodes) (own.lacks limit);
     }
+
+-- A call that came to its end, or to the limit of nodes, and one behind it that keeps the nodes.
+no_fault_here : {T : Type 0} (r : Result T TableError) → (error_of r ≡ None) ⊎ (error_of r ≡ Some NodeLimit) → r ≡ Err WriteFault → ⊥
+no_fault_here r ended torn = elim ended [
+  | inl none ↦ absurd (let e : None ≡ Some WriteFault = sym none ∙ ap error_of torn in cc)
+  | inr limit ↦ absurd (let e : Some NodeLimit ≡ Some WriteFault = sym limit ∙ ap error_of torn in cc)
+]
+
+pub ended_whole : {T : Type 0} (r : Result T TableError) → (error_of r ≡ None) ⊎ (error_of r ≡ Some NodeLimit) → r ≢ Err WriteFault
+ended_whole r ended = no_fault_here r ended
+
+pub went_so_far : {S T : Type 0} (old mid : TableState S) (r : Result T TableError) → (error_of r ≡ None) ⊎ (error_of r ≡ Some NodeLimit)
+    → Leaves old mid (error_of r) → Continues old mid
+went_so_far old mid r ended leaves = went_on old mid r leaves (no_fault_here r ended)
+
+pub leaves_ended : {S T : Type 0} → StepByStep S → (old mid new : TableState S) (r : Result T TableError)
+    → (error_of r ≡ None) ⊎ (error_of r ≡ Some NodeLimit) → Leaves old mid (error_of r) → Continues mid new → new.graph ≡ mid.graph
+    → Leaves old new (error_of r)
+leaves_ended steps old mid new r ended leaves more nodes = elim ended [
+  | inl none ↦ subst (λ (e : Option TableError). Leaves old new e) (sym none)
+      (steps.go_on old mid new (subst (λ (e : Option TableError). Leaves old mid e) none leaves) more)
+  | inr limit ↦
+      let was = subst (λ (e : Option TableError). Leaves old mid e) limit leaves in
+      subst (λ (e : Option TableError). Leaves old new e) (sym limit) (
+        steps.go_on old mid new was.0 more,
+        omega (arith, was.1, more.max_nodes, ap live_nodes nodes),
+      )
+]

@@ -221,17 +221,21 @@ impl<'a, S: Sink + Drop> Runner<'a, S> {
     {
         steps_law::<S>();
         entry_law::<S>();
-        match found {
-            Ok(term) => {
-                self.terms.table.settle()?;
-                Ok(term)
-            }
-            Err(e) if is_node_limit(&e) => {
-                self.terms.table.settle()?;
-                Err(e)
-            }
-            Err(e) => Err(e),
+        if !has_ended(&found) {
+            return found;
         }
+        self.terms.table.settle()?;
+        found
+    }
+}
+
+// Whether a call came to its end, or to the limit of nodes.
+fn has_ended(found: &Result<Term, TableError>) -> bool
+    ensures { IsTrue result → (error_of found.now ≡ None) ⊎ (error_of found.now ≡ Some NodeLimit) }
+{
+    match found {
+        Ok(_) => true,
+        Err(e) => is_node_limit(e),
     }
 }
 

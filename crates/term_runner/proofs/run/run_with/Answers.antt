@@ -35,24 +35,3 @@ returns-in-Some-clause-ends g c =
     c.refute-result.result) same
     (c.refute-result.ensures.ends formula c.args.order.now c.args.plan.now c.args.limits opened fresh c.in-Some.ensures.0 c.in-Some.ensures.1
     (some_moves formula c.args.plan.now c.requires.plan c.in-Some.ensures.1)))
-
-pub returns-in_default-clause-ends : goal.returns-in_default-clause-ends
-returns-in_default-clause-ends g c =
-    let formula = c.args.formula.now in
-    let tells = g.S.Sink.tells in
-    let channel : Channel = g.S.Sink.channel c.args.sink.now in
-    let written : IsTrue tells → IsWritten formula.clauses channel.written (start formula.clauses) = λ t.
-    written_at_start c.derivation_law.ensures.none formula.clauses channel.written (c.requires.fresh t) in
-    subst (λ (s : g.row.S.Denot). EndsWithin tells channel (g.S.Sink.channel s) formula c.args.order.now c.args.plan.now c.args.limits _)
-    (search rules)
-    (record {
-      ends = nothing_ends tells channel channel formula c.args.order.now c.args.plan.now c.args.limits
-          (λ t. whole_at_start formula (KeepsWithin formula c.args.limits)
-          (start_within c.marks_law.ensures.start formula c.args.limits c.formula_law.ensures.literals) channel.written (written t))
-          c.requires.fresh
-          (λ width price t. whole_at_start formula (IsPaidFor formula c.args.limits c.args.plan.now width price)
-          (start_paid c.marks_law.ensures.start c.start_law.ensures.none_above c.lean_law.ensures.few formula c.args.limits c.args.plan.now width
-          price c.formula_law.ensures.literals) channel.written (written t))
-          refl refl refl;
-      last = tt;
-    })
