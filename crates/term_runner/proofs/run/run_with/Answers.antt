@@ -1,7 +1,10 @@
 -- What is left to show of `run_with`.
 use Rattle.std.proofs.Common.{rules, MutBor, ◌≡◌, ℕ, List, [], refl, sym, ap, ◌∙◌, subst}
 use Rattle.std.specs.Prelude.{IsTrue}
+use Rattle.cnf_base.specs.Formula.{Formula}
+use Rattle.schedule_plan.specs.declared.limits.Limits.{Limits}
 use Rattle.host_io.specs.Channel.{Channel}
+use Rattle.term_runner.specs.declared.runner.Runner.{Runner}
 use Rattle.clause_ledger.specs.Book.{Book}
 use Rattle.lrat_rules.specs.State.{start}
 use Rattle.lrat_rules.specs.Derivation.{IsWritten}
@@ -11,7 +14,9 @@ use Rattle.term_runner.specs.Proofs.{KeepsWithin}
 use Rattle.term_runner.proofs.Ending.{inner_kept, lender_kept, nothing_ends}
 use Rattle.term_runner.proofs.OneLine.{some_moves, start_paid, start_within}
 use Rattle.term_runner.proofs.Opening.{whole_at_start, written_at_start}
+use Rattle.term_runner.proofs.run.run_with.Given.{Over}
 use Rattle.term_runner.proofs.run.run_with.Goals as goal
+use Rattle.term_runner.proofs.run.run_with.Goals.{After-run_counting}
 
 pub returns-in-Some-clause-ends : goal.returns-in-Some-clause-ends
 returns-in-Some-clause-ends g c =
@@ -35,3 +40,63 @@ returns-in-Some-clause-ends g c =
     c.refute-result.result) same
     (c.refute-result.ensures.ends formula c.args.order.now c.args.plan.now c.args.limits opened fresh c.in-Some.ensures.0 c.in-Some.ensures.1
     (some_moves formula c.args.plan.now c.requires.plan c.in-Some.ensures.1)))
+
+pub returns-in_default-new-clause-ends : goal.returns-in_default-new-clause-ends
+returns-in_default-new-clause-ends g c =
+    let formula = c.args.formula.now in
+    let tells = g.S.Sink.tells in
+    let channel : Channel = g.S.Sink.channel c.args.sink.now in
+    let written : IsTrue tells → IsWritten formula.clauses channel.written (start formula.clauses) = λ t.
+    written_at_start c.derivation_law.ensures.none formula.clauses channel.written (c.requires.fresh t) in
+    subst (λ (s : g.row.S.Denot). EndsWithin tells channel (g.S.Sink.channel s) formula c.args.order.now c.args.plan.now c.args.limits _)
+    (search rules)
+    (record {
+      ends = nothing_ends tells channel channel formula c.args.order.now c.args.plan.now c.args.limits
+          (λ t. whole_at_start formula (KeepsWithin formula c.args.limits)
+          (start_within c.marks_law.ensures.start formula c.args.limits c.formula_law.ensures.literals) channel.written (written t))
+          c.requires.fresh
+          (λ width price t. whole_at_start formula (IsPaidFor formula c.args.limits c.args.plan.now width price)
+          (start_paid c.marks_law.ensures.start c.start_law.ensures.none_above c.lean_law.ensures.few formula c.args.limits c.args.plan.now width
+          price c.formula_law.ensures.literals) channel.written (written t))
+          refl refl refl;
+      last = tt;
+    })
+
+-- the runner's run, over the lent sink
+module _ (g : Over) (c : After-run_counting g) where
+  abbrev channel : g.row.S.Denot → Channel
+  channel = g.S.Sink.channel
+
+  abbrev runner : Runner (MutBor g.row.S.Denot)
+  runner = c.new-runner.result
+
+  ended : EndsWithin g.S.Sink.tells (channel c.args.sink.now) (channel c.run_counting.result.0.now) c.args.formula.now c.args.order.now
+      c.args.plan.now c.args.limits c.run_counting.result.1
+  ended =
+      let opened = c.new-runner.ensures.opened in
+      let tells = g.S.Sink.tells in
+      let after = channel c.run_counting.result.0.now in
+      let result = c.run_counting.result.1 in
+      let moves = c.args.plan.now in
+      subst (λ (s : MutBor g.row.S.Denot). EndsWithin tells (channel s.now) after c.args.formula.now c.args.order.now moves c.args.limits result)
+      opened.origin
+      (subst (λ (f : Formula). EndsWithin tells (channel runner.terms.table.book.origin.now) after f c.args.order.now moves c.args.limits result)
+      opened.of_formula
+      (subst (λ (o : List ℕ). EndsWithin tells (channel runner.terms.table.book.origin.now) after runner.formula.now o moves c.args.limits
+      result) opened.of_order
+      (subst (λ (l : Limits). EndsWithin tells (channel runner.terms.table.book.origin.now) after runner.formula.now
+      runner.terms.table.graph.order moves l result) opened.within c.run_counting.ensures.ends)))
+
+  -- the same lender, and what is beside it
+  lent : c.run_counting.result.0.ghost_name ≡ c.args.sink.ghost_name
+  lent = lender_kept c.run_counting.ensures.beside ∙ ap (λ (s : MutBor g.row.S.Denot). s.ghost_name) c.new-runner.ensures.opened.origin
+
+  still_beside : g.S.Sink.beside c.run_counting.result.0.now ≡ g.S.Sink.beside c.args.sink.now
+  still_beside = inner_kept c.run_counting.ensures.beside
+      ∙ ap (λ (s : MutBor g.row.S.Denot). g.S.Sink.beside s.now) c.new-runner.ensures.opened.origin
+
+pub returns-clause-ends : goal.returns-clause-ends
+returns-clause-ends g c = ?
+
+pub returns-clause-beside : goal.returns-clause-beside
+returns-clause-beside g c = ?
