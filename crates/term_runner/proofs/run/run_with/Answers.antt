@@ -16,7 +16,7 @@ use Rattle.term_runner.proofs.OneLine.{some_moves, start_paid, start_within}
 use Rattle.term_runner.proofs.Opening.{whole_at_start, written_at_start}
 use Rattle.term_runner.proofs.run.run_with.Given.{Over}
 use Rattle.term_runner.proofs.run.run_with.Goals as goal
-use Rattle.term_runner.proofs.run.run_with.Goals.{After-run_counting}
+use Rattle.term_runner.proofs.run.run_with.Goals.{After-run_counting-sink}
 
 pub returns-in-Some-clause-ends : goal.returns-in-Some-clause-ends
 returns-in-Some-clause-ends g c =
@@ -63,20 +63,20 @@ returns-in_default-new-clause-ends g c =
     })
 
 -- the runner's run, over the lent sink
-module _ (g : Over) (c : After-run_counting g) where
+module _ (g : Over) (c : After-run_counting-sink g) where
   abbrev channel : g.row.S.Denot → Channel
   channel = g.S.Sink.channel
 
   abbrev runner : Runner (MutBor g.row.S.Denot)
   runner = c.new-runner.result
 
-  ended : EndsWithin g.S.Sink.tells (channel c.args.sink.now) (channel c.run_counting.result.0.now) c.args.formula.now c.args.order.now
-      c.args.plan.now c.args.limits c.run_counting.result.1
+  ended : EndsWithin g.S.Sink.tells (channel c.args.sink.now) (channel c.run_counting-sink.result.0.now) c.args.formula.now c.args.order.now
+      c.args.plan.now c.args.limits c.run_counting-sink.result.1
   ended =
       let opened = c.new-runner.ensures.opened in
       let tells = g.S.Sink.tells in
-      let after = channel c.run_counting.result.0.now in
-      let result = c.run_counting.result.1 in
+      let after = channel c.run_counting-sink.result.0.now in
+      let result = c.run_counting-sink.result.1 in
       let moves = c.args.plan.now in
       subst (λ (s : MutBor g.row.S.Denot). EndsWithin tells (channel s.now) after c.args.formula.now c.args.order.now moves c.args.limits result)
       opened.origin
@@ -85,18 +85,25 @@ module _ (g : Over) (c : After-run_counting g) where
       (subst (λ (o : List ℕ). EndsWithin tells (channel runner.terms.table.book.origin.now) after runner.formula.now o moves c.args.limits
       result) opened.of_order
       (subst (λ (l : Limits). EndsWithin tells (channel runner.terms.table.book.origin.now) after runner.formula.now
-      runner.terms.table.graph.order moves l result) opened.within c.run_counting.ensures.ends)))
+      runner.terms.table.graph.order moves l result) opened.within c.run_counting-sink.ensures.ends)))
 
   -- the same lender, and what is beside it
-  lent : c.run_counting.result.0.ghost_name ≡ c.args.sink.ghost_name
-  lent = lender_kept c.run_counting.ensures.beside ∙ ap (λ (s : MutBor g.row.S.Denot). s.ghost_name) c.new-runner.ensures.opened.origin
+  lent : c.run_counting-sink.result.0.ghost_name ≡ c.args.sink.ghost_name
+  lent = lender_kept c.run_counting-sink.ensures.beside ∙ ap (λ (s : MutBor g.row.S.Denot). s.ghost_name) c.new-runner.ensures.opened.origin
 
-  still_beside : g.S.Sink.beside c.run_counting.result.0.now ≡ g.S.Sink.beside c.args.sink.now
-  still_beside = inner_kept c.run_counting.ensures.beside
+  still_beside : g.S.Sink.beside c.run_counting-sink.result.0.now ≡ g.S.Sink.beside c.args.sink.now
+  still_beside = inner_kept c.run_counting-sink.ensures.beside
       ∙ ap (λ (s : MutBor g.row.S.Denot). g.S.Sink.beside s.now) c.new-runner.ensures.opened.origin
 
 pub returns-clause-ends : goal.returns-clause-ends
-returns-clause-ends g c = ?
+returns-clause-ends g c =
+    let inside = (goal.at.returns-clause-ends g c).After-run_counting-sink in
+    subst (λ (s : g.row.S.Denot). EndsWithin g.S.Sink.tells (g.S.Sink.channel c.args.sink.now) (g.S.Sink.channel s) c.args.formula.now
+    c.args.order.now c.args.plan.now c.args.limits c.run_counting-sink.result.1)
+    (search (rules, c.sink-2-1.given.1, lent g inside)) (ended g inside)
 
 pub returns-clause-beside : goal.returns-clause-beside
-returns-clause-beside g c = ?
+returns-clause-beside g c =
+    let inside = (goal.at.returns-clause-beside g c).After-run_counting-sink in
+    subst (λ (s : g.row.S.Denot). g.S.Sink.beside s ≡ g.S.Sink.beside c.args.sink.now)
+    (search (rules, c.sink-2-1.given.1, lent g inside)) (still_beside g inside)
