@@ -87,10 +87,7 @@ module _ (g : Over) (c : After-run_counting-sink g) where
       (subst (λ (l : Limits). EndsWithin tells (channel runner.terms.table.book.origin.now) after runner.formula.now
       runner.terms.table.graph.order moves l result) opened.within c.run_counting-sink.ensures.ends)))
 
-  -- the same lender, and what is beside it
-  lent : c.run_counting-sink.result.0.ghost_name ≡ c.args.sink.ghost_name
-  lent = lender_kept c.run_counting-sink.ensures.beside ∙ ap (λ (s : MutBor g.row.S.Denot). s.ghost_name) c.new-runner.ensures.opened.origin
-
+  -- what is beside it
   still_beside : g.S.Sink.beside c.run_counting-sink.result.0.now ≡ g.S.Sink.beside c.args.sink.now
   still_beside = inner_kept c.run_counting-sink.ensures.beside
       ∙ ap (λ (s : MutBor g.row.S.Denot). g.S.Sink.beside s.now) c.new-runner.ensures.opened.origin
@@ -100,10 +97,18 @@ returns-clause-ends g c =
     let inside = (goal.at.returns-clause-ends g c).After-run_counting-sink in
     subst (λ (s : g.row.S.Denot). EndsWithin g.S.Sink.tells (g.S.Sink.channel c.args.sink.now) (g.S.Sink.channel s) c.args.formula.now
     c.args.order.now c.args.plan.now c.args.limits c.run_counting-sink.result.1)
-    (search (rules, c.sink-2-1.given.1, lent g inside)) (ended g inside)
+    (search (
+      rules,
+      lender_kept c.run_counting-sink.ensures.beside
+          ∙ ap (λ (s : MutBor g.row.S.Denot). s.ghost_name) c.new-runner.ensures.opened.origin,
+    )) (ended g inside)
 
 pub returns-clause-beside : goal.returns-clause-beside
 returns-clause-beside g c =
     let inside = (goal.at.returns-clause-beside g c).After-run_counting-sink in
     subst (λ (s : g.row.S.Denot). g.S.Sink.beside s ≡ g.S.Sink.beside c.args.sink.now)
-    (search (rules, c.sink-2-1.given.1, lent g inside)) (still_beside g inside)
+    (search (
+      rules,
+      lender_kept c.run_counting-sink.ensures.beside
+          ∙ ap (λ (s : MutBor g.row.S.Denot). s.ghost_name) c.new-runner.ensures.opened.origin,
+    )) (still_beside g inside)
