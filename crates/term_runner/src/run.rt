@@ -107,6 +107,7 @@ pub(crate) fn run_with<S: Sink + Drop>(
         return Err(RunError::OutOfMemory);
     };
     let runner = Runner::new(alloc, formula, order, parts, limits, sink);
-    let (_sink, result) = runner.run_counting(plan, progress, lets_go);
+    let (sink, result) = runner.run_counting(plan, progress, lets_go);
+    let _sink = sink;
     result
 }

@@ -99,6 +99,7 @@ returns-clause-ends g c =
     c.args.order.now c.args.plan.now c.args.limits c.run_counting-sink.result.1)
     (search (
       rules,
+      c.sink-2-1.given.1,
       lender_kept c.run_counting-sink.ensures.beside
           ∙ ap (λ (s : MutBor g.row.S.Denot). s.ghost_name) c.new-runner.ensures.opened.origin,
     )) (ended g inside)
@@ -109,6 +110,7 @@ returns-clause-beside g c =
     subst (λ (s : g.row.S.Denot). g.S.Sink.beside s ≡ g.S.Sink.beside c.args.sink.now)
     (search (
       rules,
+      c.sink-2-1.given.1,
       lender_kept c.run_counting-sink.ensures.beside
           ∙ ap (λ (s : MutBor g.row.S.Denot). s.ghost_name) c.new-runner.ensures.opened.origin,
     )) (still_beside g inside)
