@@ -1,7 +1,7 @@
 -- A term that was found is put on the list, or none was found; and the clauses that were retired are deleted behind it.
-use Rattle.std.proofs.Common.{◌≡◌, ◌⊎◌, ◌∙◌, ◌≤◌, ◌+◌, ◌++◌, ℕ, Bool, true, false, List, [], ◌∷◌, length, Contains, Option, None, Some, Result, Ok, Err, ◌*◌}
+use Rattle.std.proofs.Common.{◌≡◌, ◌⊎◌, ◌∙◌, ◌+◌, ◌++◌, ℕ, Bool, true, false, List, [], ◌∷◌, length, Contains, Option, None, Some, Result, Ok, Err, ◌*◌}
 use Rattle.std.proofs.Common.{refl, sym, ap, subst, arith, inl, inr}
-use Rattle.std.specs.Prelude.{◌≢◌, IfOk, IsErr, IsTrue}
+use Rattle.std.specs.Prelude.{◌≢◌, IfOk, IsTrue}
 use Rattle.std.specs.Option.{option_to_list}
 use Rattle.std.proofs.lemmas.List.{append_assoc}
 use Rattle.cnf_base.specs.Truth.{Assignment}
@@ -20,7 +20,7 @@ use Rattle.node_table.specs.Laws.{Growth, StepByStep, Subfunctions}
 use Rattle.node_table.specs.Made.{LacksPart, MakesOnly}
 use Rattle.node_table.specs.Progress.{Continues, Leaves, error_of}
 use Rattle.node_table.specs.Refused.{no_nodes_left}
-use Rattle.node_table.specs.Table.{TableState, AddsAtMost, AddsNoEmpty, Extends, IsSound, defining_clauses, live_nodes}
+use Rattle.node_table.specs.Table.{TableState, AddsAtMost, Extends, IsSound, defining_clauses, live_nodes}
 use Rattle.node_table.specs.Value.{Levels}
 use Rattle.operations.specs.Budget.{most_additions}
 use Rattle.operations.specs.Entries.{Fits, Fitting}
@@ -32,7 +32,7 @@ use Rattle.term_runner.specs.declared.term.Term.{Term}
 use Rattle.term_runner.specs.Caches.{all_entries, sizes}
 use Rattle.term_runner.specs.Finds.{Finds, IsProved}
 use Rattle.term_runner.specs.Held.{GivesUnit, HasUnits}
-use Rattle.term_runner.specs.Runner.{Gives, HasFalse, IsListed, IsRunner, IsSameRun, OwnsTerms, owners, true_term}
+use Rattle.term_runner.specs.Runner.{Gives, HasFalse, IsListed, IsRunner, OwnsTerms, owners, true_term}
 use Rattle.term_runner.proofs.Giving.{units_settled}
 use Rattle.term_runner.proofs.Leaving.{went_on}
 use Rattle.term_runner.proofs.NoEmpty.{no_change}

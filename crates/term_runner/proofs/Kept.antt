@@ -1,5 +1,5 @@
 -- A reclamation keeps the terms that are out: their nodes are its roots.
-use Rattle.std.proofs.Common.{◌≡◌, ◌⊎◌, ◌∙◌, ◌++◌, ℕ, zero, suc, Bool, false, true, List, [], ◌∷◌, Contains, Option, None, Some, map, refl, sym, ap, subst}
+use Rattle.std.proofs.Common.{◌≡◌, ◌⊎◌, ◌∙◌, ℕ, zero, suc, true, List, [], Contains, Option, None, Some, refl, sym, ap, subst}
 use Rattle.std.proofs.Common.{arith, inl, inr}
 use Rattle.std.specs.Option.{option_to_list}
 use Rattle.std.specs.Prelude.{◌≢◌}
@@ -10,16 +10,14 @@ use Rattle.node_table.specs.declared.node.Node.TheVariants.{False, True}
 use Rattle.node_table.specs.Diagram.{is_node}
 use Rattle.node_table.specs.Laws.{Growth, Reachability}
 use Rattle.node_table.specs.Table.{TableState, IsSound}
-use Rattle.operations.specs.Entries.{Entry}
 use Rattle.clause_terms.specs.Term.{IsTerm}
 use Rattle.reclaim.specs.Reclaimed.{MayReclaim, Reclaims}
 use Rattle.term_runner.specs.declared.caches.Caches.{Caches}
 use Rattle.term_runner.specs.declared.held.HeldTerm.{HeldTerm}
 use Rattle.term_runner.specs.declared.runner.Runner.{Runner}
 use Rattle.term_runner.specs.Caches.{all_entries}
-use Rattle.term_runner.specs.Held.{IsUnitOf}
 use Rattle.term_runner.specs.Finds.{IsProved}
-use Rattle.term_runner.specs.Runner.{IsGood, IsRunner, OwnsTerms, holds_in, nodes_of, owners, true_term}
+use Rattle.term_runner.specs.Runner.{IsGood, IsRunner, holds_in, nodes_of, owners, true_term}
 use Rattle.term_runner.specs.Tidy.{LeavesReached, held_nodes}
 use Rattle.term_runner.proofs.Given.{true_unit}
 use Rattle.term_runner.proofs.Reclaimed.{in_map, leaves_reached, may_reclaim_owned, of_map, over_reclaimed, proved_stays, units_reclaimed}

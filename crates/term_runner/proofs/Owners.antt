@@ -1,9 +1,9 @@
 -- The terms that own a clause, as one comes or goes at any place of their list.
-use Rattle.std.proofs.Common.{◌≡◌, ◌⊎◌, ◌∙◌, ◌++◌, ℕ, zero, suc, List, [], ◌∷◌, Contains, refl, sym, ap, subst, arith, inl, inr}
+use Rattle.std.proofs.Common.{◌≡◌, ◌⊎◌, ◌∙◌, ◌++◌, ℕ, zero, suc, List, [], ◌∷◌, Contains, refl, sym, subst, arith, inl, inr}
 use Rattle.std.proofs.lemmas.List.Elements.{Contains-append_left, Contains-append_right, Contains-append_cases}
-use Rattle.node_table.specs.declared.node.Justification.TheVariants.{Clause, Trivial}
+use Rattle.node_table.specs.declared.node.Justification.TheVariants.{Trivial}
 use Rattle.node_table.specs.Table.{TableState, IsAddedTo}
-use Rattle.operations.specs.Entries.{Entry, IsAccounted}
+use Rattle.operations.specs.Entries.{Entry}
 use Rattle.term_runner.specs.declared.held.HeldTerm.{HeldTerm}
 use Rattle.term_runner.specs.Held.{HasUnits, IsUnitOf, RetiresBut, UnitsApart}
 use Rattle.term_runner.proofs.OwnUnits.{later, no_clause}
@@ -66,9 +66,9 @@ apart_back [] behind held apart = apart
 apart_back (first ∷ front) behind held apart = (
   λ id is other. elim (which_unit held (front ++ behind) id (unit_of_same (front ++ held ∷ behind) (held ∷ (front ++ behind))
       (to_front front behind held) id other)) [
-    | inl own ↦ apart.0 id own (first_unit first (front ++ behind) id is)
-    | inr further ↦ apart.1.0 id is further
-  ],
+        | inl own ↦ apart.0 id own (first_unit first (front ++ behind) id is)
+        | inr further ↦ apart.1.0 id is further
+      ],
   apart_back front behind held ((λ id is other. apart.0 id is (later_unit first (front ++ behind) id other)), apart.1.1),
 )
 

@@ -1,12 +1,11 @@
 -- A term is released: it is out no more, and its clause is retired, or kept where it is the first empty one.
-use Rattle.std.proofs.Common.{◌≡◌, ◌⊎◌, ◌∙◌, ◌<◌, ◌+◌, ◌++◌, ℕ, suc, Bool, true, false, List, [], ◌∷◌, Contains, Option, None, Some, length, take, drop}
+use Rattle.std.proofs.Common.{◌≡◌, ◌∙◌, ◌<◌, ◌+◌, ◌++◌, ℕ, suc, List, [], ◌∷◌, Contains, Option, None, Some, length, take, drop}
 use Rattle.std.proofs.Common.{refl, sym, ap, subst, arith, inl, inr}
-use Rattle.std.specs.Prelude.{◌≢◌, IsTrue, get_or}
+use Rattle.std.specs.Prelude.{get_or}
 use Rattle.std.specs.Option.{option_to_list}
 use Rattle.std.proofs.lemmas.List.{append-nil, append_assoc, drop_more, take-append-drop}
 use Rattle.std.proofs.lemmas.List.Elements.{Contains-append_right}
 use Rattle.lrat_rules.specs.State.{clause_at}
-use Rattle.node_table.specs.declared.node.Node.{Node}
 use Rattle.node_table.specs.declared.node.Node.TheVariants.{False}
 use Rattle.node_table.specs.declared.node.Justification.TheVariants.{Trivial}
 use Rattle.node_table.specs.Laws.{StepByStep}
@@ -18,8 +17,7 @@ use Rattle.term_runner.specs.declared.runner.Runner.{Runner}
 use Rattle.term_runner.specs.Caches.{all_entries}
 use Rattle.term_runner.specs.Finds.{IsProved}
 use Rattle.term_runner.specs.Held.{HasUnits, RetiresBut}
-use Rattle.term_runner.specs.Runner.{HasFalse, IsRunner, IsWithout, OwnsTerms, Releases, owners, true_term}
-use Rattle.term_runner.proofs.Given.{false_or}
+use Rattle.term_runner.specs.Runner.{HasFalse, IsRunner, OwnsTerms, Releases, owners, true_term}
 use Rattle.term_runner.proofs.Owners.{among_here, among_others, units_back, units_front, units_less, which_among}
 use Rattle.term_runner.proofs.Stacks.{over_after}
 

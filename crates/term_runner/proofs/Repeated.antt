@@ -1,12 +1,12 @@
 -- A unit of its own: the clause of a node alone follows from itself, where it is live, and what is new of it.
-use Rattle.std.proofs.Common.{◌≡◌, ◌⊎◌, ◌∙◌, ◌+◌, ◌<◌, ◌&&◌, ◌||◌, ℕ, Bool, true, false, not, cond, ℤ, pos, List, [], ◌∷◌, None, Some, Result, Ok, Err}
+use Rattle.std.proofs.Common.{◌≡◌, ◌⊎◌, ◌∙◌, ◌+◌, ◌<◌, ◌&&◌, ℕ, Bool, true, false, not, cond, ℤ, pos, List, [], ◌∷◌, None, Some, Result, Ok, Err}
 use Rattle.std.proofs.Common.{refl, sym, ap, subst, arith, inl, inr}
 use Rattle.std.specs.Prelude.{◌≢◌, IfOk}
 use Rattle.std.specs.Ordering.{int_eq}
 use Rattle.std.proofs.lemmas.Bool.{or_left}
 use Rattle.std.proofs.lemmas.Bool.Decides.{Decides-int_eq}
 use Rattle.lrat_rules.specs.State.{Live, clause_at}
-use Rattle.lrat_rules.specs.Chain.{effect_of_outside, literals_of, with_literal}
+use Rattle.lrat_rules.specs.Chain.{effect_of_outside, literals_of}
 use Rattle.lrat_rules.specs.Strict.{RefutesStrictly, is_strict, is_strict_effect, is_strict_hint}
 use Rattle.hint_chain.specs.declared.atom.Atom.{Atom}
 use Rattle.hint_chain.specs.declared.atom.Atom.TheVariants.{Always, Never, Of}

@@ -1,5 +1,5 @@
 -- A runner between two calls that give, take or release terms, and what such a call promises.
-use Rattle.std.specs.Prelude.{◌≡◌, ◌≢◌, ◌⊎◌, ◌<◌, ◌+◌, ◌*◌, ◌++◌, ℕ, Bool, true, false, List, [], ◌∷◌, Contains, Some}
+use Rattle.std.specs.Prelude.{◌≡◌, ◌≢◌, ◌⊎◌, ◌<◌, ◌+◌, ◌*◌, ◌++◌, ℕ, Bool, false, List, [], ◌∷◌, Contains, Some}
 use Rattle.std.specs.Prelude.{Result, Err, IfOk, IsErr, IsTrue, map}
 use Rattle.std.specs.Option.{option_to_list}
 use Rattle.cnf_base.specs.Truth.{Assignment}

@@ -108,6 +108,7 @@ pub(crate) fn run_with<S: Sink + Drop>(
     };
     let runner = Runner::new(alloc, formula, order, parts, limits, sink);
     let (sink, result) = runner.run_counting(plan, progress, lets_go);
+    // What was lent goes back.
     let _sink = sink;
     result
 }

@@ -141,7 +141,11 @@ impl<'a, S: Sink + Drop> Runner<'a, S> {
         steps_law::<S>();
         let alloc = *self.terms.out.allocator();
         let roots = roots_of(alloc, self.terms.out.as_slice(), &self.terms.trail)?;
-        let count = reclaim(&mut self.terms.table, roots.as_slice(), &mut self.terms.caches)?;
+        let count = reclaim(
+            &mut self.terms.table,
+            roots.as_slice(),
+            &mut self.terms.caches,
+        )?;
         Ok(count)
     }
 
@@ -200,8 +204,10 @@ impl<'a, S: Sink + Drop> Runner<'a, S> {
         ensures listed { IsListed self.old.terms.out.items self.new.terms.out.items held.now }
         ensures refutes { held.now.node ≡ False → IsTrue self.new.refuted }
         ensures unrefuted { held.now.node ≢ False → self.new.refuted ≡ self.old.refuted }
-        ensures same { self.new ≡ record self.old { terms = record self.old.terms { out = self.new.terms.out };
-            refuted = self.new.refuted } }
+        ensures same { self.new ≡ record self.old {
+          terms = record self.old.terms { out = self.new.terms.out };
+          refuted = self.new.refuted;
+        } }
     {
         if is_same(held.node, Node::True) {
             return;

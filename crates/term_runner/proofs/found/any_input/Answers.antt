@@ -1,5 +1,5 @@
 -- The term of any clause: that of an empty one is False.
-use Rattle.std.proofs.Common.{◌≡◌, ◌∙◌, ◌+◌, ◌-◌, ◌*◌, ◌≤◌, ℕ, zero, suc, ℤ, List, [], ◌∷◌, Contains, length, None, Some, Err, Ok, refl, ap, inl, sym, subst}
+use Rattle.std.proofs.Common.{◌≡◌, ◌∙◌, ◌+◌, ◌-◌, ℕ, suc, ℤ, List, [], ◌∷◌, Contains, length, None, Some, Err, Ok, refl, ap, inl, sym, subst}
 use Rattle.std.proofs.Common.{arith, eqb-true}
 use Rattle.std.specs.Prelude.{slice_index_or}
 use Rattle.cnf_base.specs.Truth.{clause_holds}

@@ -1,31 +1,26 @@
 -- The conjunction of two terms, with a unit of its own.
-use Rattle.std.proofs.Common.{◌≡◌, ◌∙◌, ◌+◌, ◌*◌, ◌&&◌, ◌≤◌, ℕ, Bool, List, [], ◌∷◌, Contains, None, Some, Result, Err, ap, sym, subst, inl, inr}
+use Rattle.std.proofs.Common.{◌∙◌, ◌+◌, ◌*◌, ◌&&◌, ℕ, Bool, List, [], ◌∷◌, Contains, None, Some, Err, ap, sym, subst, inl, inr}
 use Rattle.std.proofs.Common.{arith}
 use Rattle.operations.specs.Accounts.{none_whole, whole_result}
 use Rattle.operations.specs.Budget.{most_additions}
-use Rattle.operations.specs.Entries.{IsAccounted}
 use Rattle.node_table.specs.Diagram.{Graph, levels}
 use Rattle.node_table.specs.Made.{MakesOnly}
 use Rattle.node_table.specs.Table.{AddsAtMost}
 use Rattle.node_table.specs.Value.{by_level}
-use Rattle.node_table.specs.declared.error.TableError.{TableError}
 use Rattle.node_table.specs.declared.error.TableError.TheVariants.{NodeLimit, WriteFault}
 use Rattle.node_table.specs.declared.node.Node.{Node}
 use Rattle.node_table.specs.declared.node.Justification.{Justification}
-use Rattle.node_table.specs.declared.node.Justification.TheVariants.{Clause, Trivial}
+use Rattle.node_table.specs.declared.node.Justification.TheVariants.{Trivial}
 use Rattle.node_table.specs.HandedOn.{came_from, handed_on, if_handed, no_answer, no_error, other_cause, same_error}
 use Rattle.apply_and.specs.Conjunction.{conjunction_of}
 use Rattle.clause_terms.specs.Term.{IsTerm}
-use Rattle.term_runner.specs.declared.held.HeldTerm.{HeldTerm}
 use Rattle.term_runner.specs.Caches.{HaveRoom, all_entries}
 use Rattle.term_runner.specs.Finds.{AreFew}
-use Rattle.term_runner.specs.Held.{GivesUnit, HasUnits}
 use Rattle.term_runner.proofs.Giving.{given_behind, none_added, units_behind}
 use Rattle.term_runner.proofs.Leaving.{limit_left, limit_whole, refutes_handed, steps_handed, went_on}
 use Rattle.term_runner.proofs.NoEmpty.{further_empty}
 use Rattle.term_runner.proofs.OwnUnits.{new_unit, no_clause, unit_own}
 use Rattle.term_runner.proofs.Pairs.{adds_pairs}
-use Rattle.term_runner.proofs.Replaced.{no_unit}
 use Rattle.term_runner.proofs.Stacks.{justified_kept, term_kept}
 use Rattle.term_runner.proofs.found.own_conjunction.Given.{Over}
 use Rattle.term_runner.proofs.found.own_conjunction.Goals as goal

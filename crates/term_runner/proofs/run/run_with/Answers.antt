@@ -1,5 +1,5 @@
 -- What is left to show of `run_with`.
-use Rattle.std.proofs.Common.{rules, MutBor, ◌≡◌, ℕ, List, [], refl, sym, ap, ◌∙◌, subst}
+use Rattle.std.proofs.Common.{rules, MutBor, ◌≡◌, ℕ, List, [], refl, ap, ◌∙◌, subst}
 use Rattle.std.specs.Prelude.{IsTrue}
 use Rattle.cnf_base.specs.Formula.{Formula}
 use Rattle.schedule_plan.specs.declared.limits.Limits.{Limits}

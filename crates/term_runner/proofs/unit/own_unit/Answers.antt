@@ -1,6 +1,5 @@
 -- A unit of its own, for a conjunction that is an operand, or none.
-use Rattle.std.proofs.Common.{◌≡◌, [], ◌∷◌, Some, sym, ap, subst, arith, inl}
-use Rattle.std.specs.Prelude.{◌≢◌}
+use Rattle.std.proofs.Common.{[], ◌∷◌, sym, subst, arith, inl}
 use Rattle.node_table.specs.declared.node.Node.{Node}
 use Rattle.node_table.specs.Defined.{atom_of}
 use Rattle.node_table.specs.Justification.{IsJustified}

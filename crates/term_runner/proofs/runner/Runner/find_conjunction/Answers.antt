@@ -1,11 +1,10 @@
 -- The conjunction of two terms is found and put on the list.
-use Rattle.std.proofs.Common.{◌≡◌, ◌⊎◌, ◌∙◌, ◌&&◌, Bool, List, [], ◌∷◌, Contains, Ok, Err, refl, sym, ap, subst, inl, inr}
+use Rattle.std.proofs.Common.{◌&&◌, Bool, List, [], ◌∷◌, refl, subst}
 use Rattle.cnf_base.specs.Truth.{Assignment}
 use Rattle.node_table.specs.HandedOn.{handed_on}
-use Rattle.node_table.specs.declared.error.TableError.TheVariants.{OutOfMemory, WriteFault}
+use Rattle.node_table.specs.declared.error.TableError.TheVariants.{OutOfMemory}
 use Rattle.apply_and.specs.Conjunction.{conjunction_of}
 use Rattle.term_runner.specs.declared.held.HeldTerm.{HeldTerm}
-use Rattle.term_runner.specs.Caches.{all_entries}
 use Rattle.term_runner.specs.Runner.{IsListed, holds_in}
 use Rattle.term_runner.proofs.Given.{gives_none, gives_one, nothing_found, true_unit}
 use Rattle.term_runner.proofs.Kept.{good_proved, good_term}
@@ -24,10 +23,12 @@ returns-then-is_err g c =
     let function = conjunction_of old.terms.table.graph c.args.u.now.held.node c.args.v.now.held.node in
     let holds : Assignment → Bool = λ a. holds_in old c.args.u.now.held a && holds_in old c.args.v.now.held a in
     let operands = c.args.v.now.held ∷ c.args.u.now.held ∷ [] in
-    record { gives = gives_none c.growth_law.ensures c.steps_law.ensures function holds operands old c.requires.runner old.terms.table old.terms.caches
-    OutOfMemory
-    (nothing_found c.steps_law.ensures c.subfunction_law.ensures function holds operands old.terms.table old.terms.caches over.sound over.fits)
-    (λ whole terms has. has) (record old { terms = record old.terms { out = c.reserve.new.self } }) refl c.reserve.ensures.items _ refl }
+    record {
+      gives = gives_none c.growth_law.ensures c.steps_law.ensures function holds operands old c.requires.runner old.terms.table old.terms.caches
+          OutOfMemory
+          (nothing_found c.steps_law.ensures c.subfunction_law.ensures function holds operands old.terms.table old.terms.caches over.sound over.fits)
+          (λ whole terms has. has) (record old { terms = record old.terms { out = c.reserve.new.self } }) refl c.reserve.ensures.items _ refl;
+    }
 
 pub returns-in_err-held : goal.returns-in_err-held
 returns-in_err-held g c =
@@ -35,14 +36,16 @@ returns-in_err-held g c =
     let came = c.in_err-held.field-0.0 in
     let mid = c.own_conjunction.new.table in
     let caches = c.own_conjunction.new.caches in
-    record { gives = gives_none c.growth_law.ensures c.steps_law.ensures (conjunction_of old.terms.table.graph c.args.u.now.held.node c.args.v.now.held.node)
-    (λ a. holds_in old c.args.u.now.held a && holds_in old c.args.v.now.held a) (c.args.v.now.held ∷ c.args.u.now.held ∷ []) old
-    c.requires.runner mid caches came
-    (c.in_err-held.ensures.finds (holds_in old c.args.u.now.held) (holds_in old c.args.v.now.held)
-    (good_term old c.requires.runner c.args.u.now.held c.requires.first) (good_term old c.requires.runner c.args.v.now.held c.requires.second))
-    c.in_err-held.ensures.refused
-    (record old { terms = record old.terms { table = mid; caches = caches; out = c.reserve.new.self } }) refl c.reserve.ensures.items _
-    (handed_on _ came came c.from_residual.ensures.1 refl) }
+    record {
+      gives = gives_none c.growth_law.ensures c.steps_law.ensures (conjunction_of old.terms.table.graph c.args.u.now.held.node c.args.v.now.held.node)
+          (λ a. holds_in old c.args.u.now.held a && holds_in old c.args.v.now.held a) (c.args.v.now.held ∷ c.args.u.now.held ∷ []) old
+          c.requires.runner mid caches came
+          (c.in_err-held.ensures.finds (holds_in old c.args.u.now.held) (holds_in old c.args.v.now.held)
+          (good_term old c.requires.runner c.args.u.now.held c.requires.first) (good_term old c.requires.runner c.args.v.now.held c.requires.second))
+          c.in_err-held.ensures.refused
+          (record old { terms = record old.terms { table = mid; caches = caches; out = c.reserve.new.self } }) refl c.reserve.ensures.items _
+          (handed_on _ came came c.from_residual.ensures.1 refl);
+    }
 
 pub place-requires-clause-true_alone : goal.place-requires-clause-true_alone
 place-requires-clause-true_alone g c is =
@@ -58,11 +61,13 @@ returns g c =
     let found = c.in_ok-held.ensures.finds (holds_in old c.args.u.now.held) (holds_in old c.args.v.now.held)
     (good_term old c.requires.runner c.args.u.now.held c.requires.first)
     (good_term old c.requires.runner c.args.v.now.held c.requires.second) in
-    record { gives = gives_one c.growth_law.ensures c.steps_law.ensures
-    (conjunction_of old.terms.table.graph c.args.u.now.held.node c.args.v.now.held.node)
-    (λ a. holds_in old c.args.u.now.held a && holds_in old c.args.v.now.held a) (c.args.v.now.held ∷ c.args.u.now.held ∷ []) old
-    c.requires.runner c.own_conjunction.new.table c.own_conjunction.new.caches (record { held = c.in_ok-held.held }) found
-    c.in_ok-held.ensures.own c.place.new.self c.place.ensures.same
-    (subst (λ (items : List HeldTerm). IsListed items c.place.new.self.terms.out.items c.in_ok-held.held) c.reserve.ensures.items
-    c.place.ensures.listed)
-    c.place.ensures.refutes c.place.ensures.unrefuted }
+    record {
+      gives = gives_one c.growth_law.ensures c.steps_law.ensures
+          (conjunction_of old.terms.table.graph c.args.u.now.held.node c.args.v.now.held.node)
+          (λ a. holds_in old c.args.u.now.held a && holds_in old c.args.v.now.held a) (c.args.v.now.held ∷ c.args.u.now.held ∷ []) old
+          c.requires.runner c.own_conjunction.new.table c.own_conjunction.new.caches (record { held = c.in_ok-held.held }) found
+          c.in_ok-held.ensures.own c.place.new.self c.place.ensures.same
+          (subst (λ (items : List HeldTerm). IsListed items c.place.new.self.terms.out.items c.in_ok-held.held) c.reserve.ensures.items
+          c.place.ensures.listed)
+          c.place.ensures.refutes c.place.ensures.unrefuted;
+    }

@@ -1,8 +1,8 @@
 -- The term of a clause is found and put on the list.
-use Rattle.std.proofs.Common.{◌≡◌, ◌∙◌, Bool, List, [], Ok, Err, refl, sym, ap, subst}
+use Rattle.std.proofs.Common.{Bool, List, [], refl, sym, subst}
 use Rattle.cnf_base.specs.Truth.{Assignment}
 use Rattle.node_table.specs.HandedOn.{handed_on}
-use Rattle.node_table.specs.declared.error.TableError.TheVariants.{OutOfMemory, WriteFault}
+use Rattle.node_table.specs.declared.error.TableError.TheVariants.{OutOfMemory}
 use Rattle.schedule_plan.specs.Plan.{input, term_holds}
 use Rattle.term_runner.specs.declared.held.HeldTerm.{HeldTerm}
 use Rattle.term_runner.specs.Caches.{all_entries}

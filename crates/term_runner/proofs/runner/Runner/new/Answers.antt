@@ -1,5 +1,5 @@
 -- A runner of these parts.
-use Rattle.std.proofs.Common.{◌≡◌, ◌∙◌, true, false, List, [], None, length, refl, sym, ap, subst}
+use Rattle.std.proofs.Common.{◌≡◌, ◌∙◌, true, false, [], None, length, refl, sym, ap, subst}
 use Rattle.std.specs.FinMap as map
 use Rattle.cnf_base.specs.Order.{IsOrder}
 use Rattle.lrat_rules.specs.State.{start}

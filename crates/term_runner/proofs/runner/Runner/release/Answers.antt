@@ -1,14 +1,13 @@
 -- A term goes from the list, and its clause is retired, or kept.
-use Rattle.std.proofs.Common.{◌≡◌, ◌∙◌, ◌<◌, ◌++◌, ◌∷◌, ℕ, suc, true, List, Contains, Some, length, take, drop, inl, refl, sym, ap, subst}
+use Rattle.std.proofs.Common.{◌≡◌, ◌∙◌, ◌<◌, ◌++◌, ◌∷◌, suc, List, Contains, Some, length, take, drop, inl, refl, sym, ap, subst}
 use Rattle.std.specs.Prelude.{get_or, IsTrue}
 use Rattle.std.specs.Option.{option_to_list}
 use Rattle.std.proofs.lemmas.List.Elements.{Contains-append_left}
 use Rattle.clause_ledger.specs.Book.{Book}
 use Rattle.term_runner.specs.declared.held.HeldTerm.{HeldTerm}
 use Rattle.term_runner.specs.Runner.{owners}
-use Rattle.term_runner.proofs.Kept.{good_out, good_true}
+use Rattle.term_runner.proofs.Kept.{good_true}
 use Rattle.term_runner.proofs.Released.{around, releases_kept, releases_retired, releases_true}
-use Rattle.term_runner.proofs.Units.{not_both}
 use Rattle.term_runner.proofs.runner.Runner.release.Given.{Over}
 use Rattle.term_runner.proofs.runner.Runner.release.Goals as goal
 use Rattle.term_runner.proofs.runner.Runner.release.Goals.{After-remove}

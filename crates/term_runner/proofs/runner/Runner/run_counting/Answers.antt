@@ -1,14 +1,12 @@
 -- What is left to show of `run_counting`.
-use Rattle.std.proofs.Common.{◌≡◌, ℕ, List, Result, [], refl, sym, ap, ◌∙◌, subst}
+use Rattle.std.proofs.Common.{◌≡◌, Result, [], sym, ap, ◌∙◌, subst}
 use Rattle.std.specs.Prelude.{IsTrue}
 use Rattle.host_io.specs.Channel.{Channel}
 use Rattle.clause_ledger.specs.Book.{Book}
 use Rattle.node_table.specs.Progress.{error_of}
 use Rattle.node_table.specs.Table.{TableState}
-use Rattle.operations.specs.Entries.{Entry}
 use Rattle.term_runner.specs.declared.error.RunError.{RunError}
 use Rattle.term_runner.specs.declared.outcome.Outcome.{Outcome}
-use Rattle.term_runner.specs.Caches.{all_entries}
 use Rattle.term_runner.specs.Ends.{outcome_of}
 use Rattle.term_runner.specs.Held.{IsReady}
 use Rattle.term_runner.specs.Opened.{EndsWithin, IsBehind, IsOpened, Leads}
@@ -16,7 +14,6 @@ use Rattle.term_runner.proofs.Ending.{behind_of}
 use Rattle.term_runner.proofs.Leaving.{formula_left, origin_left, went_on}
 use Rattle.term_runner.proofs.OneLine.{some_moves}
 use Rattle.term_runner.proofs.Opening.{decided_leads, over_at}
-use Rattle.term_runner.proofs.runner.Runner.run_counting.Given.{Over}
 use Rattle.term_runner.proofs.runner.Runner.run_counting.Goals as goal
 
 pub returns-in-Some-clause-ends : goal.returns-in-Some-clause-ends

@@ -1,5 +1,5 @@
 -- The clauses that a call retired are deleted behind it.
-use Rattle.std.proofs.Common.{◌≡◌, ◌∙◌, ◌+◌, ◌≤◌, ℕ, Some, ap, sym, subst, arith}
+use Rattle.std.proofs.Common.{◌≡◌, ℕ, Some, ap, subst, arith}
 use Rattle.node_table.specs.declared.error.TableError.{TableError}
 use Rattle.node_table.specs.declared.error.TableError.TheVariants.{WriteFault}
 use Rattle.node_table.specs.HandedOn.{handed_on}
