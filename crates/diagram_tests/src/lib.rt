@@ -17,6 +17,8 @@ mod pairs;
 #[cfg(test)]
 mod retired;
 #[cfg(test)]
+mod runner;
+#[cfg(test)]
 mod script;
 #[cfg(test)]
 mod support;

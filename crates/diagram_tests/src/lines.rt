@@ -3,6 +3,7 @@ ghost use Rattle.node_table.specs.Table.{IsSound};
 ghost use Rattle.diagram_tests.specs.Plain.{IsPlain};
 
 use crate::retired::delete;
+use crate::runner::give_and_release;
 use crate::script::{play, push_left};
 use crate::support::{ProofText, expect_same, halves, opened, part};
 use crate::swept::{purge, sweep};
@@ -17,6 +18,7 @@ fn tell(rt: &impl Abort, alloc: Global, script: &str, text: &mut String) -> Resu
     match part(script, '|', 0) {
         "retire" => delete(alloc, script, text),
         "trial" => run_and_try(alloc, script, text),
+        "runner" => give_and_release(alloc, script, text),
         _ => tell_table(rt, alloc, script, text),
     }
 }
@@ -241,6 +243,16 @@ const TRIALS: &str = "\
 #[test]
 fn trials(rt: HostRuntime) -> Result<(), Fail> {
     expect_rows(&rt, rt.alloc(), TRIALS)
+}
+
+// The terms of two clauses of one literal each, and both together: the node is made once, each term has a unit of its own, and the
+// third one's follows from the first one's. The two are released, and nothing goes but their units; then the third one and the node.
+const TERMS: &str = "\
+    runner|1,1;0 1 7;3 3 -1 0 0/4 -3 1 0 -3 0/5 3 0 3 1 0/6 3 0 3 2 0/7 3 0 5 0/7 d 5 6 0/7 d 7 0/7 d 3 4 0/";
+
+#[test]
+fn terms(rt: HostRuntime) -> Result<(), Fail> {
+    expect_rows(&rt, rt.alloc(), TERMS)
 }
 
 /// The refusal that no script comes to.

@@ -9,8 +9,8 @@ use std::alloc::Global;
 use std::test::Fail;
 use term_runner::{Limits, Outcome, Run, Trial, run_plan, try_plan};
 
-// A formula of two variables and two clauses, with a comma between.
-fn formula_of(alloc: Global, clauses: &str) -> Result<Cnf, Fail>
+/// A formula of two variables and two clauses, with a comma between.
+pub(crate) fn formula_of(alloc: Global, clauses: &str) -> Result<Cnf, Fail>
     ensures { IfOk result (λ formula. formula.vars ≡ 2) }
 {
     let mut builder = CnfBuilder::new(alloc, 2);

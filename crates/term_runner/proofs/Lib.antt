@@ -39,3 +39,9 @@ pub mod Due
 pub mod Tried
 pub mod Moved
 pub mod Placed
+pub mod Owners
+pub mod Repeated
+pub mod Given
+pub mod Released
+pub mod Opened
+pub mod Kept

@@ -28,7 +28,7 @@ use Rattle.term_runner.specs.Clauses.{is_tautology, has_empty_clause}
 use Rattle.term_runner.specs.Proofs.{IsBrokenOfKind, IsProofOfKind, KeepsWithin}
 use Rattle.term_runner.specs.Recovered.{IsRecovered}
 use Rattle.term_runner.specs.Ends.{Says, Shows, outcome_of}
-use Rattle.term_runner.specs.Held.{IsReady}
+use Rattle.term_runner.specs.Held.{IsOver, IsReady}
 use Rattle.term_runner.specs.Price.{IsDecision, IsLeanAtEnd, IsMovePrice, IsPaid, IsPaidFor}
 use Rattle.term_runner.specs.Width.{HasWidth}
 use Rattle.term_runner.specs.Nodes.{RunsShort}
@@ -50,14 +50,14 @@ pub whole_at_start : (formula : Formula) (kind : State → Type 0) → kind (sta
     → IsWritten formula.clauses bytes (start formula.clauses) → IsProofOfKind formula.clauses kind bytes
 whole_at_start formula kind is bytes written = record { state = start formula.clauses; written = written; within = is }
 
--- a table over the opened ledger is ready
-pub ready_at : {S : Type 0} → StartClauses → ((order : List ℕ) (clauses : List (List ℤ)) (book : Book S) (max_nodes : ℕ) → IsOrder order
+-- a table over the opened ledger is over the formula
+pub over_at : {S : Type 0} → StartClauses → ((order : List ℕ) (clauses : List (List ℤ)) (book : Book S) (max_nodes : ℕ) → IsOrder order
     → AreClausesOf (length order) clauses → book.state ≡ start clauses → IsTrue book.in_step → IsSound (opened order book max_nodes))
     → (formula : Formula) (order : List ℕ) (book : Book S) (table : TableState S) (max_nodes : ℕ) → table ≡ opened order book max_nodes
     → book.state ≡ start formula.clauses → IsTrue book.in_step → IsOrder order → length order ≡ formula.vars
-    → AreClausesOf formula.vars formula.clauses → IsFalse (has_empty_clause formula.clauses) → IsReady formula table []
-ready_at {S} there opening formula order book table max_nodes is state in_step is_order vars literals none =
-    subst (λ (t : TableState S). IsReady formula t []) (sym is) (record {
+    → AreClausesOf formula.vars formula.clauses → IsOver formula table []
+over_at {S} there opening formula order book table max_nodes is state in_step is_order vars literals =
+    subst (λ (t : TableState S). IsOver formula t []) (sym is) (record {
       sound = opening order formula.clauses book max_nodes is_order
           (subst (λ (v : ℕ). AreClausesOf v formula.clauses) (sym vars) literals) state in_step;
       fits = record {
@@ -69,7 +69,6 @@ ready_at {S} there opening formula order book table max_nodes is state in_step i
       inputs = λ i small. (λ k. clause_at (state k).live (i + 1)) ∙ there formula.clauses i small;
       counted = ap (λ (s : State). s.top) state;
       vars = vars;
-      none_empty = none;
     })
 
 -- a model, or a live clause without literals
@@ -154,7 +153,7 @@ module _ {S : Type 0} (canonical : Canonical) (unsatisfied : DerivedEmpty) (refu
   -- the extension variables in use are as many as the nodes
   used : (whole : result ≢ Err WriteFault) → in_use formula.vars new.book.state ≡ live_nodes new.graph
   used whole =
-      let vars : levels new.graph ≡ formula.vars = ap length (grown whole).order ∙ ready.vars in
+      let vars : levels new.graph ≡ formula.vars = ap length (grown whole).order ∙ ready.over.vars in
       subst (λ (v : ℕ). in_use v new.book.state ≡ live_nodes new.graph) vars (uses new.graph new.book.state (grown whole).sound.tied)
 
   within : (whole : result ≢ Err WriteFault) → KeepsWithin formula limits new.book.state
@@ -165,7 +164,7 @@ module _ {S : Type 0} (canonical : Canonical) (unsatisfied : DerivedEmpty) (refu
 
   nodes_within : (most : ℕ) → live_nodes new.graph ≤ most → (state : State)
       → IsWithin (levels old.graph) (number_limit old) (live_nodes new.graph) state → in_use formula.vars state ≤ most
-  nodes_within most few state is = subst (λ (v : ℕ). in_use v state ≤ most) ready.vars (omega (arith, is.nodes, few))
+  nodes_within most few state is = subst (λ (v : ℕ). in_use v state ≤ most) ready.over.vars (omega (arith, is.nodes, few))
 
   within_limits : live_nodes new.graph ≤ old.max_nodes → (state : State)
       → IsWithin (levels old.graph) (number_limit old) (live_nodes new.graph) state → KeepsWithin formula limits state
@@ -188,7 +187,7 @@ module _ {S : Type 0} (canonical : Canonical) (unsatisfied : DerivedEmpty) (refu
       let own = steps_of (error_of result) decided.leaves in
       let same : new.book.steps ≡ own.0 = own.1 ∙ (λ i. opened.steps i ++ own.0) in
       subst (AreStepsUpTo (formula.vars + limits.max_nodes)) (sym same)
-      (subst (λ (n : ℕ). AreStepsUpTo n own.0) (λ i. ready.vars i + few_nodes i) own.2)
+      (subst (λ (n : ℕ). AreStepsUpTo n own.0) (λ i. ready.over.vars i + few_nodes i) own.2)
 
   -- the clauses of the formula are the table's inputs, and its variables the levels
   same_inputs : old.inputs ≡ length formula.clauses
@@ -198,12 +197,12 @@ module _ {S : Type 0} (canonical : Canonical) (unsatisfied : DerivedEmpty) (refu
       → LeavesKind old new (IsPaid (levels old.graph) old.inputs (length moves) limits.cache width price)
       (error_of result)
   own_price width price has is = decided.paid width price has (subst (λ (vars : ℕ). IsMovePrice vars limits.cache width price)
-      (sym ready.vars) is)
+      (sym ready.over.vars) is)
 
   as_paid : (width price : ℕ) (state : State) → IsPaid (levels old.graph) old.inputs (length moves) limits.cache width price state
       → IsPaidFor formula limits moves width price state
   as_paid width price state paid =
-      subst (λ (vars : ℕ). IsPaid vars (length formula.clauses) (length moves) limits.cache width price state) ready.vars
+      subst (λ (vars : ℕ). IsPaid vars (length formula.clauses) (length moves) limits.cache width price state) ready.over.vars
       (subst (λ (count : ℕ). IsPaid (levels old.graph) count (length moves) limits.cache width price state) same_inputs paid)
 
   paid : (width price : ℕ) → HasWidth formula order moves width → IsMovePrice formula.vars limits.cache width price → result
@@ -232,7 +231,7 @@ module _ {S : Type 0} (canonical : Canonical) (unsatisfied : DerivedEmpty) (refu
   lean values is =
       let own = subst (λ (r : Result (Option (List Bool)) TableError). IfOk r (λ found. IsSome found
       → IsLeanAtEnd (levels old.graph) old.inputs limits.cache new.book.state)) is decided.lean refl in
-      subst (λ (vars : ℕ). IsLeanAtEnd vars (length formula.clauses) limits.cache new.book.state) ready.vars
+      subst (λ (vars : ℕ). IsLeanAtEnd vars (length formula.clauses) limits.cache new.book.state) ready.over.vars
       (subst (λ (count : ℕ). IsLeanAtEnd (levels old.graph) count limits.cache new.book.state) same_inputs own)
 
   -- a refusal leaves the formula unrefuted
@@ -242,7 +241,7 @@ module _ {S : Type 0} (canonical : Canonical) (unsatisfied : DerivedEmpty) (refu
       let none = subst (λ (r : Result (Option (List Bool)) TableError). IfErr r (λ e. e ≢ WriteFault → AddsNoEmpty old new)) is
       decided.no_empty other in
       let was = none.each id empty in
-      omega (arith, (ready.sound.tied.numbers id [] was).1, top_at_start, above)
+      omega (arith, (ready.over.sound.tied.numbers id [] was).1, top_at_start, above)
 
   not_torn : (other : Result (Option (List Bool)) TableError) → result ≡ other → other ≢ Err WriteFault → result ≢ Err WriteFault
   not_torn other is differs e = differs (sym is ∙ e)

@@ -18,7 +18,7 @@ use Rattle.node_table.specs.Table.{TableState, IsSound}
 use Rattle.operations.specs.Entries.{Entry, Fits, Fitting, IsAccounted, IsNewJustification, NamesOnly, RetiresOwn}
 use Rattle.schedule_plan.specs.Plan.{Term}
 use Rattle.term_runner.specs.declared.held.HeldTerm.{HeldTerm}
-use Rattle.term_runner.specs.Held.{AreHeld, IsHeld, IsReady, OwnUnits}
+use Rattle.term_runner.specs.Held.{AreHeld, IsHeld, IsOver, IsReady, OwnUnits}
 
 pub later : {X : Type 0} (first : X) (list : List X) (x : X) → Contains list x → Contains (first ∷ list) x
 later first list x there = (suc there.0, omega (arith, there.1), there.2)
@@ -39,7 +39,7 @@ some_clause : (o : Option (List ℤ)) → is_some o ≡ true → (clause : List 
 some_clause None is = absurd (let e : false ≡ true = is in cc)
 some_clause (Some clause) is = (clause, refl)
 
-same_clause : (id other : ℕ) → Clause id ≡ Clause other → id ≡ other
+pub same_clause : (id other : ℕ) → Clause id ≡ Clause other → id ≡ other
 same_clause id other is = cc
 
 pub no_clause : (id : ℕ) → Trivial ≡ Clause id → ⊥
@@ -124,7 +124,7 @@ module _ {S : Type 0} where
 module _ {S : Type 0} (formula : Formula) (old new : TableState S) (kept : List Entry) (nodes : new.graph ≡ old.graph) (none : new.retired
     ≡ [])
     (stay : (id : ℕ) → (Contains old.retired id → ⊥) → clause_at new.book.state.live id ≡ clause_at old.book.state.live id) where
-  unit_settled : (atom : Atom) (unit : Justification) → IsJustified old.book.state.live (atom ∷ []) unit
+  pub unit_settled : (atom : Atom) (unit : Justification) → IsJustified old.book.state.live (atom ∷ []) unit
       → ((id : ℕ) → unit ≡ Clause id → Contains old.retired id → ⊥) → IsJustified new.book.state.live (atom ∷ []) unit
   unit_settled atom Trivial proved own = proved
   unit_settled atom (Clause id) proved own = (proved.0, stay id (own id refl) ∙ proved.1)
@@ -159,13 +159,18 @@ module _ {S : Type 0} (formula : Formula) (old new : TableState S) (kept : List 
       subst (λ (graph : Graph). AreHeld formula graph new.book.state.live stack terms) (sym nodes)
       (all_settled stack terms are (λ held there id is gone. own held there id is (inl gone)))
 
+  pub over_settled : Fitting S → new.inputs ≡ old.inputs → IsSound new → IsOver formula old kept → IsOver formula new kept
+  over_settled fitting inputs sound over = record {
+    sound = sound;
+    fits = fitting.settled old new kept nodes inputs none stay over.fits;
+    inputs = λ i small. stay (i + 1) (λ gone. let above = (over.sound.retired.each (i + 1) gone).above in
+        omega (arith, above, small, over.counted)) ∙ over.inputs i small;
+    counted = omega (arith, over.counted, inputs);
+    vars = ap levels nodes ∙ over.vars;
+  }
+
   pub ready_settled : Fitting S → new.inputs ≡ old.inputs → IsSound new → IsReady formula old kept → IsReady formula new kept
   ready_settled fitting inputs sound ready = record {
-    sound = sound;
-    fits = fitting.settled old new kept nodes inputs none stay ready.fits;
-    inputs = λ i small. stay (i + 1) (λ gone. let above = (ready.sound.retired.each (i + 1) gone).above in
-        omega (arith, above, small, ready.counted)) ∙ ready.inputs i small;
-    counted = omega (arith, ready.counted, inputs);
-    vars = ap levels nodes ∙ ready.vars;
+    over = over_settled fitting inputs sound ready.over;
     none_empty = ready.none_empty;
   }

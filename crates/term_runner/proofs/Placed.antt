@@ -63,7 +63,7 @@ module _ {S : Type 0} (growth : Growth) (steps : StepByStep S) (fitting : Fittin
       → KeepsOrMakes old.table.graph mid.graph (top_function formula old.table.graph.order next.stack)
   made_of r found = subst (λ (s : List Term). KeepsOrMakes old.table.graph mid.graph (top_function formula old.table.graph.order s))
       (sym stack) (keeps_or_makes growth old.table.graph mid.graph (term_function formula old.table.graph.order term)
-      ready.sound.tied.reduced found.steps.extends.nodes found.made)
+      ready.over.sound.tied.reduced found.steps.extends.nodes found.made)
 
   pairs_of : (r : Result HeldTerm TableError) → Finds (term_function formula old.table.graph.order term) (λ a. term_holds formula a term)
       taken old.table mid old.caches caches r → (width : ℕ) → HaveRoom old.caches width
@@ -83,7 +83,7 @@ module _ {S : Type 0} (growth : Growth) (steps : StepByStep S) (fitting : Fittin
     own = failed_with end came is _;
     unchanged = λ whole failed. (refl, refl);
     again = λ limit. found.again (at_limit limit) (reverse old.out.items) own;
-    at_again = λ limit. at_still growth formula old.table.graph mid.graph ready.sound.tied.reduced found.steps.extends.nodes
+    at_again = λ limit. at_still growth formula old.table.graph mid.graph ready.over.sound.tied.reduced found.steps.extends.nodes
         old.table.book.state.live mid.book.state.live found.steps.extends.clauses stage old.out.items old.out.items old.trail old.trail refl
         refl at;
     leaves = subst (λ (r : Result Bool TableError). Leaves old.table mid (error_of r)) (sym is) found.steps.leaves;
@@ -112,9 +112,9 @@ module _ {S : Type 0} (growth : Growth) (steps : StepByStep S) (fitting : Fittin
     -- the operands' units may be retired
     pub gives_up : MayGiveUp mid taken
     gives_up = record {
-      added = λ id is. steps.added old.table mid ready.sound found.steps.leaves.sound found.steps.extends id
+      added = λ id is. steps.added old.table mid ready.over.sound found.steps.leaves.sound found.steps.extends id
           (has.added id (unit_left taken rest id is));
-      unretired = λ id is gone. free_after old.table mid (all_entries old.caches) (all_entries caches) (taken ++ rest) ready.sound has
+      unretired = λ id is gone. free_after old.table mid (all_entries old.caches) (all_entries caches) (taken ++ rest) ready.over.sound has
           found.gives.retires found.gives.named id (unit_left taken rest id is) (inl gone);
       apart = apart_first taken rest has.apart;
     }
@@ -181,7 +181,7 @@ module _ {S : Type 0} (growth : Growth) (steps : StepByStep S) (fitting : Fittin
       held_here : AreHeld formula mid.graph mid.book.state.live (held ∷ rest) (term ∷ terms)
       held_here = (
         record { is = found.term; not_false = some },
-        held_kept growth old.table.graph mid.graph ready.sound.tied.reduced found.steps.extends.nodes old.table.book.state.live
+        held_kept growth old.table.graph mid.graph ready.over.sound.tied.reduced found.steps.extends.nodes old.table.book.state.live
             mid.book.state.live found.steps.extends.clauses formula rest terms rest_held,
       )
 
@@ -191,7 +191,7 @@ module _ {S : Type 0} (growth : Growth) (steps : StepByStep S) (fitting : Fittin
           fitting.kept mid new (all_entries caches) found.steps.leaves.sound more.leaves.sound more.extends fits
           (λ id named gone. elim (retires.only id gone) [
             | inl was ↦ fits.unretired id named was
-            | inr operand ↦ free_after old.table mid (all_entries old.caches) (all_entries caches) (taken ++ rest) ready.sound has
+            | inr operand ↦ free_after old.table mid (all_entries old.caches) (all_entries caches) (taken ++ rest) ready.over.sound has
                 found.gives.retires found.gives.named id (unit_left taken rest id operand.0) (inr named)
           ])
 
@@ -208,7 +208,7 @@ module _ {S : Type 0} (growth : Growth) (steps : StepByStep S) (fitting : Fittin
         ready = λ whole. ready_after formula mid new (all_entries caches) (all_entries caches) ready_mid more.leaves.sound more.extends
             fits_here;
         own = λ open_yet. subst (λ (s : List HeldTerm). HasUnits new (all_entries caches) s) (sym listed)
-            (units_replaced steps old.table mid new (all_entries old.caches) (all_entries caches) taken rest held ready.sound
+            (units_replaced steps old.table mid new (all_entries old.caches) (all_entries caches) taken rest held ready.over.sound
             found.steps.leaves.sound found.steps.extends has found.gives retires);
         unchanged = λ whole failed. absurd (let e : false ≡ true = failed in cc);
         again = λ limit. absurd (no_error limit);

@@ -1,6 +1,6 @@
 -- A reclamation between moves: the nodes of the stacked terms and of the trail, which are its roots, stay with their
 -- functions, and so do the terms' units.
-use Rattle.std.proofs.Common.{◌≡◌, ◌∙◌, ◌||◌, ℕ, zero, suc, ℤ, pos, nat_abs, true, false, List, [], ◌∷◌, map, reverse}
+use Rattle.std.proofs.Common.{◌≡◌, ◌⊎◌, ◌∙◌, ◌+◌, ◌||◌, ℕ, zero, suc, ℤ, pos, nat_abs, true, false, List, [], ◌∷◌, length, map, reverse}
 use Rattle.std.proofs.Common.{Option, None, Some, Contains, is_some, int_eq, refl, sym, ap, subst, arith, inl, inr}
 use Rattle.std.specs.List.{list_any}
 use Rattle.std.proofs.lemmas.Bool.{or_cases}
@@ -28,7 +28,8 @@ use Rattle.operations.specs.Entries.{Entry}
 use Rattle.reclaim.specs.Reclaimed.{IsOverReached, MayReclaim, Reclaims}
 use Rattle.schedule_plan.specs.Plan.{Stage, Term}
 use Rattle.term_runner.specs.declared.held.HeldTerm.{HeldTerm}
-use Rattle.term_runner.specs.Held.{AreHeld, AreKept, HasUnits, IsAt, IsHeld, IsKept, IsUnitOf}
+use Rattle.term_runner.specs.Finds.{IsProved}
+use Rattle.term_runner.specs.Held.{AreHeld, AreKept, HasUnits, IsAt, IsHeld, IsKept, IsOver, IsUnitOf}
 use Rattle.term_runner.specs.Tidy.{LeavesReached, held_nodes}
 use Rattle.term_runner.proofs.OwnUnits.{later}
 use Rattle.term_runner.proofs.Trails.{in_reverse}
@@ -125,14 +126,14 @@ module _ {S : Type 0} (old new : TableState S) (roots : List Node) (before after
         elim (has.known id was.0) [ inl accounted ↦ inl (inr (was.1 accounted)) | inr is ↦ inr is ];
   }
 
-module _ {S : Type 0} (growth : Growth) (formula : Formula) (old new : TableState S) (stack : List HeldTerm) (trail : List (ℕ × Node))
-    (before after : List Entry) (sound : IsSound new)
-    (reclaims : Reclaims old new (held_nodes stack trail) before after) where
+-- of what the roots reach
+module _ {S : Type 0} (growth : Growth) (old new : TableState S) (roots : List Node) (before after : List Entry) (sound : IsSound new)
+    (reclaims : Reclaims old new roots before after) where
   -- what is left was there
   were : KeepsNodes new.graph old.graph
   were = record { order = sym reclaims.order; nodes = λ key branch at. (reclaims.only key branch at).0 }
 
-  root_stands : (node : Node) → Contains (held_nodes stack trail) node → is_node old.graph node ≡ true → is_node new.graph node ≡ true
+  root_stands : (node : Node) → Contains roots node → is_node old.graph node ≡ true → is_node new.graph node ≡ true
   root_stands False root is = refl
   root_stands True root is = refl
   root_stands (Inner key) root is = there (branch_at old.graph key.index) refl is
@@ -161,53 +162,20 @@ module _ {S : Type 0} (growth : Growth) (formula : Formula) (old new : TableStat
       go Trivial same own = own
       go (Clause id) same own = (own.0, same id refl ∙ own.1)
 
-  all_stay : (held : List HeldTerm) (terms : List Term) → ((one : HeldTerm) → Contains held one
-      → Contains (held_nodes stack trail) one.node)
-      → ((one : HeldTerm) → Contains held one → (id : ℕ) → one.unit ≡ Clause id → clause_at new.book.state.live id
-      ≡ clause_at old.book.state.live id)
-      → AreHeld formula old.graph old.book.state.live held terms → AreHeld formula new.graph new.book.state.live held terms
-  all_stay [] [] roots stay are = tt
-  all_stay [] (term ∷ terms) roots stay are = absurd are
-  all_stay (one ∷ held) [] roots stay are = absurd are
-  all_stay (one ∷ held) (term ∷ terms) roots stay are =
-      let first : Contains (one ∷ held) one = (zero, omega arith, refl) in
-      let stands = root_stands one.node (roots one first) are.0.is.stands in (
-        record {
-          is = record {
-            stands = stands;
-            value = λ a. node_value one.node stands a ∙ are.0.is.value a;
-            proved = unit_stays one.node stands one.unit (stay one first) are.0.is.proved;
-          };
-          not_false = are.0.not_false;
-        },
-        all_stay held terms (λ other there. roots other (later one held other there))
-            (λ other there. stay other (later one held other there)) are.1,
-      )
+  -- a term whose node is a root, and whose unit stays
+  pub proved_stays : (held : HeldTerm) → (held.node ≡ False) ⊎ Contains roots held.node
+      → ((id : ℕ) → held.unit ≡ Clause id → clause_at new.book.state.live id ≡ clause_at old.book.state.live id)
+      → IsProved old.graph old.book.state.live held → IsProved new.graph new.book.state.live held
+  proved_stays held root stay is =
+      let stands : is_node new.graph held.node ≡ true = elim root [
+        | inl none ↦ subst (λ (node : Node). is_node new.graph node ≡ true) (sym none) refl
+        | inr there ↦ root_stands held.node there is.stands
+      ] in
+      record { stands = stands; unit = unit_stays held.node stands held.unit stay is.unit }
 
-  trail_stays : (nodes : List (ℕ × Node)) (quantified : List (ℕ × Term))
-      → ((kept : ℕ × Node) → Contains nodes kept → Contains (held_nodes stack trail) kept.1)
-      → AreKept formula old.graph nodes quantified → AreKept formula new.graph nodes quantified
-  trail_stays [] [] roots are = tt
-  trail_stays [] (variable ∷ quantified) roots are = absurd are
-  trail_stays (kept ∷ nodes) [] roots are = absurd are
-  trail_stays (kept ∷ nodes) (variable ∷ quantified) roots are =
-      let stands = root_stands kept.1 (roots kept (zero, omega arith, refl)) are.0.stands in (
-        record { variable = are.0.variable; stands = stands; value = λ a. node_value kept.1 stands a ∙ are.0.value a },
-        trail_stays nodes quantified (λ other there. roots other (later kept nodes other there)) are.1,
-      )
-
-  pub at_reclaimed : HasUnits old before (reverse stack) → (stage : Stage) → IsAt formula old.graph old.book.state.live stack trail stage
-      → IsAt formula new.graph new.book.state.live stack trail stage
-  at_reclaimed has stage at = record {
-    held = all_stay (reverse stack) stage.stack (held_root stack trail)
-        (λ held there id is. reclaims.kept id (has.added id (record { held = held; stacked = there; unit = is }))
-        (has.own held there id is)) at.held;
-    kept = trail_stays (reverse trail) stage.trail (kept_root stack trail) at.kept;
-  }
-
-  pub leaves_reached : Reachability → (stage : Stage) → IsAt formula old.graph old.book.state.live stack trail stage
-      → LeavesReached old.graph new.graph (held_nodes stack trail)
-  leaves_reached reach stage at = record {
+  pub leaves_reached : Reachability → ((root : Node) → Contains roots root → is_node old.graph root ≡ true)
+      → LeavesReached old.graph new.graph roots
+  leaves_reached reach stood = record {
     order = reclaims.order;
     reduced = sound.tied.reduced;
     nodes = λ key branch there. (reclaims.only key branch there).0;
@@ -223,8 +191,72 @@ module _ {S : Type 0} (growth : Growth) (formula : Formula) (old new : TableStat
     value = λ a node is. sym (growth.value new.graph old.graph sound.tied.reduced were a node is);
   }
     where
-      stand : (root : Node) → Contains (held_nodes stack trail) root → is_node new.graph root ≡ true
-      stand root there = root_stands root there (roots_stand formula old.graph old.book.state.live stack trail stage at root there)
+      stand : (root : Node) → Contains roots root → is_node new.graph root ≡ true
+      stand root there = root_stands root there (stood root there)
+
+-- the table is over the formula yet
+pub over_reclaimed : {S : Type 0} (formula : Formula) (old new : TableState S) (roots : List Node) (before after : List Entry)
+    → IsSound new → Reclaims old new roots before after → IsOver formula old before → IsOver formula new after
+over_reclaimed formula old new roots before after sound reclaims over = record {
+  sound = sound;
+  fits = reclaims.fits;
+  inputs = λ i small. reclaims.formula (i + 1) (omega (arith, small, over.counted)) ∙ over.inputs i small;
+  counted = reclaims.inputs ∙ over.counted;
+  vars = ap length reclaims.order ∙ over.vars;
+}
+
+module _ {S : Type 0} (growth : Growth) (formula : Formula) (old new : TableState S) (stack : List HeldTerm) (trail : List (ℕ × Node))
+    (before after : List Entry) (sound : IsSound new)
+    (reclaims : Reclaims old new (held_nodes stack trail) before after) where
+  abbrev roots : List Node
+  roots = held_nodes stack trail
+
+  all_stay : (held : List HeldTerm) (terms : List Term) → ((one : HeldTerm) → Contains held one → Contains roots one.node)
+      → ((one : HeldTerm) → Contains held one → (id : ℕ) → one.unit ≡ Clause id → clause_at new.book.state.live id
+      ≡ clause_at old.book.state.live id)
+      → AreHeld formula old.graph old.book.state.live held terms → AreHeld formula new.graph new.book.state.live held terms
+  all_stay [] [] there stay are = tt
+  all_stay [] (term ∷ terms) there stay are = absurd are
+  all_stay (one ∷ held) [] there stay are = absurd are
+  all_stay (one ∷ held) (term ∷ terms) there stay are =
+      let first : Contains (one ∷ held) one = (zero, omega arith, refl) in
+      let stands = root_stands growth old new roots before after sound reclaims one.node (there one first) are.0.is.stands in (
+        record {
+          is = record {
+            stands = stands;
+            value = λ a. node_value growth old new roots before after sound reclaims one.node stands a ∙ are.0.is.value a;
+            proved = unit_stays growth old new roots before after sound reclaims one.node stands one.unit (stay one first) are.0.is.proved;
+          };
+          not_false = are.0.not_false;
+        },
+        all_stay held terms (λ other among. there other (later one held other among))
+            (λ other among. stay other (later one held other among)) are.1,
+      )
+
+  trail_stays : (nodes : List (ℕ × Node)) (quantified : List (ℕ × Term))
+      → ((kept : ℕ × Node) → Contains nodes kept → Contains roots kept.1)
+      → AreKept formula old.graph nodes quantified → AreKept formula new.graph nodes quantified
+  trail_stays [] [] there are = tt
+  trail_stays [] (variable ∷ quantified) there are = absurd are
+  trail_stays (kept ∷ nodes) [] there are = absurd are
+  trail_stays (kept ∷ nodes) (variable ∷ quantified) there are =
+      let stands = root_stands growth old new roots before after sound reclaims kept.1 (there kept (zero, omega arith, refl)) are.0.stands in (
+        record {
+          variable = are.0.variable;
+          stands = stands;
+          value = λ a. node_value growth old new roots before after sound reclaims kept.1 stands a ∙ are.0.value a;
+        },
+        trail_stays nodes quantified (λ other among. there other (later kept nodes other among)) are.1,
+      )
+
+  pub at_reclaimed : HasUnits old before (reverse stack) → (stage : Stage) → IsAt formula old.graph old.book.state.live stack trail stage
+      → IsAt formula new.graph new.book.state.live stack trail stage
+  at_reclaimed has stage at = record {
+    held = all_stay (reverse stack) stage.stack (held_root stack trail)
+        (λ held there id is. reclaims.kept id (has.added id (record { held = held; stacked = there; unit = is }))
+        (has.own held there id is)) at.held;
+    kept = trail_stays (reverse trail) stage.trail (kept_root stack trail) at.kept;
+  }
 
 no_literal : (clause : List ℤ) → Some [] ≡ Some clause → (literal : ℤ) → list_any (int_eq literal) clause ≡ true → ⊥
 no_literal clause is literal any =
@@ -253,28 +285,42 @@ unit_variable graph (Inner key) clause is literal any = of_branch (branch_at gra
           | inr none ↦ absurd (let f : false ≡ true = none in cc)
         ]
 
--- No clause stands in the way.
-module _ {S : Type 0} (formula : Formula) (table : TableState S) (kept : List Entry) (stack : List HeldTerm) (trail : List (ℕ × Node))
-    (stage : Stage) (reduced : IsReduced table.graph) (has : HasUnits table kept (reverse stack))
-    (at : IsAt formula table.graph table.book.state.live stack trail stage) where
-  -- the unit of a stacked term is over its node
-  over_unit : (id : ℕ) (clause : List ℤ) → clause_at table.book.state.live id ≡ Some clause → IsUnitOf (reverse stack) id
-      → IsOverReached table.graph (held_nodes stack trail) clause
+-- No clause stands in the way, where the nodes of those that own one are roots.
+module _ {S : Type 0} (table : TableState S) (kept : List Entry) (owners : List HeldTerm) (roots : List Node)
+    (reduced : IsReduced table.graph) (has : HasUnits table kept owners)
+    (proved : (held : HeldTerm) → Contains owners held → IsProved table.graph table.book.state.live held)
+    (root : (held : HeldTerm) → Contains owners held → (held.node ≡ False) ⊎ Contains roots held.node) where
+  -- the unit of a term is over its node
+  over_unit : (id : ℕ) (clause : List ℤ) → clause_at table.book.state.live id ≡ Some clause → IsUnitOf owners id
+      → IsOverReached table.graph roots clause
   over_unit id clause is by literal any key branch stands same =
       let held = by.held in
-      let term = held_term formula table.graph table.book.state.live (reverse stack) stage.stack at.held held by.stacked in
-      let proved : IsJustified table.book.state.live (atom_of table.graph held.node ∷ []) (Clause id) =
-      subst (λ (unit : Justification). IsJustified table.book.state.live (atom_of table.graph held.node ∷ []) unit) by.unit term.2.is.proved in
-      let own = unit_variable table.graph held.node clause (sym proved.1 ∙ is) literal any in
+      let own_unit : IsJustified table.book.state.live (atom_of table.graph held.node ∷ []) (Clause id) =
+      subst (λ (unit : Justification). IsJustified table.book.state.live (atom_of table.graph held.node ∷ []) unit) by.unit
+      (proved held by.stacked).unit in
+      let own = unit_variable table.graph held.node clause (sym own_unit.1 ∙ is) literal any in
       let one : own.0 ≡ key = reduced.apart own.0 key own.1 branch own.3 stands (sym own.4 ∙ same) in
-      record {
-        root = held.node;
-        is_root = held_root stack trail held by.stacked;
-        reaches = record { path = []; ends = own.2 ∙ ap inner one };
-      }
+      elim (root held by.stacked) [
+        | inl none ↦ absurd (let e : False ≡ inner own.0 = sym none ∙ own.2 in cc)
+        | inr there ↦ record {
+          root = held.node;
+          is_root = there;
+          reaches = record { path = []; ends = own.2 ∙ ap inner one };
+        }
+      ]
 
-  pub may_reclaim : MayReclaim table kept (held_nodes stack trail)
-  may_reclaim id clause is added = elim (has.known id added) [
+  pub may_reclaim_owned : MayReclaim table kept roots
+  may_reclaim_owned id clause is added = elim (has.known id added) [
     | inl accounted ↦ inl accounted
     | inr by ↦ inr (over_unit id clause is by)
   ]
+
+-- so it is of stacked terms
+pub may_reclaim : {S : Type 0} (formula : Formula) (table : TableState S) (kept : List Entry) (stack : List HeldTerm)
+    (trail : List (ℕ × Node)) (stage : Stage) → IsReduced table.graph → HasUnits table kept (reverse stack)
+    → IsAt formula table.graph table.book.state.live stack trail stage → MayReclaim table kept (held_nodes stack trail)
+may_reclaim formula table kept stack trail stage reduced has at =
+    may_reclaim_owned table kept (reverse stack) (held_nodes stack trail) reduced has
+    (λ held among. let term = held_term formula table.graph table.book.state.live (reverse stack) stage.stack at.held held among in
+    record { stands = term.2.is.stands; unit = term.2.is.proved })
+    (λ held among. inr (held_root stack trail held among))

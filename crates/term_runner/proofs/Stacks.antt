@@ -21,7 +21,7 @@ use Rattle.operations.specs.Entries.{Entry, Fits}
 use Rattle.clause_terms.specs.Term.{IsTerm}
 use Rattle.schedule_plan.specs.Plan.{Term, term_holds}
 use Rattle.term_runner.specs.declared.held.HeldTerm.{HeldTerm}
-use Rattle.term_runner.specs.Held.{AreHeld, IsReady, top_node}
+use Rattle.term_runner.specs.Held.{AreHeld, IsOver, IsReady, top_node}
 use Rattle.term_runner.specs.Recovered.{stack_holds}
 
 -- what stays as nodes and clauses are added
@@ -67,15 +67,22 @@ false_refutes graph live node unit is proved = go unit (subst (λ (n : Node). Is
     go Trivial e = absurd (let f : false ≡ true = e in cc)
     go (Clause id) e = (id, e.1)
 
--- the table is ready again after a call that went on
+-- the table is over the formula again after a call that went on
+pub over_after : {S : Type 0} (formula : Formula) (old new : TableState S) (kept more : List Entry) → IsOver formula old kept
+    → IsSound new → Extends old new → Fits new more → IsOver formula new more
+over_after formula old new kept more over sound extends fits = record {
+  sound = sound;
+  fits = fits;
+  inputs = λ i small. extends.clauses (i + 1) (slice_index_or formula.clauses i []) (over.inputs i small);
+  counted = omega (arith, over.counted, extends.inputs);
+  vars = ap length extends.nodes.order ∙ over.vars;
+}
+
+-- and ready for a plan
 pub ready_after : {S : Type 0} (formula : Formula) (old new : TableState S) (kept more : List Entry) → IsReady formula old kept
     → IsSound new → Extends old new → Fits new more → IsReady formula new more
 ready_after formula old new kept more ready sound extends fits = record {
-  sound = sound;
-  fits = fits;
-  inputs = λ i small. extends.clauses (i + 1) (slice_index_or formula.clauses i []) (ready.inputs i small);
-  counted = omega (arith, ready.counted, extends.inputs);
-  vars = ap length extends.nodes.order ∙ ready.vars;
+  over = over_after formula old new kept more ready.over sound extends fits;
   none_empty = ready.none_empty;
 }
 

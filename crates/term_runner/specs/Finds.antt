@@ -14,12 +14,18 @@ use Rattle.node_table.specs.Table.{TableState, AddsAtMost, AddsNoEmpty, UnlessTo
 use Rattle.node_table.specs.Value.{Levels, value_of}
 use Rattle.operations.specs.Budget.{most_additions}
 use Rattle.operations.specs.Entries.{Entry, Fits, IsAccounted}
+use Rattle.lrat_rules.specs.State.{Live}
 use Rattle.clause_terms.specs.Term.{IsTerm}
 use Rattle.term_runner.specs.declared.caches.Caches.{Caches}
 use Rattle.term_runner.specs.declared.held.HeldTerm.{HeldTerm}
 use Rattle.term_runner.specs.Caches.{HaveRoom, all_entries, sizes}
 use Rattle.term_runner.specs.Held.{GivesUnit, HasUnits}
 use Rattle.term_runner.specs.Width.{HasAtMost}
+
+-- a term's node stands, and its unit says that it holds
+pub record IsProved (graph : Graph) (live : Live) (held : HeldTerm) : Type 0 where
+  pub stands : IsTrue (is_node graph held.node)
+  pub unit : IsJustified live (atom_of graph held.node ∷ []) held.unit
 
 -- A term as a call takes it: its node isn't False, and its unit is neither retired nor named by an entry.
 pub record IsOperand {S : Type 0} (table : TableState S) (entries : List Entry) (held : HeldTerm) : Type 0 where

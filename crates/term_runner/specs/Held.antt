@@ -127,14 +127,17 @@ pub record IsPlaced {S : Type 0} (operands : List HeldTerm) (held : HeldTerm) (o
   pub retires : RetiresUnits old new operands held.unit
   pub steps : Steps old new 0 None
 
--- The table is sound, the entries of the caches fit it, and the clauses of the formula, none of them empty, are live under
--- 1, 2, ..
-pub record IsReady {S : Type 0} (formula : Formula) (table : TableState S) (kept : List Entry) : Type 0 where
+-- The table is sound, the entries of the caches fit it, and the clauses of the formula are live under 1, 2, ..
+pub record IsOver {S : Type 0} (formula : Formula) (table : TableState S) (kept : List Entry) : Type 0 where
   pub sound : IsSound table
   pub fits : Fits table kept
   pub inputs : (i : ℕ) → i < length formula.clauses → clause_at table.book.state.live (i + 1) ≡ Some (slice_index_or formula.clauses i [])
   pub counted : table.inputs ≡ length formula.clauses
   pub vars : levels table.graph ≡ formula.vars
+
+-- It is ready for a plan: none of the formula's clauses is empty.
+pub record IsReady {S : Type 0} (formula : Formula) (table : TableState S) (kept : List Entry) : Type 0 where
+  pub over : IsOver formula table kept
   pub none_empty : IsFalse (has_empty_clause formula.clauses)
 
 -- the hint that a justification gives

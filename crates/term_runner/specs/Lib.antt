@@ -14,3 +14,5 @@ pub mod Finds
 pub mod Tidy
 pub mod Examples
 pub mod Trial
+pub mod Unused
+pub mod Runner

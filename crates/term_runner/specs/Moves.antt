@@ -31,8 +31,9 @@ pub record MayMove {S : Type 0} (formula : Formula) (step : Move) (terms : Terms
   pub leads : after_move formula stage step ≡ Some next
 
 -- A try of a move from this stage to the next. Done, it leaves the terms of the next one, or the formula is refuted. Else
--- it leaves its operands, unless a write failed, and at the limit of nodes it may be tried again. However it ends, nodes stay, and the new clauses are those of new nodes and no more beside them
--- than this, or, where the caches have room for all pairs of parts in hand, than two for each of these.
+-- it leaves its operands, unless a write failed, and at the limit of nodes it may be tried again. However it ends, nodes stay,
+-- and the new clauses are those of new nodes and no more beside them than this, or, where the caches have room for all pairs of
+-- parts in hand, than two for each of these.
 pub record Tried {S : Type 0} (formula : Formula) (stage next : Stage) (old new : Terms S) (result : Result Bool TableError) : Type 0 where
   pub held : IfOk result (λ refuted. refuted ≡ false → IsAtStage formula new next)
   pub refuted : IfOk result (λ refuted. IsTrue refuted → (id : ℕ) × (clause_at new.table.book.state.live id ≡ Some []))

@@ -1,9 +1,9 @@
 // What a move finds: the term of a clause, the conjunction of two terms, and a term without a variable. A term implies what comes
 // of it without a variable, and so the new unit follows from its own. (Bryant, Heule: Generating Extended Resolution Proofs with a
 // BDD-Based SAT Solver, 2021, section 5.)
-ghost use Rattle.std.specs.Prelude.{◌≡◌, ◌≢◌, ◌≤◌, ◌<◌, ◌+◌, ◌*◌, ◌&&◌, ◌||◌, ℕ, Bool, List, [], ◌∷◌, Err, IsTrue, IfOk, length, true, false};
+ghost use Rattle.std.specs.Prelude.{◌≡◌, ◌≢◌, ◌≤◌, ◌<◌, ◌+◌, ◌-◌, ◌*◌, ◌&&◌, ◌||◌, ℕ, Bool, List, [], ◌∷◌, Err, IsTrue, IfErr, IfOk, length, slice_index_or, true, false};
 ghost use Rattle.cnf_base.specs.Truth.{Assignment, with_value};
-ghost use Rattle.node_table.specs.declared.error.TableError.TheVariants.{NodeLimit};
+ghost use Rattle.node_table.specs.declared.error.TableError.TheVariants.{NodeLimit, WriteFault};
 ghost use Rattle.node_table.specs.declared.node.Node.TheVariants.{False};
 ghost use Rattle.node_table.specs.Defined.{atom_of};
 ghost use Rattle.node_table.specs.Diagram.{is_node, levels, variable_at};
@@ -17,18 +17,20 @@ ghost use Rattle.clause_terms.specs.Term.{IsTerm};
 ghost use Rattle.apply_and.specs.Conjunction.{conjunction_of};
 ghost use Rattle.quantify.specs.Quantification.{quantification_of};
 ghost use Rattle.schedule_plan.specs.Plan.{input as input_term, term_holds};
+ghost use Rattle.term_runner.specs.declared.held.HeldTerm.{HeldTerm as HeldValue};
 ghost use Rattle.term_runner.specs.declared.caches.Caches.{Caches as CachesValue};
 ghost use Rattle.term_runner.specs.Caches.{HaveRoom, KeepsEntries, all_entries, sizes};
-ghost use Rattle.term_runner.specs.Finds.{Finds, IsOperand};
-ghost use Rattle.term_runner.specs.Held.{GivesUnit, IsReady};
+ghost use Rattle.term_runner.specs.Finds.{Finds, IsOperand, IsProved};
+ghost use Rattle.term_runner.specs.Held.{GivesUnit, HasUnits, IsOver};
 ghost use Rattle.term_runner.specs.Width.{HasAtMost, term_function};
 
 use crate::caches::Caches;
 use crate::held::HeldTerm;
-use crate::unit::{unit_of, unit_of_implied};
+use crate::unit::{add_unit, own_unit, unit_of, unit_of_implied};
 use clause_terms::push_clause;
 use cnf_base::{Cnf, Id};
 use host_io::Sink;
+use lrat_rules::conflict_law;
 use node_table::{
     Justification, Node, Table, TableError, canonical_law, growth_law, steps_law, subfunction_law,
 };
@@ -42,13 +44,17 @@ pub fn input<S: Sink + Drop>(
     formula: &Cnf,
     number: u32,
 ) -> Result<HeldTerm, TableError>
-    requires ready { (kept : List Entry) × IsReady formula.now table.old kept }
+    requires over { (kept : List Entry) × IsOver formula.now table.old kept }
     requires from_one { 1 ≤ number }
     requires to_len { number ≤ length formula.now.clauses }
+    requires some { slice_index_or formula.now.clauses (number - 1) [] ≢ [] }
     ensures finds { (caches : CachesValue) → Fits table.old (all_entries caches)
         → Finds (term_function formula.now table.old.graph.order (input_term number))
         (λ a. term_holds formula.now a (input_term number)) [] table.old table.new caches caches result }
     ensures one { AddsAtMost 1 table.old table.new }
+    // A refusal loses no unit.
+    ensures refused { IfErr result (λ e. e ≢ WriteFault → (kept : List Entry) (terms : List HeldValue) → HasUnits table.old kept terms
+        → HasUnits table.new kept terms) }
 {
     growth_law();
     steps_law::<S>();
@@ -57,6 +63,37 @@ pub fn input<S: Sink + Drop>(
     let clause = formula.clause(number as usize);
     let (node, unit) = push_clause(alloc, table, clause, Id(number as u64))?;
     Ok(HeldTerm { node, unit })
+}
+
+/// As `input`, of any clause. The term of an empty one is False, and its unit an empty clause that follows from it.
+pub fn any_input<S: Sink + Drop>(
+    alloc: Global,
+    table: &mut Table<S>,
+    formula: &Cnf,
+    number: u32,
+) -> Result<HeldTerm, TableError>
+    requires over { (kept : List Entry) × IsOver formula.now table.old kept }
+    requires from_one { 1 ≤ number }
+    requires to_len { number ≤ length formula.now.clauses }
+    ensures finds { (caches : CachesValue) → Fits table.old (all_entries caches)
+        → Finds (term_function formula.now table.old.graph.order (input_term number))
+        (λ a. term_holds formula.now a (input_term number)) [] table.old table.new caches caches result }
+    ensures one { AddsAtMost 1 table.old table.new }
+    ensures refused { IfErr result (λ e. e ≢ WriteFault → (kept : List Entry) (terms : List HeldValue) → HasUnits table.old kept terms
+        → HasUnits table.new kept terms) }
+{
+    steps_law::<S>();
+    entry_law::<S>();
+    subfunction_law();
+    conflict_law();
+    if !formula.clause(number as usize).is_empty() {
+        return input(alloc, table, formula, number);
+    }
+    let unit = add_unit(table, Node::False, &[Id(number as u64)])?;
+    Ok(HeldTerm {
+        node: Node::False,
+        unit,
+    })
 }
 
 /// The conjunction of two terms. Its unit is that of an operand, where it is that operand.
@@ -82,6 +119,36 @@ pub fn conjunction<S: Sink + Drop>(
     entry_law::<S>();
     let (node, just) = caches.and(table, u.node, v.node)?;
     let unit = unit_of(table, u, v, node, &just)?;
+    Ok(HeldTerm { node, unit })
+}
+
+/// As `conjunction`, of terms that may be False. The unit is no operand's.
+pub fn own_conjunction<S: Sink + Drop>(
+    table: &mut Table<S>,
+    caches: &mut Caches,
+    u: &HeldTerm,
+    v: &HeldTerm,
+) -> Result<HeldTerm, TableError>
+    requires sound { IsSound table.old }
+    requires fits { Fits table.old (all_entries caches.old) }
+    requires first { IsProved table.old.graph table.old.book.state.live u.now }
+    requires second { IsProved table.old.graph table.old.book.state.live v.now }
+    ensures finds { (one other : Assignment → Bool) → IsTerm table.old.graph table.old.book.state.live one u.now.node u.now.unit
+        → IsTerm table.old.graph table.old.book.state.live other v.now.node v.now.unit
+        → Finds (conjunction_of table.old.graph u.now.node v.now.node) (λ a. one a && other a) (v.now ∷ u.now ∷ [])
+        table.old table.new caches.old caches.new result }
+    ensures own { IfOk result (λ held. GivesUnit table.old table.new (all_entries caches.old) (all_entries caches.new) [] held.unit) }
+    // A refusal loses no unit.
+    ensures refused { IfErr result (λ e. e ≢ WriteFault → (terms : List HeldValue) → HasUnits table.old (all_entries caches.old) terms
+        → HasUnits table.new (all_entries caches.new) terms) }
+{
+    canonical_law();
+    subfunction_law();
+    growth_law();
+    steps_law::<S>();
+    entry_law::<S>();
+    let (node, just) = caches.and(table, u.node, v.node)?;
+    let unit = own_unit(table, u, v, node, &just)?;
     Ok(HeldTerm { node, unit })
 }
 

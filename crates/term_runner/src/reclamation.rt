@@ -103,8 +103,12 @@ impl<S: Sink + Drop> Terms<S> {
     }
 }
 
-// The nodes of the stack and of the trail.
-fn roots_of(alloc: Global, stack: &[HeldTerm], trail: &Trail) -> Result<Vec<Node>, NoMemory>
+/// The nodes of the stack and of the trail.
+pub(crate) fn roots_of(
+    alloc: Global,
+    stack: &[HeldTerm],
+    trail: &Trail,
+) -> Result<Vec<Node>, NoMemory>
     ensures { IfOk result (λ roots. roots.items ≡ held_nodes stack.now trail.now) }
 {
     let mut roots: Vec<Node> = Vec::new(alloc);

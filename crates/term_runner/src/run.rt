@@ -5,18 +5,17 @@ ghost use Rattle.schedule_plan.specs.Limits.{AreLimits};
 ghost use Rattle.term_runner.specs.Ends.{Ends};
 ghost use Rattle.term_runner.specs.Opened.{EndsWithin};
 
-use crate::caches::Caches;
 use crate::error::RunError;
-use crate::finish::{finish, refute};
+use crate::finish::refute;
 use crate::open::first_empty;
-use crate::outcome::{Run, outcome_of};
+use crate::outcome::Run;
 use crate::progress::Progress;
-use crate::terms::Terms;
+use crate::runner::{Parts, Runner};
 use clause_ledger::Ledger;
 use cnf_base::Cnf;
 use host_io::Sink;
-use lrat_rules::{derivation_law, marks_law, soundness_law, start_law};
-use node_table::{Diagram, Table, canonical_law, in_use_law, lean_law, opening_law};
+use lrat_rules::{derivation_law, marks_law, start_law};
+use node_table::lean_law;
 use schedule_plan::{Limits, Order, Plan};
 use std::alloc::Global;
 
@@ -94,38 +93,22 @@ pub(crate) fn run_with<S: Sink + Drop>(
 {
     start_law();
     derivation_law();
-    soundness_law();
     marks_law();
-    opening_law::<&mut S>();
-    in_use_law();
     lean_law::<S>();
-    canonical_law();
     formula.formula_law();
-    let mut ledger = Ledger::new(formula, sink, limits.max_ids);
     if let Some(number) = first_empty(formula) {
+        let mut ledger = Ledger::new(formula, sink, limits.max_ids);
         let result = refute(&mut ledger, number);
         ledger.book_law();
         let _sink = ledger.close();
         return result;
     }
-    let Ok(diagram) = Diagram::new(alloc, order.as_slice()) else {
-        ledger.book_law();
-        let _sink = ledger.close();
+    let Ok(parts) = Parts::new(alloc, order, limits.cache) else {
         return Err(RunError::OutOfMemory);
     };
-    let Ok(caches) = Caches::new(alloc, limits.cache) else {
-        ledger.book_law();
-        let _sink = ledger.close();
-        return Err(RunError::OutOfMemory);
-    };
-    let table = Table::new(alloc, ledger, diagram, limits.max_nodes);
-    let mut terms = Terms::new(alloc, table, caches);
-    let found = terms.decide(formula, plan, limits.cache, progress);
-    terms.table.table_law();
-    let mut ledger = terms.into_ledger(lets_go);
-    ledger.book_law();
-    let result = finish(&mut ledger, outcome_of(found));
-    ledger.book_law();
-    let _sink = ledger.close();
+    let runner = Runner::new(alloc, formula, order, parts, limits, sink);
+    let (sink, result) = runner.run_counting(plan, progress, lets_go);
+    // What was lent goes back.
+    let _sink = sink;
     result
 }

@@ -11,11 +11,12 @@ ghost use Rattle.node_table.specs.declared.error.TableError.TheVariants.{NodeLim
 ghost use Rattle.node_table.specs.Defined.{atom_of};
 ghost use Rattle.node_table.specs.Diagram.{is_node};
 ghost use Rattle.node_table.specs.Justification.{IsJustified};
-ghost use Rattle.node_table.specs.Table.{AddsNoEmpty, IsAddedTo, IsSound};
+ghost use Rattle.node_table.specs.Table.{AddsNoEmpty, AddsNone, IsAddedTo, IsSound};
 ghost use Rattle.node_table.specs.Progress.{Steps, StepsOrRefutes, error_of};
 ghost use Rattle.operations.specs.Results.{Conjoined, Implied};
 ghost use Rattle.operations.specs.Entries.{IsNewJustification};
 ghost use Rattle.clause_terms.specs.Term.{AddsUnit};
+ghost use Rattle.term_runner.specs.Finds.{IsProved};
 ghost use Rattle.term_runner.specs.Held.{RetiresBut, hint_of};
 
 use crate::held::HeldTerm;
@@ -61,6 +62,7 @@ pub fn unit_of<S: Sink + Drop>(
     ensures some { w ≢ False → Steps table.old table.new 1
         (error_of result) }
     ensures refused { IfErr result (λ e. e ≢ WriteFault → AddsNoEmpty table.old table.new) }
+    ensures none_added { IfErr result (λ e. e ≢ WriteFault → AddsNone table.old table.new) }
     ensures retired { table.new.retired ≡ table.old.retired }
     ensures no_node_limit { result ≢ Err NodeLimit }
 {
@@ -133,6 +135,75 @@ pub fn unit_of_implied<S: Sink + Drop>(
     add_unit(table, w, &[first, implication])
 }
 
+/// A unit of the node w, which is the conjunction of both terms' nodes, that is no operand's: where w is an operand, it follows from
+/// that one's; none where w is True.
+pub fn own_unit<S: Sink + Drop>(
+    table: &mut Table<S>,
+    u: &HeldTerm,
+    v: &HeldTerm,
+    w: Node,
+    just: &Justification,
+) -> Result<Justification, TableError>
+    requires sound { IsSound table.old }
+    requires first { IsProved table.old.graph table.old.book.state.live u.now }
+    requires second { IsProved table.old.graph table.old.book.state.live v.now }
+    requires conjoined { Conjoined table.old.graph table.old.book.state.live u.now.node v.now.node w just.now }
+    ensures unit { IfOk result (λ unit. IsJustified table.new.book.state.live (atom_of table.old.graph w ∷ []) unit) }
+    ensures last { IfOk result (λ unit. (id : ℕ) → unit ≡ Clause id → (id ≡ table.new.book.state.top)
+        × (table.old.book.state.top < id)) }
+    ensures added { IfOk result (λ unit. (id : ℕ) → unit ≡ Clause id → IsAddedTo table.new id) }
+    ensures alone { IfOk result (λ unit. (id : ℕ) → IsAddedTo table.new id → IsAddedTo table.old id ⊎ (unit ≡ Clause id)) }
+    ensures nodes { table.new.graph ≡ table.old.graph }
+    ensures steps { StepsOrRefutes table.old table.new 1 (error_of result) }
+    ensures some { w ≢ False → Steps table.old table.new 1 (error_of result) }
+    ensures refused { IfErr result (λ e. e ≢ WriteFault → AddsNoEmpty table.old table.new) }
+    ensures none_added { IfErr result (λ e. e ≢ WriteFault → AddsNone table.old table.new) }
+    ensures retired { table.new.retired ≡ table.old.retired }
+    ensures no_node_limit { result ≢ Err NodeLimit }
+{
+    steps_law::<S>();
+    canonical_law();
+    if is_same(w, Node::True) {
+        return Ok(Justification::Trivial);
+    }
+    if is_same(w, u.node) {
+        return add_again(table, w, &u.unit);
+    }
+    if is_same(w, v.node) {
+        return add_again(table, w, &v.unit);
+    }
+    unit_of(table, u, v, w, just)
+}
+
+// Adds the clause of a node alone once more, where it is live.
+fn add_again<S: Sink + Drop>(
+    table: &mut Table<S>,
+    w: Node,
+    unit: &Justification,
+) -> Result<Justification, TableError>
+    requires sound { IsSound table.old }
+    requires stands { IsTrue (is_node table.old.graph w) }
+    requires not_true { w ≢ True }
+    requires proved { IsJustified table.old.book.state.live (atom_of table.old.graph w ∷ []) unit.now }
+    ensures unit { IfOk result (λ unit. IsJustified table.new.book.state.live (atom_of table.old.graph w ∷ []) unit) }
+    ensures number { IfOk result (λ unit. (unit ≡ Clause (table.old.book.state.top + 1))
+        × (table.new.book.state.top ≡ table.old.book.state.top + 1)) }
+    ensures added { IfOk result (λ unit. (id : ℕ) → unit ≡ Clause id → IsAddedTo table.new id) }
+    ensures alone { IfOk result (λ unit. (id : ℕ) → IsAddedTo table.new id → IsAddedTo table.old id ⊎ (unit ≡ Clause id)) }
+    ensures nodes { table.new.graph ≡ table.old.graph }
+    ensures steps { StepsOrRefutes table.old table.new 1 (error_of result) }
+    ensures some { w ≢ False → Steps table.old table.new 1 (error_of result) }
+    ensures refused { IfErr result (λ e. e ≢ WriteFault → AddsNoEmpty table.old table.new) }
+    ensures none_added { IfErr result (λ e. e ≢ WriteFault → AddsNone table.old table.new) }
+    ensures retired { table.new.retired ≡ table.old.retired }
+    ensures no_node_limit { result ≢ Err NodeLimit }
+{
+    let Some(id) = clause_id(unit) else {
+        unreachable!();
+    };
+    add_unit(table, w, &[id])
+}
+
 /// Retires a term's unit, unless it is the one that is kept.
 pub fn retire_unit<S: Sink + Drop>(table: &mut Table<S>, unit: &Justification, kept: &Justification)
     requires sound { IsSound table.old }
@@ -168,6 +239,24 @@ fn is_clause(just: &Justification, id: Id) -> bool
     }
 }
 
+/// Whether two terms are one.
+pub(crate) fn is_same_term(one: &HeldTerm, other: &HeldTerm) -> bool
+    ensures { IsTrue result ↔ (one.now ≡ other.now) }
+{
+    is_same(one.node, other.node) && is_same_unit(&one.unit, &other.unit)
+}
+
+// Whether two justifications are one.
+fn is_same_unit(one: &Justification, other: &Justification) -> bool
+    ensures { IsTrue result ↔ (one.now ≡ other.now) }
+{
+    match (one, other) {
+        (Justification::Clause(first), Justification::Clause(second)) => *first == *second,
+        (Justification::Trivial, Justification::Trivial) => true,
+        _ => false,
+    }
+}
+
 /// Whether two nodes are one.
 pub(crate) fn is_same(one: Node, other: Node) -> bool
     ensures { IsTrue result ↔ (one ≡ other) }
@@ -185,8 +274,8 @@ fn clause_id(just: &Justification) -> Option<Id>
     }
 }
 
-// Adds the clause of a node alone, the empty one where it is False.
-fn add_unit<S: Sink + Drop>(
+/// Adds the clause of a node alone, the empty one where it is False.
+pub fn add_unit<S: Sink + Drop>(
     table: &mut Table<S>,
     w: Node,
     hints: &[Id],
@@ -208,6 +297,7 @@ fn add_unit<S: Sink + Drop>(
     ensures some { w ≢ False → Steps table.old table.new 1
         (error_of result) }
     ensures refused { IfErr result (λ e. e ≢ WriteFault → AddsNoEmpty table.old table.new) }
+    ensures none_added { IfErr result (λ e. e ≢ WriteFault → AddsNone table.old table.new) }
     ensures retired { table.new.retired ≡ table.old.retired }
     ensures no_node_limit { result ≢ Err NodeLimit }
 {

@@ -3,7 +3,7 @@ use Rattle.std.proofs.Common.{◌+◌, refl, ℕ, ℤ, List, Contains, Err, ap, 
 use Rattle.cnf_base.specs.Truth.{clause_holds}
 use Rattle.node_table.specs.declared.error.TableError.TheVariants.{NodeLimit, WriteFault}
 use Rattle.node_table.specs.Diagram.{levels}
-use Rattle.node_table.specs.HandedOn.{came_from, handed_on, no_answer, no_error, same_error}
+use Rattle.node_table.specs.HandedOn.{came_from, handed_on, if_handed, no_answer, no_error, same_error}
 use Rattle.node_table.specs.declared.node.Node.{Node}
 use Rattle.node_table.specs.declared.node.Justification.{Justification}
 use Rattle.node_table.specs.Made.{LacksPart, MakesOnly}
@@ -12,27 +12,25 @@ use Rattle.operations.specs.Budget.{most_additions}
 use Rattle.clause_terms.specs.Term.{IsTerm, clause_function}
 use Rattle.term_runner.specs.Caches.{all_entries}
 use Rattle.term_runner.proofs.Giving.{new_gives, none_added, units_behind}
-use Rattle.term_runner.proofs.Inputs.{input_live, input_literals, input_some}
+use Rattle.term_runner.proofs.Inputs.{input_live, input_literals}
 use Rattle.term_runner.proofs.Leaving.{limit_left, refutes_handed, went_on}
 use Rattle.term_runner.proofs.found.input.Goals as goal
 
 pub push_clause-requires-clause-sound : goal.push_clause-requires-clause-sound
-push_clause-requires-clause-sound g c = c.requires.ready.1.sound
+push_clause-requires-clause-sound g c = c.requires.over.1.sound
 
 pub push_clause-requires-clause-live : goal.push_clause-requires-clause-live
 push_clause-requires-clause-live g c =
-    input_live c.args.formula.now c.args.table.now c.requires.ready.0 c.requires.ready.1 c.args.number c.requires.from_one c.requires.to_len
+    input_live c.args.formula.now c.args.table.now c.requires.over.0 c.requires.over.1 c.args.number c.requires.from_one c.requires.to_len
     c.clause-clause.result.now c.clause-clause.ensures
 
 pub push_clause-requires-clause-variables : goal.push_clause-requires-clause-variables
 push_clause-requires-clause-variables g c =
-    input_literals c.args.formula.now c.args.table.now c.requires.ready.0 c.requires.ready.1 c.args.number c.requires.from_one
+    input_literals c.args.formula.now c.args.table.now c.requires.over.0 c.requires.over.1 c.args.number c.requires.from_one
     c.requires.to_len c.clause-clause.result.now c.clause-clause.ensures c.formula_law.ensures.literals
 
 pub push_clause-requires-clause-some : goal.push_clause-requires-clause-some
-push_clause-requires-clause-some g c =
-    input_some c.args.formula.now c.args.table.now c.requires.ready.0 c.requires.ready.1 c.args.number c.requires.from_one c.requires.to_len
-    c.clause-clause.result.now c.clause-clause.ensures
+push_clause-requires-clause-some g c empty = c.requires.some (sym c.clause-clause.ensures ∙ empty)
 
 pub returns-clause-finds : goal.returns-clause-finds
 returns-clause-finds g c caches fits =
@@ -41,7 +39,7 @@ returns-clause-finds g c caches fits =
     let kept = all_entries caches in
     let found = c.in_ok-node.ensures in
     let steps = found.steps in
-    let sound = c.requires.ready.1.sound in
+    let sound = c.requires.over.1.sound in
     record {
       term = subst (λ (clause : List ℤ). IsTerm new.graph new.book.state.live (λ a. clause_holds a clause) c.in_ok-node.node c.in_ok-node.unit)
           c.clause-clause.ensures found.term;
@@ -68,7 +66,7 @@ returns-in_err-node-clause-finds g c caches fits =
     let given = c.from_residual.ensures.1 in
     let found = c.in_err-node.ensures in
     let steps = found.steps in
-    let sound = c.requires.ready.1.sound in
+    let sound = c.requires.over.1.sound in
     record {
       term = no_answer _ came _ given;
       gives = no_answer _ came _ given;
@@ -100,3 +98,16 @@ returns-clause-one g c = c.in_ok-node.ensures.steps.adds
 
 pub returns-in_err-node-clause-one : goal.returns-in_err-node-clause-one
 returns-in_err-node-clause-one g c = c.in_err-node.ensures.steps.adds
+
+pub returns-in_err-node-clause-refused : goal.returns-in_err-node-clause-refused
+returns-in_err-node-clause-refused g c =
+    let old = c.args.table.now in
+    let new = c.push_clause.new.table in
+    let came = c.in_err-node.field-0.0 in
+    let found = c.in_err-node.ensures in
+    let sound = c.requires.over.1.sound in
+    if_handed _ came _ c.from_residual.ensures.1 (λ whole kept terms has.
+    units_behind c.steps_law.ensures old new kept kept terms sound
+    (went_on {T = Node × Justification} old new (Err came) found.steps.leaves (λ torn. whole (same_error torn))).sound
+    found.steps.extends has (record { each = λ id gone. inl (subst (λ (ids : List ℕ). Contains ids id) found.retired gone) })
+    (record { each = λ entry there. inl there }) (none_added old new kept sound found.retired (found.none_added whole)))

@@ -22,6 +22,7 @@ use Rattle.term_runner.specs.Held.{AreHeld, AreKept, HasUnits, IsAt, IsHeld}
 use Rattle.term_runner.specs.Terms.{HasOwnUnits, IsAtStage}
 use Rattle.term_runner.specs.Width.{HasAtMost, HoldsAtMost, IsInHand, term_function}
 use Rattle.term_runner.proofs.FewLeft.{in_front}
+use Rattle.term_runner.proofs.Inputs.{input_some}
 use Rattle.term_runner.proofs.Pairs.{at_most_same, few_of_term}
 use Rattle.term_runner.proofs.Placed.{gives_up, gives_up_swapped, not_found, not_kept, operand_of, put_done, retires_swapped, with_room}
 use Rattle.term_runner.proofs.Planned.{both_function, node_function}
@@ -34,8 +35,8 @@ use Rattle.term_runner.proofs.terms.Terms.carry_out.Given.{Over}
 use Rattle.term_runner.proofs.terms.Terms.carry_out.Goals as goal
 use Rattle.term_runner.proofs.terms.Terms.carry_out.Goals.{After-conjunction, After-input, After-weaken}
 
-pub input-requires-clause-ready : goal.input-requires-clause-ready
-input-requires-clause-ready g c = (all_entries c.args.self.now.caches, c.requires.ready)
+pub input-requires-clause-over : goal.input-requires-clause-over
+input-requires-clause-over g c = (all_entries c.args.self.now.caches, c.requires.ready.over)
 
 pub input-requires-clause-from_one : goal.input-requires-clause-from_one
 input-requires-clause-from_one g c = (push_of c.args.formula.now c.requires.stage c.requires.next c.args.step c.in-Push.number
@@ -44,6 +45,11 @@ input-requires-clause-from_one g c = (push_of c.args.formula.now c.requires.stag
 pub input-requires-clause-to_len : goal.input-requires-clause-to_len
 input-requires-clause-to_len g c = (push_of c.args.formula.now c.requires.stage c.requires.next c.args.step c.in-Push.number
     c.in-Push.is c.requires.leads).to_len
+
+pub input-requires-clause-some : goal.input-requires-clause-some
+input-requires-clause-some g c =
+    let move = push_of c.args.formula.now c.requires.stage c.requires.next c.args.step c.in-Push.number c.in-Push.is c.requires.leads in
+    input_some c.args.formula.now c.in-Push.number move.from_one move.to_len c.requires.ready.none_empty
 
 module _ (g : Over) (c : After-input g) (stage next : Stage) (at : IsAtStage c.args.formula.now c.args.self.now stage)
     (leads : after_move c.args.formula.now stage c.args.step ≡ Some next) where
@@ -69,7 +75,7 @@ returns-in_err-held-in-Push g c stage next at leads =
     (not_found c.growth_law.ensures c.steps_law.ensures c.entry_law.ensures formula stage next (record old { out = c.reserve.new.self })
     c.requires.ready (roomy g inside stage next at leads) (roomy_at g inside stage next at leads) (input c.in-Push.number) stage.stack
     move.stack [] (reverse c.reserve.new.self.items) refl (roomy_at g inside stage next at leads).held (λ width most. tt)
-    c.input.new.table old.caches came (c.in_err-held-in-Push.ensures.finds old.caches c.requires.ready.fits) _
+    c.input.new.table old.caches came (c.in_err-held-in-Push.ensures.finds old.caches c.requires.ready.over.fits) _
     (handed_on _ came came c.from_residual.ensures.1 refl))
 
 pub returns-in_ok-held-in-Push : goal.returns-in_ok-held-in-Push
@@ -79,8 +85,8 @@ returns-in_ok-held-in-Push g c stage next at leads =
     let roomy_old = record old { out = c.reserve.new.self } in
     let inside = (goal.at.returns-in_ok-held-in-Push g c).After-input in
     let move = pushed g inside stage next at leads in
-    let found = c.in_ok-held-in-Push.ensures.finds old.caches c.requires.ready.fits in
-    let kept = kept_grown c.growth_law.ensures formula old.table.graph c.input.new.table.graph c.requires.ready.sound.tied.reduced
+    let found = c.in_ok-held-in-Push.ensures.finds old.caches c.requires.ready.over.fits in
+    let kept = kept_grown c.growth_law.ensures formula old.table.graph c.input.new.table.graph c.requires.ready.over.sound.tied.reduced
     found.steps.extends.nodes (reverse old.trail) stage.trail at.kept in
     with_room formula stage next old roomy_old _ _ c.reserve.ensures.items
     (put_done c.growth_law.ensures c.steps_law.ensures c.entry_law.ensures formula stage next roomy_old
@@ -158,10 +164,10 @@ module _ (g : Over) (c : After-conjunction g) (stage next : Stage) (at : IsAtSta
   few_two : (width : ℕ) → HoldsAtMost c.args.formula.now c.args.self.now.table.graph.order stage next width
       → AreFew c.args.self.now.table.graph (c.in-Some.v ∷ c.in-Some.u ∷ []) width
   few_two width most = (
-    few_held c.args.formula.now c.args.self.now.table stage next c.in-Some.v conjoined.other c.requires.ready.sound two.0
+    few_held c.args.formula.now c.args.self.now.table stage next c.in-Some.v conjoined.other c.requires.ready.over.sound two.0
         (inl (subst (λ (terms : List Term). Contains terms conjoined.other) (sym conjoined.before) (zero, omega arith, refl))) width most,
     (
-      few_held c.args.formula.now c.args.self.now.table stage next c.in-Some.u conjoined.one c.requires.ready.sound two.1.0
+      few_held c.args.formula.now c.args.self.now.table stage next c.in-Some.u conjoined.one c.requires.ready.over.sound two.1.0
           (inl (subst (λ (terms : List Term). Contains terms conjoined.one) (sym conjoined.before)
           (in_front conjoined.other conjoined.one conjoined.rest))) width most,
       tt,
@@ -180,7 +186,7 @@ module _ (g : Over) (c : After-conjunction g) (stage next : Stage) (at : IsAtSta
       let old = c.args.self.now.table in
       subst (λ (function : Levels → Bool). Finds function (λ a. term_holds c.args.formula.now a (both conjoined.one conjoined.other))
       (c.in-Some.v ∷ c.in-Some.u ∷ []) old c.conjunction.new.table c.args.self.now.caches c.conjunction.new.caches r)
-      (both_function old.graph c.requires.ready.sound.tied.reduced c.requires.ready.sound.tied.ordered c.args.formula.now old.book.state.live
+      (both_function old.graph c.requires.ready.over.sound.tied.reduced c.requires.ready.over.sound.tied.ordered c.args.formula.now old.book.state.live
       c.in-Some.u.node c.in-Some.v.node c.in-Some.u.unit c.in-Some.v.unit conjoined.one conjoined.other two.1.0.is two.0.is)
       (finds (λ a. term_holds c.args.formula.now a conjoined.one) (λ a. term_holds c.args.formula.now a conjoined.other) two.1.0.is two.0.is)
 
@@ -222,7 +228,7 @@ returns-in_ok-held-in-And g c stage next at leads =
     let inside = (goal.at.returns-in_ok-held-in-And g c).After-conjunction in
     let move = conjoined g inside stage next at leads in
     let found = found_two g inside stage next at leads (Ok c.in_ok-held-in-And.held) c.in_ok-held-in-And.ensures in
-    let kept = kept_grown c.growth_law.ensures formula old.table.graph c.conjunction.new.table.graph c.requires.ready.sound.tied.reduced
+    let kept = kept_grown c.growth_law.ensures formula old.table.graph c.conjunction.new.table.graph c.requires.ready.over.sound.tied.reduced
     found.steps.extends.nodes (reverse old.trail) stage.trail at.kept in
     put_done c.growth_law.ensures c.steps_law.ensures c.entry_law.ensures formula stage next old c.requires.ready c.requires.own at
     (both move.one move.other) move.rest move.after (c.in-Some.v ∷ c.in-Some.u ∷ []) c.in-Some.ensures.0
@@ -237,7 +243,7 @@ pub unreachable-requires-in_default-level : goal.unreachable-requires-in_default
 unreachable-requires-in_default-level g c =
     let begun = c.requires in
     let move = exists_of c.args.formula.now begun.stage begun.next c.args.step c.in-Exists.variable c.in-Exists.is begun.leads in
-    let place = begun.ready.sound.tied.ordered.each c.in-Exists.variable move.above (omega (arith, move.within, begun.ready.vars)) in
+    let place = begun.ready.over.sound.tied.ordered.each c.in-Exists.variable move.above (omega (arith, move.within, begun.ready.over.vars)) in
     c.in_default-level.ensures place.0 place.1 place.2
 
 pub unreachable-requires-in_default-last_term : goal.unreachable-requires-in_default-last_term
@@ -279,7 +285,7 @@ module _ (g : Over) (c : After-weaken g) (stage next : Stage) (at : IsAtStage c.
   few_one : (width : ℕ) → HoldsAtMost c.args.formula.now c.args.self.now.table.graph.order stage next width
       → AreFew c.args.self.now.table.graph (c.in-Some-last_term.u ∷ []) width
   few_one width most = (
-    few_held c.args.formula.now c.args.self.now.table stage next c.in-Some-last_term.u quantified.top c.requires.ready.sound top.0
+    few_held c.args.formula.now c.args.self.now.table stage next c.in-Some-last_term.u quantified.top c.requires.ready.over.sound top.0
         (inl (subst (λ (terms : List Term). Contains terms quantified.top) (sym quantified.stacked) (zero, omega arith, refl))) width most,
     tt,
   )
@@ -302,7 +308,7 @@ module _ (g : Over) (c : After-weaken g) (stage next : Stage) (at : IsAtStage c.
       let level = c.in-Some-level in
       subst (λ (function : Levels → Bool). Finds function (λ a. term_holds c.args.formula.now a (some_value x quantified.top))
       (c.in-Some-last_term.u ∷ []) old c.weaken.new.table c.args.self.now.caches c.weaken.new.caches r)
-      (quantified_function old.graph c.requires.ready.sound.tied.reduced c.requires.ready.sound.tied.ordered level.level x level.ensures.0
+      (quantified_function old.graph c.requires.ready.over.sound.tied.reduced c.requires.ready.over.sound.tied.ordered level.level x level.ensures.0
       level.ensures.1 c.args.formula.now quantified.top c.in-Some-last_term.u.node top.0.is.stands top.0.is.value)
       (finds (λ a. term_holds c.args.formula.now a quantified.top) x level.ensures.1 top.0.is)
 
@@ -361,7 +367,7 @@ returns-in_ok-push-in-Exists g c stage next at leads =
     let move = quantified g inside stage next at leads in
     let found = found_one g inside stage next at leads (Ok c.in_ok-held-in-Exists.held) c.in_ok-held-in-Exists.ensures.finds in
     let extends = found.steps.extends in
-    let reduced = c.requires.ready.sound.tied.reduced in
+    let reduced = c.requires.ready.over.sound.tied.reduced in
     let up = term_kept c.growth_law.ensures old.table.graph new.graph reduced extends.nodes old.table.book.state.live new.book.state.live
     extends.clauses (λ a. term_holds formula a move.top) c.in-Some-last_term.u.node c.in-Some-last_term.u.unit
     (top g inside stage next at leads).0.is in

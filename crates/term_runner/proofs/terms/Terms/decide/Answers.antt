@@ -21,7 +21,7 @@ pub returns-then-are_tautologies-clause-found : goal.returns-then-are_tautologie
 returns-then-are_tautologies-clause-found g c =
     let formula = c.args.formula.now in
     tautologies_recovered formula c.args.self.now.table.graph c.args.plan.now c.requires.plan c.table_law.ensures.ordered
-    c.formula_law.ensures.literals c.requires.ready.vars
+    c.formula_law.ensures.literals c.requires.ready.over.vars
     (λ a. all_hold formula a (tautologies_satisfied a formula.vars formula.clauses c.formula_law.ensures.literals
     (sym c.are_tautologies.ensures ∙ c.if-are_tautologies.true)))
     c.in_ok-model.model
@@ -29,7 +29,7 @@ returns-then-are_tautologies-clause-found g c =
     (reverse trail) c.in_ok-model.model) c.requires.no_trail c.in_ok-model.ensures.recovered)
 
 pub returns-then-are_tautologies-clause-leaves : goal.returns-then-are_tautologies-clause-leaves
-returns-then-are_tautologies-clause-leaves g c = (c.steps_law.ensures.none c.args.self.now.table c.requires.ready.sound).leaves
+returns-then-are_tautologies-clause-leaves g c = (c.steps_law.ensures.none c.args.self.now.table c.requires.ready.over.sound).leaves
 
 pub returns-clause-found : goal.returns-clause-found
 returns-clause-found g c = c.take_moves.ensures.found
@@ -46,7 +46,7 @@ none_there : (g : Over) (c : After-are_tautologies g) (width price : ℕ)
     (length c.args.plan.now) c.args.capacity width price c.args.self.now.table.book.state
 none_there g c width price =
     let table = c.args.self.now.table in
-    let sound = c.requires.ready.sound in
+    let sound = c.requires.ready.over.sound in
     let none = no_nodes table.graph c.requires.empty in
     let uses = c.in_use_law.ensures table.graph table.book.state sound.tied in
     let lean = lean_here c.lean_law.ensures.lean table sound 0 (none_added table sound c.requires.fresh) in
@@ -72,7 +72,7 @@ returns-clause-paid g c = c.take_moves.ensures.paid
 pub returns-then-are_tautologies-clause-lean : goal.returns-then-are_tautologies-clause-lean
 returns-then-are_tautologies-clause-lean g c some =
     let table = c.args.self.now.table in
-    let sound = c.requires.ready.sound in
+    let sound = c.requires.ready.over.sound in
     let lean = lean_here c.lean_law.ensures.lean table sound 0 (none_added table sound c.requires.fresh) in
     omega (arith, lean)
 

@@ -5,7 +5,7 @@ use Rattle.reclaim.specs.Reclaimed.{MayReclaim, Reclaims}
 use Rattle.term_runner.specs.declared.held.HeldTerm.{HeldTerm}
 use Rattle.term_runner.specs.Caches.{all_entries}
 use Rattle.term_runner.specs.Tidy.{held_nodes}
-use Rattle.term_runner.proofs.Reclaimed.{at_reclaimed, leaves_reached, may_reclaim, roots_stand, units_reclaimed}
+use Rattle.term_runner.proofs.Reclaimed.{at_reclaimed, leaves_reached, may_reclaim, over_reclaimed, roots_stand, units_reclaimed}
 use Rattle.term_runner.proofs.terms.Terms.give_back.Goals as goal
 
 -- the roots are the nodes of the terms and of the trail
@@ -31,7 +31,7 @@ reclaim-requires-clause-may g c =
     c.as_slice.ensures.value c.as_slice-2.ensures.value c.in_ok-roots.ensures in
     subst (λ (roots : List Node). MayReclaim table entries roots) (sym same)
     (may_reclaim c.args.formula.now table entries c.args.self.now.out.items c.args.self.now.trail c.requires.possible.0
-    c.requires.ready.sound.tied.reduced c.requires.own c.requires.possible.1)
+    c.requires.ready.over.sound.tied.reduced c.requires.own c.requires.possible.1)
 
 pub returns-clause-at : goal.returns-clause-at
 returns-clause-at g c =
@@ -61,5 +61,17 @@ returns-clause-reached g c =
     c.args.self.now.out.items c.as_slice.result.now c.args.self.now.trail c.as_slice-2.result.now c.in_ok-roots.roots.items
     c.as_slice.ensures.value c.as_slice-2.ensures.value c.in_ok-roots.ensures in
     let reclaims = subst (λ (roots : List Node). Reclaims old new roots before after) same c.in_ok-reclaim.ensures.reclaims in
-    leaves_reached c.growth_law.ensures c.args.formula.now old new c.args.self.now.out.items c.args.self.now.trail before after
-    c.in_ok-reclaim.ensures.leaves.sound reclaims c.reach_law.ensures c.requires.possible.0 c.requires.possible.1
+    leaves_reached c.growth_law.ensures old new (held_nodes c.args.self.now.out.items c.args.self.now.trail) before after
+    c.in_ok-reclaim.ensures.leaves.sound reclaims c.reach_law.ensures
+    (roots_stand c.args.formula.now old.graph old.book.state.live c.args.self.now.out.items c.args.self.now.trail c.requires.possible.0
+    c.requires.possible.1)
+
+pub returns-clause-ready : goal.returns-clause-ready
+returns-clause-ready g c =
+    let ready = c.requires.ready in
+    record {
+      over = over_reclaimed c.args.formula.now c.args.self.now.table c.reclaim.new.table c.as_slice-2.result.now
+          (all_entries c.args.self.now.caches) (all_entries c.reclaim.new.caches) c.in_ok-reclaim.ensures.leaves.sound
+          c.in_ok-reclaim.ensures.reclaims ready.over;
+      none_empty = ready.none_empty;
+    }

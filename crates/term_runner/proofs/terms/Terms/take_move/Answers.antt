@@ -64,5 +64,5 @@ returns-clause-moved g c stage next at leads =
     c.try_twice.new.self (record c.give_back.new.self { left = c.in_ok-self.field-0 }) own
     (λ tidy. not_both c.is_tidy.result (c.is_tidy.ensures.1 (many _ c.live.ensures tidy)) c.if-is_tidy.false)
     c.give_back.ensures.top c.give_back.ensures.sizes
-    c.subfunction_law.ensures c.requires.ready.sound.tied.ordered back.leaves (back.at next (own.held refl)) back.ready back.settled
+    c.subfunction_law.ensures c.requires.ready.over.sound.tied.ordered back.leaves (back.at next (own.held refl)) back.ready back.settled
     back.own reached back.count)

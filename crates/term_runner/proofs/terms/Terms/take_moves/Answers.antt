@@ -60,9 +60,9 @@ moves-init g c =
           c.requires.none_out c.requires.no_trail;
       ready = subst (λ (kept : List Entry). IsReady formula table kept) (sym c.requires.no_entries) c.requires.ready;
       settled = c.requires.settled;
-      own = units_none table (all_entries c.args.self.now.caches) c.args.self.now.out.items c.requires.ready.sound c.requires.fresh
+      own = units_none table (all_entries c.args.self.now.caches) c.args.self.now.out.items c.requires.ready.over.sound c.requires.fresh
           c.requires.none_out;
-      continues = (c.steps_law.ensures.none table c.requires.ready.sound).leaves;
+      continues = (c.steps_law.ensures.none table c.requires.ready.over.sound).leaves;
       no_empty = no_change table;
     }
 
@@ -172,7 +172,7 @@ moves-preserved g c =
           next.next at between.front next.is width has in
           let most_here = subst (λ (o : List ℕ). HoldsAtMost c.args.formula.now o between.stage next.next width)
           (sym c.moves.invariant.continues.order) most in
-          let ordered = c.moves.invariant.ready.sound.tied.ordered in
+          let ordered = c.moves.invariant.ready.over.sound.tied.ordered in
           elim own.left [
             | inl same ↦ subst (λ (n : ℕ). n ≤ width) (sym same) (c.moves.invariant.left width has)
             | inr were ↦ elim were [
@@ -232,7 +232,7 @@ recover-requires-clause-variables g c kept there =
     c.requires.plan.last (omega (arith, c.moves-test.false, c.len-i-end.ensures)) c.requires.plan.possible c.moves.invariant.between in
     let is = kept_there formula table.graph c.moves.self.trail c.requires.plan.last.trail held.kept
     (are_variables formula c.args.plan.now no_stage c.requires.plan.last c.requires.plan.possible tt) kept there in
-    (is.above, omega (arith, is.within, c.moves.invariant.ready.vars))
+    (is.above, omega (arith, is.within, c.moves.invariant.ready.over.vars))
 
 pub returns-clause-found : goal.returns-clause-found
 returns-clause-found g c =
@@ -241,7 +241,7 @@ returns-clause-found g c =
     let held = at_last formula c.args.plan.now c.moves.i table.graph table.book.state.live c.moves.self.out.items c.moves.self.trail
     c.requires.plan.last (omega (arith, c.moves-test.false, c.len-i-end.ensures)) c.requires.plan.possible c.moves.invariant.between in
     subst (λ (order : List ℕ). IsRecovered formula order c.args.plan.now c.in_ok-model.model) c.moves.invariant.continues.order
-    (recovered formula table.graph c.args.plan.now c.requires.plan c.formula_law.ensures.literals c.moves.invariant.ready.vars c.top-node.result
+    (recovered formula table.graph c.args.plan.now c.requires.plan c.formula_law.ensures.literals c.moves.invariant.ready.over.vars c.top-node.result
     (λ a. (λ k. value_of table.graph (by_level table.graph.order a)
     ((c.top-node.ensures ∙ (λ m. top_node (reverse (c.as_slice.ensures.value m)))) k))
     ∙ top_value formula table.graph table.book.state.live (reverse c.moves.self.out.items) c.requires.plan.last.stack held.held
@@ -283,7 +283,7 @@ returns-in_err-take_move-clause-short g c is =
     let full = own.full limit in
     let lacks = own.lacks limit in
     subst (λ (o : List ℕ). RunsShort formula o plan new) same_order
-    (short_at_limit c.subfunction_law.ensures formula c.moves.self.table.graph.order c.moves.invariant.ready.sound.tied.ordered plan c.moves.i
+    (short_at_limit c.subfunction_law.ensures formula c.moves.self.table.graph.order c.moves.invariant.ready.over.sound.tied.ordered plan c.moves.i
     between.stage next.next
     (record { step = c.in-Some.step; is = at; reached = between.front; leads = next.is }) c.take_move.new.self.left full.0 new full.1 lacks)
 
@@ -340,7 +340,7 @@ paid_so_far g c width price has is error leaves =
     (omega (arith, c.moves-test.true, c.len-i-end.ensures)) (so_far g c width price has is) in
     paid_behind c.lean_law.ensures.lean c.in_use_law.ensures first mid new c.moves.invariant.continues c.args.capacity
     (2 * c.args.capacity + length (reverse c.moves.self.out.items)) (length c.args.plan.now) width price
-    added.0 (omega (arith, added.1, c.requires.ready.counted)) (omega (arith, all, c.requires.fresh)) (near_by g c width price has is)
+    added.0 (omega (arith, added.1, c.requires.ready.over.counted)) (omega (arith, all, c.requires.fresh)) (near_by g c width price has is)
     (nodes_so_far g c width has) error leaves
 
 pub returns-in_err-take_move-clause-paid : goal.returns-in_err-take_move-clause-paid
@@ -375,8 +375,8 @@ paid_at_last g c width price has is =
     let few = tidy_few (live_nodes mid.graph) c.moves.self.left width c.moves.invariant.tidy (c.moves.invariant.left width has) in
     paid_behind c.lean_law.ensures.lean c.in_use_law.ensures first mid mid c.moves.invariant.continues c.args.capacity
     (2 * c.args.capacity + length (reverse c.moves.self.out.items)) (length c.args.plan.now) width price
-    added.0 (omega (arith, added.1, c.requires.ready.counted)) (omega (arith, all, c.requires.fresh)) (omega arith)
-    (omega (arith, few)) None (c.steps_law.ensures.none mid c.moves.invariant.ready.sound).leaves
+    added.0 (omega (arith, added.1, c.requires.ready.over.counted)) (omega (arith, all, c.requires.fresh)) (omega arith)
+    (omega (arith, few)) None (c.steps_law.ensures.none mid c.moves.invariant.ready.over.sound).leaves
 
 pub returns-in_err-model-clause-paid : goal.returns-in_err-model-clause-paid
 returns-in_err-model-clause-paid g c width price has is =
@@ -399,7 +399,7 @@ returns-clause-lean g c some =
     let one = held_length formula table.graph table.book.state.live (reverse c.moves.self.out.items) c.requires.plan.last.stack held.held in
     let added = has_added table (all_entries c.moves.self.caches) (reverse c.moves.self.out.items) (2
     * c.args.capacity) (c.few_law-2.ensures c.args.capacity c.moves.invariant.size) c.moves.invariant.settled c.moves.invariant.own in
-    let own = lean_here c.lean_law.ensures.lean table c.moves.invariant.ready.sound (2 * c.args.capacity
+    let own = lean_here c.lean_law.ensures.lean table c.moves.invariant.ready.over.sound (2 * c.args.capacity
     + length (reverse c.moves.self.out.items)) added in
     let more : IsLeanAtEnd (levels table.graph) table.inputs c.args.capacity table.book.state = omega
     (arith, own, one, c.requires.plan.one_term) in

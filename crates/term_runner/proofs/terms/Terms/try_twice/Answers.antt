@@ -79,5 +79,5 @@ returns-in_ok-self-in-Err g c stage next at leads =
     moved_again c.growth_law.ensures c.canonical_law.ensures c.steps_law.ensures c.args.formula.now stage next c.args.step leads
     c.args.self.now c.try_move.new.self (record c.give_back.new.self { left = c.in_ok-self-in-Err.field-0 }) first c.give_back.ensures.top
     c.give_back.ensures.sizes
-    c.subfunction_law.ensures c.requires.ready.sound.tied.ordered back.leaves at_mid reached back.count c.try_move-in-Err.new.self _
+    c.subfunction_law.ensures c.requires.ready.over.sound.tied.ordered back.leaves at_mid reached back.count c.try_move-in-Err.new.self _
     (c.try_move-in-Err.ensures.tried stage next at_mid leads) c.try_move-in-Err.ensures.settled

@@ -1,0 +1,101 @@
+-- A reclamation keeps the terms that are out: their nodes are its roots.
+use Rattle.std.proofs.Common.{◌≡◌, ◌⊎◌, ◌∙◌, ℕ, zero, suc, true, List, [], Contains, Option, None, Some, refl, sym, ap, subst}
+use Rattle.std.proofs.Common.{arith, inl, inr}
+use Rattle.std.specs.Option.{option_to_list}
+use Rattle.std.specs.Prelude.{◌≢◌}
+use Rattle.std.proofs.lemmas.List.{append-nil}
+use Rattle.std.proofs.lemmas.List.Elements.{Contains-append_cases, Contains-append_left}
+use Rattle.node_table.specs.declared.node.Node.{Node}
+use Rattle.node_table.specs.declared.node.Node.TheVariants.{False, True}
+use Rattle.node_table.specs.Diagram.{is_node}
+use Rattle.node_table.specs.Laws.{Growth, Reachability}
+use Rattle.node_table.specs.Table.{TableState, IsSound}
+use Rattle.clause_terms.specs.Term.{IsTerm}
+use Rattle.reclaim.specs.Reclaimed.{MayReclaim, Reclaims}
+use Rattle.term_runner.specs.declared.caches.Caches.{Caches}
+use Rattle.term_runner.specs.declared.held.HeldTerm.{HeldTerm}
+use Rattle.term_runner.specs.declared.runner.Runner.{Runner}
+use Rattle.term_runner.specs.Caches.{all_entries}
+use Rattle.term_runner.specs.Finds.{IsProved}
+use Rattle.term_runner.specs.Runner.{IsGood, IsRunner, holds_in, nodes_of, owners, true_term}
+use Rattle.term_runner.specs.Tidy.{LeavesReached, held_nodes}
+use Rattle.term_runner.proofs.Given.{true_unit}
+use Rattle.term_runner.proofs.Reclaimed.{in_map, leaves_reached, may_reclaim_owned, of_map, over_reclaimed, proved_stays, units_reclaimed}
+
+-- no variable was quantified, so that the roots are the terms' nodes alone
+pub roots_of_terms : (items : List HeldTerm) (trail : List (ℕ × Node)) → trail ≡ [] → held_nodes items trail ≡ nodes_of items
+roots_of_terms items trail none = ap (λ (t : List (ℕ × Node)). held_nodes items t) none ∙ append-nil (nodes_of items)
+
+of_option : (kept : Option HeldTerm) (held : HeldTerm) → Contains (option_to_list kept) held → kept ≡ Some held
+of_option None held there = absurd (omega (arith, there.1))
+of_option (Some one) held (zero, small, at) = ap Some at
+of_option (Some one) held (suc k, small, at) = absurd (omega (arith, small))
+
+module _ {S : Type 0} (runner : Runner S) (is : IsRunner runner) where
+  -- one that owns a clause is out, or it is False
+  pub root_of : (held : HeldTerm) → Contains (owners runner) held → (held.node ≡ False) ⊎ Contains (nodes_of runner.terms.out.items) held.node
+  root_of held among = elim (Contains-append_cases runner.terms.out.items (option_to_list runner.kept) held among) [
+    | inl out ↦ inr (in_map (λ (h : HeldTerm). h.node) runner.terms.out.items held out)
+    | inr last ↦ inl (is.kept held (of_option runner.kept held last))
+  ]
+
+  pub roots_stood : (root : Node) → Contains (nodes_of runner.terms.out.items) root → is_node runner.terms.table.graph root ≡ true
+  roots_stood root there =
+      let was = of_map (λ (h : HeldTerm). h.node) runner.terms.out.items root there in
+      subst (λ (node : Node). is_node runner.terms.table.graph node ≡ true) was.2
+      (is.proved was.0 (Contains-append_left runner.terms.out.items (option_to_list runner.kept) was.0 was.1)).stands
+
+  pub terms_may_reclaim : MayReclaim runner.terms.table (all_entries runner.terms.caches) (nodes_of runner.terms.out.items)
+  terms_may_reclaim = may_reclaim_owned runner.terms.table (all_entries runner.terms.caches) (owners runner) (nodes_of runner.terms.out.items)
+      is.over.sound.tied.reduced is.units is.proved root_of
+
+  module _ (growth : Growth) (new : TableState S) (caches : Caches) (sound : IsSound new)
+      (reclaims : Reclaims runner.terms.table new (nodes_of runner.terms.out.items) (all_entries runner.terms.caches) (all_entries caches)) where
+    pub runner_reclaimed : IsRunner (record runner { terms = record runner.terms { table = new; caches = caches } })
+    runner_reclaimed = record {
+      over = over_reclaimed runner.formula.now runner.terms.table new (nodes_of runner.terms.out.items) (all_entries runner.terms.caches)
+          (all_entries caches) sound reclaims is.over;
+      proved = λ held among. proved_stays growth runner.terms.table new (nodes_of runner.terms.out.items)
+          (all_entries runner.terms.caches) (all_entries caches) sound reclaims held (root_of held among)
+          (λ id named. reclaims.kept id (is.units.added id (record { held = held; stacked = among; unit = named }))
+          (is.units.own held among id named)) (is.proved held among);
+      units = units_reclaimed runner.terms.table new (nodes_of runner.terms.out.items) (all_entries runner.terms.caches) (all_entries caches)
+          reclaims (owners runner) is.units;
+      no_trail = is.no_trail;
+      kept = is.kept;
+      refuted = is.refuted;
+      unrefuted = λ no id above empty. is.unrefuted no id (omega (arith, above, reclaims.inputs)) (reclaims.clauses id [] empty);
+    }
+
+    pub reached_terms : Reachability → LeavesReached runner.terms.table.graph new.graph (nodes_of runner.terms.out.items)
+    reached_terms reach = leaves_reached growth runner.terms.table new (nodes_of runner.terms.out.items) (all_entries runner.terms.caches)
+        (all_entries caches) sound reclaims reach roots_stood
+
+-- a term that a call may take is proved
+pub good_proved : {S : Type 0} (runner : Runner S) → IsRunner runner → (held : HeldTerm) → IsGood runner held
+    → IsProved runner.terms.table.graph runner.terms.table.book.state.live held
+good_proved {S} runner is held good = elim good [
+  | inl true_one ↦ subst (λ (h : HeldTerm). IsProved runner.terms.table.graph runner.terms.table.book.state.live h) (sym true_one)
+      (record { stands = refl; unit = refl })
+  | inr out ↦ is.proved held (Contains-append_left runner.terms.out.items (option_to_list runner.kept) held out)
+]
+
+pub good_term : {S : Type 0} (runner : Runner S) → IsRunner runner → (held : HeldTerm) → IsGood runner held
+    → IsTerm runner.terms.table.graph runner.terms.table.book.state.live (holds_in runner held) held.node held.unit
+good_term runner is held good =
+    let proved = good_proved runner is held good in
+    record { stands = proved.stands; value = λ a. refl; proved = proved.unit }
+
+-- it is True, or it is out
+pub good_true : {S : Type 0} (runner : Runner S) → IsRunner runner → (held : HeldTerm) → IsGood runner held → held.node ≡ True
+    → held ≡ true_term
+good_true runner is held good same =
+    let proved = good_proved runner is held good in
+    λ k. record { node = same k; unit = true_unit runner.terms.table held.node held.unit same proved.unit k }
+
+pub good_out : {S : Type 0} (runner : Runner S) (held : HeldTerm) → IsGood runner held → held.node ≢ True
+    → Contains runner.terms.out.items held
+good_out runner held good some = elim good [
+  | inl true_one ↦ absurd (some (ap (λ (h : HeldTerm). h.node) true_one))
+  | inr out ↦ out
+]

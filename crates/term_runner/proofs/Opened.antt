@@ -1,0 +1,47 @@
+-- A runner that was opened owns no clause.
+use Rattle.std.proofs.Common.{◌≡◌, ◌∙◌, ◌<◌, ◌++◌, ℕ, true, false, ℤ, List, [], length, Option, None, Some, refl, sym, ap}
+use Rattle.std.proofs.Common.{subst, arith}
+use Rattle.std.specs.Option.{option_to_list}
+use Rattle.std.specs.Prelude.{IsTrue}
+use Rattle.cnf_base.specs.Order.{IsOrder}
+use Rattle.cnf_base.specs.Truth.{AreClausesOf}
+use Rattle.lrat_rules.specs.State.{State, clause_at, start}
+use Rattle.clause_ledger.specs.Book.{Book}
+use Rattle.node_table.specs.Table.{TableState, IsSound, opened}
+use Rattle.operations.specs.Entries.{Entry}
+use Rattle.term_runner.specs.declared.held.HeldTerm.{HeldTerm}
+use Rattle.term_runner.specs.declared.runner.Runner.{Runner}
+use Rattle.term_runner.specs.Caches.{all_entries}
+use Rattle.term_runner.specs.Held.{IsOver}
+use Rattle.term_runner.specs.Runner.{IsRunner, OwnsTerms}
+use Rattle.term_runner.specs.Unused.{IsUnused}
+use Rattle.term_runner.proofs.Giving.{units_none}
+use Rattle.term_runner.proofs.Opening.{StartClauses, over_at}
+
+no_terms : (items : List HeldTerm) (kept : Option HeldTerm) → items ≡ [] → kept ≡ None → [] ≡ items ++ option_to_list kept
+no_terms items kept empty none = sym (ap (λ (list : List HeldTerm). list ++ option_to_list kept) empty ∙ ap option_to_list none)
+
+pub unused_runner : {S : Type 0} → StartClauses → ((clauses : List (List ℤ)) (id : ℕ) → length clauses < id → clause_at (start clauses).live id ≡ None)
+    → ((order : List ℕ) (clauses : List (List ℤ)) (book : Book S) (max_nodes : ℕ) → IsOrder order
+    → AreClausesOf (length order) clauses → book.state ≡ start clauses → IsTrue book.in_step → IsSound (opened order book max_nodes))
+    → (runner : Runner S) → IsUnused runner → IsRunner runner
+unused_runner there none_above opening runner unused =
+    let formula = runner.formula.now in
+    let table = runner.terms.table in
+    let over : IsOver formula table (all_entries runner.terms.caches) =
+    subst (λ (entries : List Entry). IsOver formula table entries) (sym unused.no_entries)
+    (over_at there opening formula table.graph.order table.book table runner.limits.max_nodes unused.table unused.book.state
+    unused.book.in_step unused.order unused.vars unused.book.literals) in
+    let fresh : table.inputs ≡ table.book.state.top = ap (λ (t : TableState _). t.inputs) unused.table in
+    subst (OwnsTerms runner) (no_terms runner.terms.out.items runner.kept unused.none_out unused.none_kept) (record {
+      over = over;
+      proved = λ held among. absurd (omega (arith, among.1));
+      units = units_none table (all_entries runner.terms.caches) [] over.sound fresh refl;
+      no_trail = unused.no_trail;
+      kept = λ held is. absurd (let e : None ≡ Some held = sym unused.none_kept ∙ is in cc);
+      refuted = λ is. absurd (let e : false ≡ true = sym unused.unrefuted ∙ is in cc);
+      unrefuted = λ no id above empty. absurd (
+          let gone : clause_at table.book.state.live id ≡ None =
+          ap (λ (s : State). clause_at s.live id) unused.book.state ∙ none_above formula.clauses id (omega (arith, above, over.counted)) in
+          let e : None ≡ Some [] = sym gone ∙ empty in cc);
+    })

@@ -1,0 +1,90 @@
+-- A unit of its own, for a conjunction that is an operand, or none.
+use Rattle.std.proofs.Common.{[], ◌∷◌, sym, subst, arith, inl}
+use Rattle.node_table.specs.declared.node.Node.{Node}
+use Rattle.node_table.specs.Defined.{atom_of}
+use Rattle.node_table.specs.Justification.{IsJustified}
+use Rattle.term_runner.proofs.OwnUnits.{no_clause}
+use Rattle.term_runner.proofs.Repeated.{added_of, first_open, last_of, none_of_true, second_open}
+use Rattle.term_runner.proofs.Units.{not_both}
+use Rattle.term_runner.proofs.unit.own_unit.Goals as goal
+
+pub add_again-requires-clause-not_true : goal.add_again-requires-clause-not_true
+add_again-requires-clause-not_true g c is = not_both c.is_same.result (c.is_same.ensures.1 is) c.if-is_same.false
+
+pub add_again-requires-clause-stands : goal.add_again-requires-clause-stands
+add_again-requires-clause-stands g c = c.requires.conjoined.stands
+
+pub add_again-requires-clause-proved : goal.add_again-requires-clause-proved
+add_again-requires-clause-proved g c =
+    let table = c.args.table.now in
+    subst (λ (node : Node). IsJustified table.book.state.live (atom_of table.graph node ∷ []) c.args.u.now.unit)
+    (sym (c.is_same-2.ensures.0 c.if-is_same-2.true)) c.requires.first.unit
+
+pub add_again-requires-then-is_same-3-clause-not_true : goal.add_again-requires-then-is_same-3-clause-not_true
+add_again-requires-then-is_same-3-clause-not_true g c is = not_both c.is_same.result (c.is_same.ensures.1 is) c.if-is_same.false
+
+pub add_again-requires-then-is_same-3-clause-stands : goal.add_again-requires-then-is_same-3-clause-stands
+add_again-requires-then-is_same-3-clause-stands g c = c.requires.conjoined.stands
+
+pub add_again-requires-then-is_same-3-clause-proved : goal.add_again-requires-then-is_same-3-clause-proved
+add_again-requires-then-is_same-3-clause-proved g c =
+    let table = c.args.table.now in
+    subst (λ (node : Node). IsJustified table.book.state.live (atom_of table.graph node ∷ []) c.args.v.now.unit)
+    (sym (c.is_same-3.ensures.0 c.if-is_same-3.true)) c.requires.second.unit
+
+pub unit_of-requires-clause-first_open : goal.unit_of-requires-clause-first_open
+unit_of-requires-clause-first_open g c =
+    let table = c.args.table.now in
+    first_open c.canonical_law.ensures table.graph c.requires.sound.tied.reduced table.book.state.live c.args.u.now.node c.args.v.now.node
+    c.args.w c.args.just.now c.requires.first.stands c.requires.second.stands c.requires.conjoined
+    (λ is. not_both c.is_same-2.result (c.is_same-2.ensures.1 is) c.if-is_same-2.false)
+
+pub unit_of-requires-clause-second_open : goal.unit_of-requires-clause-second_open
+unit_of-requires-clause-second_open g c =
+    let table = c.args.table.now in
+    second_open c.canonical_law.ensures table.graph c.requires.sound.tied.reduced table.book.state.live c.args.u.now.node c.args.v.now.node
+    c.args.w c.args.just.now c.requires.first.stands c.requires.second.stands c.requires.conjoined
+    (λ is. not_both c.is_same-3.result (c.is_same-3.ensures.1 is) c.if-is_same-3.false)
+
+pub returns-then-is_same-clause-unit : goal.returns-then-is_same-clause-unit
+returns-then-is_same-clause-unit g c = none_of_true c.args.table.now.graph c.args.table.now.book.state.live c.args.w
+    (c.is_same.ensures.0 c.if-is_same.true)
+
+pub returns-then-is_same-clause-last : goal.returns-then-is_same-clause-last
+returns-then-is_same-clause-last g c id is = absurd (no_clause id is)
+
+pub returns-then-is_same-clause-added : goal.returns-then-is_same-clause-added
+returns-then-is_same-clause-added g c id is = absurd (no_clause id is)
+
+pub returns-then-is_same-clause-alone : goal.returns-then-is_same-clause-alone
+returns-then-is_same-clause-alone g c id added = inl added
+
+pub returns-then-is_same-clause-some : goal.returns-then-is_same-clause-some
+returns-then-is_same-clause-some g c open_w =
+    c.steps_law.ensures.at_most _ _ 0 1 _ (omega arith) (c.steps_law.ensures.none c.args.table.now c.requires.sound)
+
+pub returns-then-is_same-clause-steps : goal.returns-then-is_same-clause-steps
+returns-then-is_same-clause-steps g c =
+    c.steps_law.ensures.anyhow _ _ 1 _
+    (c.steps_law.ensures.at_most _ _ 0 1 _ (omega arith) (c.steps_law.ensures.none c.args.table.now c.requires.sound))
+
+pub returns-then-is_same-2-clause-last : goal.returns-then-is_same-2-clause-last
+returns-then-is_same-2-clause-last g c = last_of c.args.table.now c.add_again.new.table c.add_again.result c.add_again.ensures.number
+
+pub returns-then-is_same-3-clause-last : goal.returns-then-is_same-3-clause-last
+returns-then-is_same-3-clause-last g c = last_of c.args.table.now c.add_again-then-is_same-3.new.table c.add_again-then-is_same-3.result
+    c.add_again-then-is_same-3.ensures.number
+
+pub returns-clause-last : goal.returns-clause-last
+returns-clause-last g c = last_of c.args.table.now c.unit_of.new.table c.unit_of.result (c.unit_of.ensures.number
+    (λ is. not_both c.is_same-2.result (c.is_same-2.ensures.1 is) c.if-is_same-2.false)
+    (λ is. not_both c.is_same-3.result (c.is_same-3.ensures.1 is) c.if-is_same-3.false))
+
+pub returns-clause-added : goal.returns-clause-added
+returns-clause-added g c =
+    let table = c.args.table.now in
+    added_of table c.unit_of.new.table c.unit_of.result (c.unit_of.ensures.number
+    (λ is. not_both c.is_same-2.result (c.is_same-2.ensures.1 is) c.if-is_same-2.false)
+    (λ is. not_both c.is_same-3.result (c.is_same-3.ensures.1 is) c.if-is_same-3.false)) c.requires.sound
+    (atom_of table.graph c.args.u.now.node) (atom_of table.graph c.args.v.now.node) c.args.u.now.unit c.args.v.now.unit
+    c.requires.first.unit c.requires.second.unit c.unit_of.ensures.added

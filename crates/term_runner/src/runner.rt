@@ -1,0 +1,217 @@
+// A runner, from its opening to the end of its proof. A plan is run in it; or its terms are asked for one by one, and what was
+// written is flushed at the end. Each call by value stands over those that work on a lent sink, too.
+ghost use Rattle.std.specs.Prelude.{◌≡◌, ◌≤◌, [], length, IsTrue, IfOk, IfErr, OnOk, OnErr, is_ok, is_some};
+ghost use Rattle.std.specs.FinMap as map;
+ghost use Rattle.cnf_base.specs.Limits.{max_vars};
+ghost use Rattle.host_io.specs.Channel.{Rose};
+ghost use Rattle.schedule_plan.specs.Limits.{AreLimits};
+ghost use Rattle.schedule_plan.specs.Plan.{IsAdmissible};
+ghost use Rattle.term_runner.specs.Caches.{HaveSize, all_entries};
+ghost use Rattle.term_runner.specs.Ends.{Ends};
+ghost use Rattle.term_runner.specs.Opened.{EndsWithin};
+ghost use Rattle.term_runner.specs.Runner.{IsRunner};
+ghost use Rattle.term_runner.specs.Unused.{IsOpenedOver, IsUnused};
+
+use crate::caches::Caches;
+use crate::error::RunError;
+use crate::finish::{finish, refute};
+use crate::held::HeldTerm;
+use crate::open::first_empty;
+use crate::outcome::{Run, outcome_of};
+use crate::progress::Progress;
+use crate::terms::Terms;
+use clause_ledger::Ledger;
+use cnf_base::{Cnf, OutOfMemory};
+use host_io::Sink;
+use lrat_rules::{derivation_law, marks_law, soundness_law, start_law};
+use node_table::{Diagram, Table, TableError, canonical_law, in_use_law, lean_law, opening_law};
+use schedule_plan::{Limits, Order, Plan};
+use std::alloc::Global;
+
+/// What a runner takes memory for when it is opened: the places of the variables, and empty caches.
+#[derive(Drop)]
+pub(crate) struct Parts {
+    diagram: Diagram,
+    caches: Caches,
+}
+
+impl Parts {
+    /// Those of this order, with so many entries for each cache.
+    pub fn new(alloc: Global, order: &Order, capacity: u32) -> Result<Parts, OutOfMemory>
+        requires few { length order.now ≤ max_vars }
+        requires capacity { 1 ≤ capacity }
+        ensures { IfOk result (λ parts. (parts.diagram ≡ record { order = order.now; nodes = map.empty })
+            × (all_entries parts.caches ≡ []) × HaveSize parts.caches capacity) }
+    {
+        let diagram = Diagram::new(alloc, order.as_slice())?;
+        let caches = Caches::new(alloc, capacity)?;
+        Ok(Parts { diagram, caches })
+    }
+}
+
+/// The terms of a formula on one proof, which goes to a sink: those of its clauses, and what comes of them.
+#[derive(Drop)]
+pub struct Runner<'a, S: Sink + Drop> {
+    pub(crate) formula: &'a Cnf,
+    limits: Limits,
+    pub(crate) terms: Terms<S>,
+    // Whether the empty clause was added.
+    pub(crate) refuted: bool,
+    // The first term that was False, once it is released: its clause stays.
+    pub(crate) kept: Option<HeldTerm>,
+}
+
+impl<'a, S: Sink + Drop> Runner<'a, S> {
+    /// Opens a runner over a formula and a sink. A refusal hands the sink back, to which nothing was written.
+    pub fn open(
+        alloc: Global,
+        formula: &'a Cnf,
+        order: &Order,
+        limits: Limits,
+        sink: S,
+    ) -> Result<Runner<'a, S>, (S, OutOfMemory)>
+        requires order { length order.now ≡ formula.now.vars }
+        requires limits { AreLimits limits }
+        ensures opened { IfOk result (IsOpenedOver formula.now order.now limits sink) }
+        ensures runner { IfOk result IsRunner }
+        ensures refused { IfErr result (λ back. back.0 ≡ sink) }
+    {
+        formula.formula_law();
+        match Parts::new(alloc, order, limits.cache) {
+            Ok(parts) => Ok(Runner::new(alloc, formula, order, parts, limits, sink)),
+            Err(e) => Err((sink, e)),
+        }
+    }
+
+    // The runner of these parts, over the order that they are of.
+    pub(crate) fn new(
+        alloc: Global,
+        formula: &'a Cnf,
+        order: &Order,
+        parts: Parts,
+        limits: Limits,
+        sink: S,
+    ) -> Runner<'a, S>
+        requires order { length order.now ≡ formula.now.vars }
+        requires limits { AreLimits limits }
+        requires diagram { parts.diagram ≡ record { order = order.now; nodes = map.empty } }
+        requires no_entries { all_entries parts.caches ≡ [] }
+        requires size { HaveSize parts.caches limits.cache }
+        ensures opened { IsOpenedOver formula.now order.now limits sink result }
+        ensures runner { IsRunner result }
+    {
+        start_law();
+        opening_law::<S>();
+        formula.formula_law();
+        let _order = order.as_slice();
+        let Parts { diagram, caches } = parts;
+        let ledger = Ledger::new(formula, sink, limits.max_ids);
+        let table = Table::new(alloc, ledger, diagram, limits.max_nodes);
+        Runner {
+            formula,
+            limits,
+            terms: Terms::new(alloc, table, caches),
+            refuted: false,
+            kept: None,
+        }
+    }
+
+    /// Runs a plan and flushes the proof, in a runner that no term was asked of. It ends as `run_plan` does.
+    pub fn run(self, plan: &Plan) -> (S, Result<Run, RunError>)
+        requires unused { IsUnused self }
+        requires plan { IsAdmissible self.formula.now plan.now }
+        requires fresh { IsTrue S.tells → (S.channel self.terms.table.book.origin).written ≡ [] }
+        ensures ends { Ends S.tells (S.channel self.entry.terms.table.book.origin) (S.channel result.0) self.entry.formula.now
+            self.entry.terms.table.graph.order plan.now self.entry.limits result.1 }
+        ensures beside { S.beside result.0 ≡ S.beside self.entry.terms.table.book.origin }
+    {
+        let mut progress = Progress::new(self.formula.len() as u64, self.limits.max_ids);
+        self.run_counting(plan, &mut progress, false)
+    }
+
+    // As `run`, and counts the moves. The caches may be let go at the end.
+    pub(crate) fn run_counting(
+        self,
+        plan: &Plan,
+        progress: &mut Progress,
+        lets_go: bool,
+    ) -> (S, Result<Run, RunError>)
+        requires unused { IsUnused self }
+        requires plan { IsAdmissible self.formula.now plan.now }
+        requires fresh { IsTrue S.tells → (S.channel self.terms.table.book.origin).written ≡ [] }
+        requires begun { progress.old.moves ≡ 0 }
+        ensures ends { EndsWithin S.tells (S.channel self.entry.terms.table.book.origin) (S.channel result.0) self.entry.formula.now
+            self.entry.terms.table.graph.order plan.now self.entry.limits result.1 }
+        ensures counted { progress.new.moves ≤ length plan.now }
+        ensures beside { S.beside result.0 ≡ S.beside self.entry.terms.table.book.origin }
+    {
+        start_law();
+        derivation_law();
+        soundness_law();
+        marks_law();
+        opening_law::<S>();
+        in_use_law();
+        lean_law::<S>();
+        canonical_law();
+        let Runner {
+            formula,
+            limits,
+            mut terms,
+            refuted: _,
+            kept: _,
+        } = self;
+        formula.formula_law();
+        if let Some(number) = first_empty(formula) {
+            let mut ledger = terms.into_ledger(lets_go);
+            let result = refute(&mut ledger, number);
+            ledger.book_law();
+            return (ledger.close(), result);
+        }
+        let found = terms.decide(formula, plan, limits.cache, progress);
+        terms.table.table_law();
+        let mut ledger = terms.into_ledger(lets_go);
+        ledger.book_law();
+        let result = finish(&mut ledger, outcome_of(found));
+        ledger.book_law();
+        (ledger.close(), result)
+    }
+
+    /// Flushes what was written, and answers the greatest clause number. Only `WriteFault` may come.
+    pub fn close(self) -> (S, Result<u64, RunError>)
+        requires in_step { IsTrue self.terms.table.book.in_step }
+        requires none_out { length self.terms.out.items ≡ 0 }
+        ensures last { IfOk result.1 (λ last. last ≡ self.entry.terms.table.book.state.top) }
+        ensures error { IfErr result.1 (λ e. e ≡ RunError.WriteFault) }
+        ensures written { (S.channel result.0).written ≡ (S.channel self.entry.terms.table.book.sink).written }
+        ensures flushed { IsTrue S.tells → OnOk result.1 ((S.channel result.0).flushed ≡ length (S.channel result.0).written) }
+    {
+        let mut ledger = self.terms.into_ledger(false);
+        let last = ledger.last_id();
+        let result = match ledger.finish() {
+            Ok(()) => Ok(last),
+            Err(_) => Err(RunError::WriteFault),
+        };
+        (ledger.close(), result)
+    }
+
+    /// Hands the sink back as it is, at any time.
+    pub fn into_sink(self) -> S
+        ensures { result ≡ self.entry.terms.table.book.sink }
+    {
+        self.terms.into_ledger(false).close()
+    }
+
+    /// Whether the empty clause was added.
+    pub fn is_refuted(&self) -> bool
+        ensures { result ≡ self.now.refuted }
+    {
+        self.refuted
+    }
+
+    /// The variables, the top one first.
+    pub fn order(&self) -> &[u32]
+        ensures { result.now ≡ self.now.terms.table.graph.order }
+    {
+        self.terms.table.order()
+    }
+}

@@ -1,0 +1,271 @@
+// Terms that a runner gives: of a clause, or of two terms together. Each has a unit of its own, which is retired when the term is
+// released; the first empty clause stays. Nodes that no term reaches are given back by a reclamation.
+ghost use Rattle.std.specs.Prelude.{◌≡◌, ◌≢◌, ◌⊎◌, ◌≤◌, ◌<◌, ◌+◌, ◌-◌, ◌&&◌, ◌∷◌, ℕ, Bool, List, [], Contains, Err, Ok, None, Some};
+ghost use Rattle.std.specs.Prelude.{IsTrue, IsFalse, IfErr, IfOk, OnErr, OnOk, MatchOption, get_or, length, true, false, vec_capacity, vec_len};
+ghost use Rattle.cnf_base.specs.Truth.{Assignment};
+ghost use Rattle.node_table.specs.declared.error.TableError.TheVariants.{NodeLimit, OutOfMemory, WriteFault};
+ghost use Rattle.node_table.specs.declared.node.Node.TheVariants.{False, True};
+ghost use Rattle.node_table.specs.Progress.{Leaves, error_of};
+ghost use Rattle.node_table.specs.Table.{AddsAtMost, UnlessTorn, live_nodes};
+ghost use Rattle.node_table.specs.Value.{Levels};
+ghost use Rattle.apply_and.specs.Conjunction.{conjunction_of};
+ghost use Rattle.schedule_plan.specs.Plan.{input as input_term, term_holds};
+ghost use Rattle.term_runner.specs.declared.held.HeldTerm.{HeldTerm as HeldValue};
+ghost use Rattle.term_runner.specs.declared.runner.Runner.{Runner as RunnerValue};
+ghost use Rattle.term_runner.specs.Runner.{Gives, IsGood, IsListed, IsRunner, Releases, holds_in, nodes_of};
+ghost use Rattle.term_runner.specs.Tidy.{LeavesReached};
+ghost use Rattle.term_runner.specs.Width.{term_function};
+
+use crate::found::{any_input, own_conjunction};
+use crate::held::HeldTerm;
+use crate::moves::is_node_limit;
+use crate::reclamation::roots_of;
+use crate::runner::Runner;
+use crate::unit::{is_same, is_same_term, retire_unit};
+use host_io::Sink;
+use node_table::{
+    Justification, Node, TableError, canonical_law, growth_law, reach_law, steps_law,
+    subfunction_law,
+};
+use operations::entry_law;
+use reclaim::reclaim;
+
+/// A term that a runner gave. It goes back by `release` alone.
+#[derive(Debug, Drop)]
+pub struct Term {
+    held: HeldTerm,
+}
+
+impl Term {
+    /// The node that holds where the term does.
+    pub fn node(&self) -> Node
+        ensures { result ≡ self.now.held.node }
+    {
+        self.held.node
+    }
+}
+
+impl<'a, S: Sink + Drop> Runner<'a, S> {
+    /// The term of the clause of this number, from 1. That of an empty clause is False, and adds the empty clause.
+    pub fn term(&mut self, number: u32) -> Result<Term, TableError>
+        requires runner { IsRunner self.old }
+        requires from_one { 1 ≤ number }
+        requires to_len { number ≤ length self.old.formula.now.clauses }
+        ensures gives { Gives (term_function self.old.formula.now self.old.terms.table.graph.order (input_term number))
+            (λ a. term_holds self.old.formula.now a (input_term number)) [] self.old self.new result }
+        ensures one { AddsAtMost 1 self.old.terms.table self.new.terms.table }
+    {
+        let found = self.find_input(number);
+        self.settle(found)
+    }
+
+    /// The term that holds where both do. Each of them stays.
+    pub fn meet(&mut self, u: &Term, v: &Term) -> Result<Term, TableError>
+        requires runner { IsRunner self.old }
+        requires first { IsGood self.old u.now.held }
+        requires second { IsGood self.old v.now.held }
+        ensures gives { Gives (conjunction_of self.old.terms.table.graph u.now.held.node v.now.held.node)
+            (λ a. holds_in self.old u.now.held a && holds_in self.old v.now.held a) (v.now.held ∷ u.now.held ∷ []) self.old self.new
+            result }
+    {
+        let found = self.find_conjunction(u, v);
+        self.settle(found)
+    }
+
+    /// Whether a term may be taken here: it is True, or this runner gave it and it is out yet.
+    pub fn has(&self, term: &Term) -> bool
+        ensures { IsTrue result → IsGood self.now term.now.held }
+    {
+        match term.held.unit {
+            Justification::Trivial => is_same(term.held.node, Node::True),
+            Justification::Clause(_) => place_of(self.terms.out.as_slice(), &term.held).is_some(),
+        }
+    }
+
+    /// How many terms are out.
+    pub fn terms_out(&self) -> usize
+        ensures { result ≡ length self.now.terms.out.items }
+    {
+        self.terms.out.len()
+    }
+
+    /// Takes a term back. Its unit is retired, but for the first empty clause; after a failed write nothing changes.
+    pub fn release(&mut self, term: Term)
+        requires runner { IsTrue self.old.terms.table.book.in_step → IsRunner self.old }
+        requires good { IsTrue self.old.terms.table.book.in_step → IsGood self.old term.held }
+        ensures releases { IsTrue self.old.terms.table.book.in_step → Releases term.held self.old self.new }
+        ensures torn { self.old.terms.table.book.in_step ≡ false → self.new ≡ self.old }
+    {
+        steps_law::<S>();
+        entry_law::<S>();
+        if !self.terms.table.ledger().is_in_step() {
+            return;
+        }
+        if is_same(term.held.node, Node::True) {
+            return;
+        }
+        let Some(place) = place_of(self.terms.out.as_slice(), &term.held) else {
+            unreachable!();
+        };
+        let _ = self.terms.out.remove(place);
+        if is_first_false(&self.kept, &term.held) {
+            self.kept = Some(term.held);
+            return;
+        }
+        retire_unit(
+            &mut self.terms.table,
+            &term.held.unit,
+            &Justification::Trivial,
+        );
+    }
+
+    /// Gives back the nodes that no term reaches that is out, with their clauses, and answers how many. Want of memory changes
+    /// nothing.
+    pub fn reclaim(&mut self) -> Result<u32, TableError>
+        requires runner { IsRunner self.old }
+        ensures goes_on { UnlessTorn result (IsRunner self.new) }
+        ensures reached { OnOk result (LeavesReached self.old.terms.table.graph self.new.terms.table.graph
+            (nodes_of self.old.terms.out.items)) }
+        ensures count { IfOk result (λ count. live_nodes self.new.terms.table.graph + count
+            ≡ live_nodes self.old.terms.table.graph) }
+        ensures memory { result ≡ Err OutOfMemory → self.new.terms.table ≡ self.old.terms.table }
+        ensures kept { OnErr result (self.new.terms.table.graph ≡ self.old.terms.table.graph) }
+        ensures top { self.new.terms.table.book.state.top ≡ self.old.terms.table.book.state.top }
+        ensures same { (self.new.terms.out ≡ self.old.terms.out) × (self.new.formula ≡ self.old.formula)
+            × (self.new.limits ≡ self.old.limits) × (self.new.refuted ≡ self.old.refuted) × (self.new.kept ≡ self.old.kept) }
+        ensures leaves { Leaves self.old.terms.table self.new.terms.table (error_of result) }
+        ensures error { IfErr result (λ e. (e ≡ OutOfMemory) ⊎ (e ≡ WriteFault)) }
+    {
+        growth_law();
+        reach_law();
+        steps_law::<S>();
+        let alloc = *self.terms.out.allocator();
+        let roots = roots_of(alloc, self.terms.out.as_slice(), &self.terms.trail)?;
+        let count = reclaim(
+            &mut self.terms.table,
+            roots.as_slice(),
+            &mut self.terms.caches,
+        )?;
+        Ok(count)
+    }
+
+    // Finds the term of a clause, and puts it on the list.
+    fn find_input(&mut self, number: u32) -> Result<Term, TableError>
+        requires runner { IsRunner self.old }
+        requires from_one { 1 ≤ number }
+        requires to_len { number ≤ length self.old.formula.now.clauses }
+        ensures gives { Gives (term_function self.old.formula.now self.old.terms.table.graph.order (input_term number))
+            (λ a. term_holds self.old.formula.now a (input_term number)) [] self.old self.new result }
+        ensures one { AddsAtMost 1 self.old.terms.table self.new.terms.table }
+    {
+        growth_law();
+        steps_law::<S>();
+        entry_law::<S>();
+        subfunction_law();
+        let alloc = *self.terms.out.allocator();
+        if self.terms.out.reserve(1).is_err() {
+            return Err(TableError::OutOfMemory);
+        }
+        let held = any_input(alloc, &mut self.terms.table, self.formula, number)?;
+        self.place(&held);
+        Ok(Term { held })
+    }
+
+    // Finds the conjunction of two terms, and puts it on the list.
+    fn find_conjunction(&mut self, u: &Term, v: &Term) -> Result<Term, TableError>
+        requires runner { IsRunner self.old }
+        requires first { IsGood self.old u.now.held }
+        requires second { IsGood self.old v.now.held }
+        ensures gives { Gives (conjunction_of self.old.terms.table.graph u.now.held.node v.now.held.node)
+            (λ a. holds_in self.old u.now.held a && holds_in self.old v.now.held a) (v.now.held ∷ u.now.held ∷ []) self.old self.new
+            result }
+    {
+        growth_law();
+        steps_law::<S>();
+        entry_law::<S>();
+        subfunction_law();
+        if self.terms.out.reserve(1).is_err() {
+            return Err(TableError::OutOfMemory);
+        }
+        let held = own_conjunction(
+            &mut self.terms.table,
+            &mut self.terms.caches,
+            &u.held,
+            &v.held,
+        )?;
+        self.place(&held);
+        Ok(Term { held })
+    }
+
+    // Puts a term on the list of those that are out, for which there is room, unless it is True.
+    fn place(&mut self, held: &HeldTerm)
+        requires room { vec_len self.old.terms.out < vec_capacity self.old.terms.out }
+        requires true_alone { held.now.node ≡ True → held.now.unit ≡ Justification.Trivial }
+        ensures listed { IsListed self.old.terms.out.items self.new.terms.out.items held.now }
+        ensures refutes { held.now.node ≡ False → IsTrue self.new.refuted }
+        ensures unrefuted { held.now.node ≢ False → self.new.refuted ≡ self.old.refuted }
+        ensures same { self.new ≡ record self.old {
+          terms = record self.old.terms { out = self.new.terms.out };
+          refuted = self.new.refuted;
+        } }
+    {
+        if is_same(held.node, Node::True) {
+            return;
+        }
+        let refutes = is_same(held.node, Node::False);
+        self.refuted = self.refuted || refutes;
+        self.terms.out.push_reserved(*held);
+    }
+
+    // Deletes the retired clauses behind a call, but where it broke off for want of memory or of numbers.
+    fn settle(&mut self, found: Result<Term, TableError>) -> Result<Term, TableError>
+        requires runner { UnlessTorn found (IsRunner self.old) }
+        ensures gives { (function : Levels → Bool) (holds : Assignment → Bool) (operands : List HeldValue) (old : RunnerValue S)
+            → Gives function holds operands old self.old found → Gives function holds operands old self.new result }
+        ensures adds { (most : ℕ) (old : RunnerValue S) → AddsAtMost most old.terms.table self.old.terms.table
+            → AddsAtMost most old.terms.table self.new.terms.table }
+    {
+        steps_law::<S>();
+        entry_law::<S>();
+        if !has_ended(&found) {
+            return found;
+        }
+        self.terms.table.settle()?;
+        found
+    }
+}
+
+// Whether a call came to its end, or to the limit of nodes.
+fn has_ended(found: &Result<Term, TableError>) -> bool
+    ensures { IsTrue result → (error_of found.now ≡ None) ⊎ (error_of found.now ≡ Some NodeLimit) }
+{
+    match found {
+        Ok(_) => true,
+        Err(e) => is_node_limit(e),
+    }
+}
+
+// Whether a term is False, and none that was is kept yet.
+fn is_first_false(kept: &Option<HeldTerm>, held: &HeldTerm) -> bool
+    ensures first { IsTrue result → (kept.now ≡ None) × (held.now.node ≡ False) }
+    ensures other { result ≡ false → held.now.node ≡ False → (one : HeldValue) × (kept.now ≡ Some one) }
+{
+    match kept {
+        None => is_same(held.node, Node::False),
+        Some(_) => false,
+    }
+}
+
+// The place of a term on a list, the last one.
+fn place_of(out: &[HeldTerm], held: &HeldTerm) -> Option<usize>
+    ensures { MatchOption result (Contains out.now held.now → ⊥) (λ place. (place < length out.now)
+        × (get_or out.now place held.now ≡ held.now)) }
+{
+    for i in 0..out.len() {
+        let place = out.len() - 1 - i;
+        if is_same_term(&out[place], held) {
+            return Some(place);
+        }
+    }
+    None
+}
