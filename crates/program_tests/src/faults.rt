@@ -7,8 +7,8 @@ use std::test::Fail;
 // Behind words and the role and number of the call that fails: the status, standard output, the file that is made, standard error.
 // The first words are of a formula with an empty clause. An order is opened and read at its end, a schedule is read in one piece
 // before. The formula of `check` is opened, read in three pieces, and read again at its end; the proof is read in two pieces; the
-// verdict is written in two pieces and flushed; of a refused proof there are two lines. Where a proof is converted, its step is written
-// once its line was read; the verdict comes behind the flush. The board without dominoes has a text of
+// verdict is written in two pieces and flushed; of a refused proof there are two lines. Where a proof is converted, a step is
+// written once a token of a later line, or the end, was read; the verdict comes behind the flush. The board without dominoes has a text of
 // 14 bytes; decided, its line, that of the last identifier and the answer are written in pieces and flushed.
 const FAULTS: &str = "\
 bddsat solve empty --proof out.lrat
@@ -65,7 +65,7 @@ Cnf 5;ReadFault||none|error: read failed/
 ProofIn 1;ReadFault||none|error: read failed/
 ProofIn 2;ReadFault|||error: read failed/
 ProofIn 3;ReadFault|||error: read failed/
-ProofIn 4;ReadFault||0/|error: read failed/
+ProofIn 4;ReadFault|||error: read failed/
 ProofIn 5;Verified|s VERIFIED/|0/|
 ProofOut 1;WriteFault||none|error: write failed/
 ProofOut 2;WriteFault|||error: write failed/
@@ -75,6 +75,11 @@ Out 1;WriteFault||0/|error: write failed/
 Out 2;WriteFault|s VERIFI|0/|error: write failed/
 Out 3;WriteFault|s VERIFIED/|0/|error: write failed/
 Out 4;Verified|s VERIFIED/|0/|
+bddsat drat both worse --out out.lrat
+ProofIn 3;ReadFault|||error: read failed/
+ProofIn 4;ReadFault||0/|error: read failed/
+ProofIn 5;ReadFault||0/|error: read failed/
+ProofIn 6;NotVerified(2, HintNotLive)|c line 2 HintNotLive/s NOT VERIFIED/|0/|
 bddsat make board 2 --part cnf --out out.lrat
 Made 1;WriteFault||none|error: write failed/
 Made 2;WriteFault|||error: write failed/
