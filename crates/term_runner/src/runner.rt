@@ -1,9 +1,8 @@
-// A runner, from its opening to the end of its proof. A plan is run in it; or its terms are asked for one by one, and what was
-// written is flushed at the end. Each call by value stands over those that work on a lent sink, too.
-ghost use Rattle.std.specs.Prelude.{◌≡◌, ◌≤◌, [], length, IsTrue, IfOk, IfErr, OnOk, OnErr, is_ok, is_some};
+// A runner, from its opening to the end of its proof. A plan is run in it; or terms are asked for one by one, and what was written
+// is flushed at the end. The sink may be a lent one.
+ghost use Rattle.std.specs.Prelude.{◌≡◌, ◌≤◌, [], length, IsTrue, IfOk, IfErr, OnOk};
 ghost use Rattle.std.specs.FinMap as map;
 ghost use Rattle.cnf_base.specs.Limits.{max_vars};
-ghost use Rattle.host_io.specs.Channel.{Rose};
 ghost use Rattle.schedule_plan.specs.Limits.{AreLimits};
 ghost use Rattle.schedule_plan.specs.Plan.{IsAdmissible};
 ghost use Rattle.term_runner.specs.Caches.{HaveSize, all_entries};
@@ -24,7 +23,7 @@ use clause_ledger::Ledger;
 use cnf_base::{Cnf, OutOfMemory};
 use host_io::Sink;
 use lrat_rules::{derivation_law, marks_law, soundness_law, start_law};
-use node_table::{Diagram, Table, TableError, canonical_law, in_use_law, lean_law, opening_law};
+use node_table::{Diagram, Table, canonical_law, in_use_law, lean_law, opening_law};
 use schedule_plan::{Limits, Order, Plan};
 use std::alloc::Global;
 
@@ -83,7 +82,7 @@ impl<'a, S: Sink + Drop> Runner<'a, S> {
         }
     }
 
-    // The runner of these parts, over the order that they are of.
+    /// The runner of these parts, which are those of this order.
     pub(crate) fn new(
         alloc: Global,
         formula: &'a Cnf,
@@ -129,7 +128,7 @@ impl<'a, S: Sink + Drop> Runner<'a, S> {
         self.run_counting(plan, &mut progress, false)
     }
 
-    // As `run`, and counts the moves. The caches may be let go at the end.
+    /// As `run`, and counts the moves. The caches may be let go at the end.
     pub(crate) fn run_counting(
         self,
         plan: &Plan,

@@ -1,7 +1,7 @@
 // Terms that a runner gives: of a clause, or of two terms together. Each has a unit of its own, which is retired when the term is
 // released; the first empty clause stays. Nodes that no term reaches are given back by a reclamation.
 ghost use Rattle.std.specs.Prelude.{◌≡◌, ◌≢◌, ◌⊎◌, ◌≤◌, ◌<◌, ◌+◌, ◌-◌, ◌&&◌, ◌∷◌, ℕ, Bool, List, [], Contains, Err, Ok, None, Some};
-ghost use Rattle.std.specs.Prelude.{IsTrue, IsFalse, IfErr, IfOk, OnErr, OnOk, MatchOption, get_or, length, true, false, vec_capacity, vec_len};
+ghost use Rattle.std.specs.Prelude.{IsTrue, IfErr, IfOk, OnErr, OnOk, MatchOption, get_or, length, true, false, vec_capacity, vec_len};
 ghost use Rattle.cnf_base.specs.Truth.{Assignment};
 ghost use Rattle.node_table.specs.declared.error.TableError.TheVariants.{NodeLimit, OutOfMemory, WriteFault};
 ghost use Rattle.node_table.specs.declared.node.Node.TheVariants.{False, True};
@@ -24,8 +24,7 @@ use crate::runner::Runner;
 use crate::unit::{is_same, is_same_term, retire_unit};
 use host_io::Sink;
 use node_table::{
-    Justification, Node, TableError, canonical_law, growth_law, reach_law, steps_law,
-    subfunction_law,
+    Justification, Node, TableError, growth_law, reach_law, steps_law, subfunction_law,
 };
 use operations::entry_law;
 use reclaim::reclaim;
