@@ -4,6 +4,7 @@ ghost use Rattle.term_runner.specs.Runner.{IsRunner};
 
 use crate::support::{ProofText, part};
 use crate::trials::formula_of;
+use node_table::Justification;
 use schedule_plan::Order;
 use std::alloc::Global;
 use std::test::Fail;
@@ -41,6 +42,8 @@ fn give_both(runner: &mut Runner<ProofText>) -> Result<(u32, u32), Fail>
     requires two { 2 ≤ length runner.old.formula.now.clauses }
     ensures { OnOk result (IsRunner runner.new) }
 {
+    // (the prover has to see the type of what a term holds)
+    let _unit = Justification::Trivial;
     let first = give(runner, 1)?;
     let second = give(runner, 2)?;
     let both = meet(runner, &first, &second)?;
