@@ -1,4 +1,4 @@
-# Completion for bash. Made by bench/manual. What is no option and no word of the command is completed as a file's name.
+# Completion for bash. Made by tools/manual. What is no option and no word of the command is completed as a file's name.
 _bddsat() {
     local word="${COMP_WORDS[COMP_CWORD]}" words='solve check drat order bench make help' options='--help'
     case "$([ "$COMP_CWORD" -eq 1 ] || echo "${COMP_WORDS[1]}")" in

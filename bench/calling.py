@@ -1,0 +1,38 @@
+"""The one calling style of the scripts in bench/ and tests/oracle/: SCRIPT [--program FILE] [--OPTION [VALUE]].. [WORD]..
+
+Without --program they run `out/bddsat` of this clone, which `./bddsat` builds where its sources have changed. --help shows a script's head.
+"""
+import argparse
+import os
+import subprocess
+
+ROOT = os.path.dirname(os.path.dirname(os.path.abspath(__file__)))
+
+
+class Calling(argparse.ArgumentParser):
+    """The options and words of a script with this head, which names them all."""
+
+    def __init__(self, page):
+        super().__init__(usage=page, add_help=True)
+        self.add_argument("--program", type=os.path.abspath)
+
+    def format_help(self):
+        return self.usage
+
+    def format_usage(self):
+        return self.usage
+
+    def words(self, given=None):
+        found = super().parse_args(given)
+        if not (found.program or getattr(found, "write", None) or getattr(found, "alone", None)):
+            subprocess.run([os.path.join(ROOT, "bddsat"), "--help"], stdout=subprocess.DEVNULL, check=True)  # builds it
+            found.program = os.path.join(ROOT, "out", "bddsat")
+        return found
+
+
+def rows_of(words, families, *kinds):
+    """FAMILY SIZE .. as rows, each word by its kind; None where they aren't such."""
+    width = 1 + len(kinds)
+    if len(words) % width or not set(words[::width]) <= set(families):
+        return None
+    return [(words[at], *(kind(word) for kind, word in zip(kinds, words[at + 1 :]))) for at in range(0, len(words), width)]
