@@ -3,7 +3,7 @@ _bddsat() {
     local word="${COMP_WORDS[COMP_CWORD]}" words='solve check drat order bench make help' options='--help'
     case "$([ "$COMP_CWORD" -eq 1 ] || echo "${COMP_WORDS[1]}")" in
     solve) words='' options='--proof --lax --search --order --buckets --schedule --plan --max-nodes --max-ids --cache --help' ;;
-    check) words='' options='--lax --help' ;;
+    check) words='' options='--format --lax --help' ;;
     drat) words='' options='--out --lax --help' ;;
     order) words='' options='--by --out --lax --help' ;;
     bench) words='board' options='--proof --max-nodes --max-ids --cache --help' ;;

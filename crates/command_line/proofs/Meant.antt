@@ -19,7 +19,7 @@ use Rattle.dimacs_reader.specs.declared.mode.Mode.{Mode}
 use Rattle.schedule_plan.specs.declared.limits.Limits.{Limits}
 use Rattle.command_line.specs.Parser.{the_app}
 use Rattle.command_line.specs.Command.{Command, Meaning, Asks, Misuse, IsOneOf, MayMean, Planned, bench_means, check_means, command}
-use Rattle.command_line.specs.Command.{convert_means}
+use Rattle.command_line.specs.Command.{convert_means, format_given}
 use Rattle.command_line.specs.Command.{is_set, limits_among, make_means, means, meanings, method_named, mode_given, names_among}
 use Rattle.command_line.specs.Command.{only_command, order_means, part_named, plan_among, plan_given, refusal_means, size_among}
 use Rattle.command_line.specs.Command.{solve_means, taken_means, to_bench, to_check, to_convert, to_make, to_order, to_solve, two_names}
@@ -128,15 +128,18 @@ two_alone None (Some other) = refl
 two_alone (Some file) None = refl
 two_alone (Some file) (Some other) = refl
 
-pub check_values : (values : ArgMatches) (file proof lax : Option Text)
-    → file ≡ first_value (found_of values) (codes "FILE") → proof ≡ first_value (found_of values) (codes "PROOF") → lax
-    ≡ first_value (found_of values) (codes "lax")
-    → check_means (rows_of (found_of values)) ≡ to_check (two_names file proof (None ∷ None ∷ None ∷ [])) (mode_given lax)
-check_values values file proof lax file_is proof_is lax_is =
-    ap₃ (λ (f p l : Option Text). to_check (two_names f p []) (mode_given l)) (of_row values (codes "FILE") file file_is)
-    (of_row values (codes "PROOF") proof proof_is)
-    (of_row values (codes "lax") lax lax_is)
-    ∙ ap (λ (names : Option (Text × Text)). to_check names (mode_given lax)) (two_alone file proof)
+pub check_values : (values : ArgMatches) (file proof format lax : Option Text)
+    → file ≡ first_value (found_of values) (codes "FILE") → proof ≡ first_value (found_of values) (codes "PROOF") → format
+    ≡ first_value (found_of values) (codes "format")
+    → lax ≡ first_value (found_of values) (codes "lax")
+    → check_means (rows_of (found_of values))
+    ≡ to_check (two_names file proof (None ∷ None ∷ None ∷ [])) (format_given format) (mode_given lax)
+check_values values file proof format lax file_is proof_is format_is lax_is =
+    let read : check_means (rows_of (found_of values)) ≡ to_check (two_names file proof []) (format_given format) (mode_given lax) = λ i.
+    to_check (two_names (of_row values (codes "FILE") file file_is i) (of_row values (codes "PROOF") proof proof_is i) [])
+    (format_given (of_row values (codes "format") format format_is i))
+    (mode_given (of_row values (codes "lax") lax lax_is i)) in
+    read ∙ ap (λ (names : Option (Text × Text)). to_check names (format_given format) (mode_given lax)) (two_alone file proof)
 
 -- nor do they beside a third one
 three_alone : (file other third : Option Text) → two_names file other (third ∷ []) ≡ two_names file other (third ∷ None ∷ None ∷ [])

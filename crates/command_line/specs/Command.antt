@@ -14,6 +14,8 @@ use Rattle.dimacs_reader.specs.declared.mode.Mode.{Mode}
 use Rattle.dimacs_reader.specs.declared.mode.Mode.TheVariants.{Strict, Lax}
 use Rattle.schedule_plan.specs.Limits.{most_ids}
 use Rattle.schedule_plan.specs.declared.limits.Limits.{Limits}
+use Rattle.command_line.specs.declared.format.ProofFormat.{ProofFormat}
+use Rattle.command_line.specs.declared.format.ProofFormat.TheVariants.{Lrat, Drat}
 use Rattle.command_line.specs.declared.method.OrderMethod.{OrderMethod}
 use Rattle.command_line.specs.declared.method.OrderMethod.TheVariants.{Degree, Cardinality, Levels, Profile}
 use Rattle.command_line.specs.declared.plan.PlanName.{PlanName}
@@ -40,10 +42,11 @@ pub record ToSolve : Type 0 where
   pub plan : Planned
   pub limits : Limits
 
--- to judge the proof in a file over the formula in another one, read in a mode
+-- to judge the proof in a file, in a format, over the formula in another one, read in a mode
 pub record ToCheck : Type 0 where
   pub file : Text
   pub proof : Text
+  pub format : ProofFormat
   pub mode : Mode
 
 -- to judge the LRAT proof in a file over the formula in another one, read in a mode, and to write the DRAT proof that it becomes to a third one
@@ -97,6 +100,15 @@ mode_of (Bench task) = Strict
 mode_of (Make task) = Strict
 mode_of (Arrange task) = task.mode
 mode_of (Convert task) = task.mode
+
+-- the format of the proof that is judged, where one is
+abbrev pub format_of : Command → ProofFormat
+format_of (Solve task) = Lrat
+format_of (Check task) = task.format
+format_of (Bench task) = Lrat
+format_of (Make task) = Lrat
+format_of (Arrange task) = Lrat
+format_of (Convert task) = Lrat
 
 -- the limits where the words give none
 abbrev pub default_limits : Limits
@@ -194,6 +206,14 @@ plan_given None None (Some file) false = Some (ByBuckets file)
 plan_given None None None true = Some Found
 plan_given _ _ _ _ = None
 
+-- the format of this name, if it is one, and the one that the option `--format` gives
+abbrev pub format_named : Text → Option ProofFormat
+format_named name = if bytes_eq name (codes "lrat") then Some Lrat else if bytes_eq name (codes "drat") then Some Drat else None
+
+abbrev pub format_given : Option Text → Option ProofFormat
+format_given None = Some Lrat
+format_given (Some name) = format_named name
+
 -- the method of this name, if it is one
 abbrev pub method_named : Text → Option OrderMethod
 method_named name =
@@ -228,10 +248,10 @@ to_solve (Some names) mode order (Some plan) (Some limits) =
     Asks (Solve (record { file = names.0; proof = names.1; mode = mode; order = order; plan = plan; limits = limits }))
 to_solve _ _ _ _ _ = Misuse
 
--- two files to check, and a mode
-abbrev pub to_check : Option (Text × Text) → Mode → Meaning
-to_check (Some names) mode = Asks (Check (record { file = names.0; proof = names.1; mode = mode }))
-to_check None mode = Misuse
+-- two files to check, a format, and a mode
+abbrev pub to_check : Option (Text × Text) → Option ProofFormat → Mode → Meaning
+to_check (Some names) (Some format) mode = Asks (Check (record { file = names.0; proof = names.1; format = format; mode = mode }))
+to_check _ _ _ = Misuse
 
 -- two files, one to write the DRAT proof to, and a mode
 abbrev pub to_convert : Option (Text × Text) → Option Text → Mode → Meaning
@@ -277,7 +297,7 @@ solve_means rows =
 
 abbrev pub check_means : List Row → Meaning
 check_means rows = to_check (two_names (first_of (codes "FILE") rows) (first_of (codes "PROOF") rows) [])
-    (mode_given (first_of (codes "lax") rows))
+    (format_given (first_of (codes "format") rows)) (mode_given (first_of (codes "lax") rows))
 
 abbrev pub convert_means : List Row → Meaning
 convert_means rows =

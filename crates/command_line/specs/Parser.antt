@@ -54,9 +54,9 @@ solve_app =
 abbrev pub proof_file_rule : Rule
 proof_file_rule = record (new_rule (codes "PROOF")) { required = true }
 
--- `check FILE PROOF [--lax]`
+-- `check FILE PROOF [--format FORMAT] [--lax]`
 abbrev pub check_app : App
-check_app = with_rules (new_app (codes "check")) (file_rule ∷ proof_file_rule ∷ lax_rule ∷ [])
+check_app = with_rules (new_app (codes "check")) (file_rule ∷ proof_file_rule ∷ option_rule (codes "format") ∷ lax_rule ∷ [])
 
 -- `drat FILE PROOF --out P [--lax]`
 abbrev pub drat_app : App

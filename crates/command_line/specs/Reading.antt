@@ -36,7 +36,8 @@ command_of (asked.Solve task) =
       plan = planned_of task.plan;
       limits = task.limits;
     })
-command_of (asked.Check task) = Check (record { file = task.files.formula.now; proof = task.files.proof.now; mode = task.mode })
+command_of (asked.Check task) =
+    Check (record { file = task.files.formula.now; proof = task.files.proof.now; format = task.format; mode = task.mode })
 command_of (asked.Bench task) = Bench (record { size = task.size; proof = task.proof.now; limits = task.limits })
 command_of (asked.Make task) = Make (record { size = task.size; part = task.part; file = task.file.now })
 command_of (asked.Order task) =

@@ -57,13 +57,11 @@ pub fn formula_arg<'a>(alloc: Global) -> Arg<'a>
         .help("The formula, in DIMACS CNF")
 }
 
-pub fn proof_file_arg<'a>(alloc: Global) -> Arg<'a>
+pub fn proof_file_arg<'a>(alloc: Global, help: &'a str) -> Arg<'a>
     ensures rule { rule_of result ≡ proof_file_rule }
     ensures local { result.global ≡ false }
 {
-    Arg::new(alloc, "PROOF")
-        .required(true)
-        .help("The proof, in LRAT")
+    Arg::new(alloc, "PROOF").required(true).help(help)
 }
 
 pub fn lax_arg<'a>(alloc: Global) -> Arg<'a>

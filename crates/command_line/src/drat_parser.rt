@@ -16,6 +16,8 @@ Example:
   bddsat drat formula.cnf formula.lrat --out formula.drat",
 };
 
+const PROOF_HELP: &str = "The proof, in LRAT";
+
 const OUT_HELP: &str = "The DRAT proof. PROOF itself by another name would be emptied";
 
 pub fn drat_parser<'a>(alloc: Global) -> Result<Command<'a>, AllocError>
@@ -24,7 +26,7 @@ pub fn drat_parser<'a>(alloc: Global) -> Result<Command<'a>, AllocError>
 {
     command(alloc, "drat", DRAT)
         .arg(formula_arg(alloc))?
-        .arg(proof_file_arg(alloc))?
+        .arg(proof_file_arg(alloc, PROOF_HELP))?
         .arg(needed_arg(alloc, "out", "P", OUT_HELP))?
         .arg(lax_arg(alloc))
 }

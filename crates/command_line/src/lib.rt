@@ -7,6 +7,7 @@ mod board;
 mod board_parser;
 mod drat;
 mod drat_parser;
+mod format;
 mod limits;
 mod method;
 mod mode;
@@ -20,6 +21,7 @@ mod words;
 
 pub use board::{BenchTask, MakeTask};
 pub use drat::ConvertTask;
+pub use format::ProofFormat;
 pub use method::OrderMethod;
 pub use names::FileNames;
 pub use order::OrderTask;

@@ -21,7 +21,7 @@ const ALL: Texts<'static> = Texts {
 bddsat solve FILE --proof P [--lax] [--order F]
                     [--search | --buckets F | --schedule F | --plan PLAN]
                     [--max-nodes N] [--max-ids N] [--cache N]
-       bddsat check FILE PROOF [--lax]
+       bddsat check FILE PROOF [--format FORMAT] [--lax]
        bddsat drat FILE PROOF --out P [--lax]
        bddsat order FILE --by METHOD --out F [--lax]
        bddsat bench board N --proof P [--max-nodes N] [--max-ids N] [--cache N]
@@ -63,11 +63,16 @@ Example:
 
 const CHECK: Texts<'static> = Texts {
     about: "Judges the proof in PROOF that FILE is unsatisfiable",
-    usage: "bddsat check FILE PROOF [--lax]",
+    usage: "bddsat check FILE PROOF [--format FORMAT] [--lax]",
     after: "\
 Example:
-  bddsat check formula.cnf formula.lrat",
+  bddsat check formula.cnf formula.lrat
+  bddsat check formula.cnf formula.drat --format drat",
 };
+
+const PROOF_HELP: &str = "The proof, in LRAT or in textual DRAT";
+
+const FORMAT_HELP: &str = "lrat, or drat, which has no hints [default: lrat]";
 
 const SEARCH_HELP: &str = "Finds the orders by trial runs; what to try first";
 
@@ -157,6 +162,7 @@ fn check_parser<'a>(alloc: Global) -> Result<Command<'a>, AllocError>
 {
     command(alloc, "check", CHECK)
         .arg(formula_arg(alloc))?
-        .arg(proof_file_arg(alloc))?
+        .arg(proof_file_arg(alloc, PROOF_HELP))?
+        .arg(option_arg(alloc, "format", "FORMAT", FORMAT_HELP))?
         .arg(lax_arg(alloc))
 }

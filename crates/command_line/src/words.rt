@@ -12,6 +12,7 @@ ghost use Rattle.command_line.specs.Reading.{IsRefusal, IsRefusalOf, IsTaken, Is
 
 use crate::board::{BenchTask, MakeTask, bench_asked, make_asked};
 use crate::drat::{ConvertTask, convert_asked};
+use crate::format::{ProofFormat, format_given};
 use crate::limits::limits_among;
 use crate::mode::mode_given;
 use crate::names::{FileNames, names_among, two_names};
@@ -58,6 +59,8 @@ pub struct SolveTask<'a> {
 #[derive(Drop)]
 pub struct CheckTask<'a> {
     pub files: FileNames<'a>,
+    /// The format of the proof.
+    pub format: ProofFormat,
     /// How the formula is read.
     pub mode: Mode,
 }
@@ -187,9 +190,14 @@ fn check_asked<'a>(values: &ArgMatches<'a>) -> Option<Asked<'a>>
         None,
         None,
     )?;
+    let format = format_given(values.get_str("format"))?;
     let mode = mode_given(values.get_str("lax"));
     let files = FileNames { formula, proof };
-    Some(Asked::Check(CheckTask { files, mode }))
+    Some(Asked::Check(CheckTask {
+        files,
+        format,
+        mode,
+    }))
 }
 
 // What a refusal of the parser is; the text of help is made whole.

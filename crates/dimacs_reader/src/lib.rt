@@ -6,8 +6,10 @@
 mod body;
 mod error;
 mod header;
+mod laws;
 mod mode;
 
 pub use error::{CnfError, CnfKind};
 pub use header::read_cnf;
+pub use laws::cnf_law;
 pub use mode::Mode;

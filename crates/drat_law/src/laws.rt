@@ -1,10 +1,13 @@
 // What an LRAT proof becomes keeps its verdict, as clauses of a function without work.
 ghost use Rattle.std.specs.Prelude.{◌≡◌, ◌≤◌, ℕ, ℤ, List, length, Some};
+ghost use Rattle.cnf_base.specs.ProofText.{max_literal};
+ghost use Rattle.cnf_base.specs.Truth.{AreClausesOf};
 ghost use Rattle.lrat_rules.specs.Run.{Refutes};
 ghost use Rattle.lrat_checker.specs.declared.verdict.Verdict.TheVariants.{Verified};
 ghost use Rattle.lrat_checker.specs.TextVerdict.{max_bytes, text_verdict};
-ghost use Rattle.drat_proof.specs.Drat.{drat_steps};
+ghost use Rattle.drat_proof.specs.Drat.{drat, drat_steps};
 ghost use Rattle.drat_rules.specs.Run.{DratRefutes};
+ghost use Rattle.drat_checker.specs.DratVerdict.{drat_text_verdict};
 
 /// The steps of DRAT that a verified LRAT proof becomes refute the same clauses, without hints.
 pub fn drat_law()
@@ -13,7 +16,16 @@ pub fn drat_law()
         → DratRefutes clauses (drat_steps clauses bytes) }
     ensures refutes { (clauses : List (List ℤ)) (bytes : List ℕ) → length bytes ≤ max_bytes → Refutes clauses bytes
         → DratRefutes clauses (drat_steps clauses bytes) }
+    // The text that is written for them is verified too, unless it is longer than is looked at.
+    ensures written { (vars : ℕ) (clauses : List (List ℤ)) (bytes : List ℕ) → vars ≤ max_literal → AreClausesOf vars clauses
+        → text_verdict clauses bytes ≡ Some Verified → length (drat clauses bytes) ≤ max_bytes
+        → drat_text_verdict clauses (drat clauses bytes) ≡ Some Verified }
 {
     drat_rules::from_lrat_law();
     lrat_checker::check_law();
+    drat_checker::check_drat_law();
+    lrat_rules::start_law();
+    cnf_base::step_range_law();
+    lrat_text::whole_text_law();
+    lrat_text::long_text_law();
 }

@@ -10,7 +10,7 @@ use Rattle.cnf_base.specs.Truth.{is_literal_of}
 use Rattle.cnf_base.specs.Number.{is_digit, signed_number}
 use Rattle.cnf_base.specs.Text.{is_line_end, begins_with, words_of, row_of, rows, line_ends}
 use Rattle.cnf_base.specs.ProofText.{max_literal, all_given, split_at, is_zero, are_whole_lines}
-use Rattle.cnf_base.proofs.TextLemmas.{is_word, none_pass, words_of-join, join_one_line, rows-line, whole_lines-append}
+use Rattle.cnf_base.proofs.TextLemmas.{is_word, none_pass, words_of-join, join_one_line, rows-line, line_ends-line, whole_lines-append}
 use Rattle.cnf_base.proofs.NumberLemmas.{signed_number-signed_decimal, word_signed_decimal, delete_word_signed, first_digit}
 use Rattle.drat_text.specs.declared.step.DratStep.{DratStep}
 use Rattle.drat_text.specs.declared.step.DratStep.TheVariants.{Add as adds, Delete as deletes}
@@ -108,3 +108,7 @@ drat_lines-line bytes step whole good =
 pub whole-line : (bytes : List ℕ) (step : DratStep) → are_whole_lines (bytes ++ line_of_drat step) ≡ true
 whole-line bytes step = subst (λ bs. are_whole_lines bs ≡ true) (append_assoc bytes (join_with_byte 32 (drat_words step)) (10 ∷ []))
     (whole_lines-append (bytes ++ join_with_byte 32 (drat_words step)))
+
+pub line_ends-drat : (bytes : List ℕ) (step : DratStep) → is_drat_printable step ≡ true → line_ends (bytes ++ line_of_drat step)
+    ≡ line_ends bytes + 1
+line_ends-drat bytes step good = line_ends-line (join_with_byte 32 (drat_words step)) (one_line step good) bytes

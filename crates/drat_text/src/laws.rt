@@ -30,4 +30,6 @@ pub fn drat_line_law()
     ensures appended { (bytes : List ℕ) (step : DratStep) → IsTrue (are_whole_lines bytes) → IsTrue (is_drat_printable step)
         → drat_lines (bytes ++ line_of_drat step) ≡ drat_lines bytes ++ record { line = line_ends bytes + 1; step = Some step } ∷ [] }
     ensures whole { (bytes : List ℕ) (step : DratStep) → IsTrue (are_whole_lines (bytes ++ line_of_drat step)) }
+    ensures ends { (bytes : List ℕ) (step : DratStep) → IsTrue (is_drat_printable step) → line_ends (bytes ++ line_of_drat step)
+        ≡ line_ends bytes + 1 }
 {}

@@ -35,6 +35,7 @@ const CALLS: &str = "\
     8 3 0 6 2 0/9 -1 -2 -3 0 7 0/10 -2 -3 0 9 4 0/11 0 5 8 10 0/|error: write failed/;|s UNSATISFIABLE/;Unsat|s \
     UNSATISFIABLE/|\n\
     ProofIn 12;bddsat check both good;ReadFault*|none|error: read failed/;|;Verified|s VERIFIED/|none|\n\
+    ProofIn 8;bddsat check both hintless --format drat;ReadFault*|none|error: read failed/;|;Verified|s VERIFIED/|none|\n\
     ProofIn 12;bddsat drat both good --out out.lrat;ReadFault|*|error: read failed/;|0/;Verified|s VERIFIED/|0/|\n\
     ProofOut 4;bddsat drat both good --out out.lrat;WriteFault|*|error: write failed/;|0/;Verified|s VERIFIED/|0/|\n\
     Made 155;bddsat make board 3 --part cnf --out out.lrat;WriteFault|*|error: write failed/;|p cnf 8 19/1 2 0/-1 -2 0/\
@@ -141,6 +142,8 @@ const PIECES: &str = "\
     bddsat solve both --proof out.lrat --max-nodes 2;Unsat|s UNSATISFIABLE/|3 2 -1 0 0/\n\
     bddsat check both good;Verified|s VERIFIED/|none|\n\
     bddsat check both bad;NotVerified(1, NoConflict)|c line 1 NoConflict/s NOT VERIFIED/|none|\n\
+    bddsat check both bad --format drat;NotVerified(1, Syntax)|c line 1 Syntax/s NOT VERIFIED/|none|\n\
+    bddsat check both hintless --format drat;Verified|s VERIFIED/|none|\n\
     bddsat check both worse;NotVerified(2, HintNotLive)|c line 2 HintNotLive/s NOT VERIFIED/|none|\n\
     bddsat drat both worse --out out.lrat;NotVerified(2, HintNotLive)|c line 2 HintNotLive/s NOT VERIFIED/|0/|\n\
     bddsat solve chain --proof out.lrat;Sat|s SATISFIABLE/v 1 2 3 0/|\n\

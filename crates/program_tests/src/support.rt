@@ -19,6 +19,7 @@ tautology=p cnf 2 1/1 -1 0/
 good=3 0 1 2 0/
 bad=3 0 1 0/
 worse=3 0 1 2 0/4 1 0 9 0/
+hintless=1 0/0/
 order=
 natural=1 2 3/
 turned=3 2 1/

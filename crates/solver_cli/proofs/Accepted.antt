@@ -21,8 +21,10 @@ use Rattle.solver_cli.specs.ErrorText.{is_answer}
 use Rattle.solver_cli.specs.ExitCode.{status_of_run}
 use Rattle.solver_cli.specs.Phases.{WritesProof}
 use Rattle.solver_cli.specs.Stages.{Job, streams_of, Prepared, Uncreated, Undecided, bench_job, solve_job}
-use Rattle.solver_cli.specs.Headline.{Run, written_in, limits_given, decides, OutputFailed, IsUnharmed, GivesDecision, AsksBy, AsksFor}
-use Rattle.solver_cli.specs.Headline.{IsComplete, IsPlanAsked, MemoryIsWanted, NamedOutputFailed, name_given, RefusalsAreDue, ProofStands, WrittenStands}
+use Rattle.solver_cli.specs.Headline.{IsComplete, MemoryIsWanted, RefusalsAreDue, ProofStands, WrittenStands}
+use Rattle.solver_cli.specs.Run.{Run, written_in, limits_given, decides, OutputFailed, IsUnharmed, GivesDecision, AsksBy, AsksFor}
+use Rattle.solver_cli.specs.Run.{IsPlanAsked, name_given}
+use Rattle.solver_cli.specs.Faults.{NamedOutputFailed}
 use Rattle.solver_cli.proofs.Facts.{whole_of, no_answer, write_ends, same_command, not_unasked, only_misuse, only_help, decided_apart}
 use Rattle.solver_cli.proofs.Facts.{decided_unjudged, judged_apart}
 use Rattle.solver_cli.proofs.Reading.{rose_since}

@@ -5,23 +5,25 @@ use Rattle.cnf_base.specs.Formula.{Formula}
 use Rattle.host_io.specs.Files.{Files}
 use Rattle.host_io.specs.declared.role.Role.TheVariants.{Cnf, Order, Buckets, Schedule, ProofIn, ProofOut, Made, Out, Err}
 use Rattle.dimacs_reader.specs.Cnf.{CnfText, formula, refusal, overlong, cnf}
-use Rattle.lrat_checker.specs.TextVerdict.{text_verdict}
 use Rattle.lrat_checker.specs.declared.verdict.Verdict.{Verdict}
 use Rattle.cnf_base.specs.Order.{natural}
 use Rattle.schedule_plan.specs.OrderText.{OrderText, order as given_order, refusal as order_refusal, overlong as overlong_order, order_text}
 use Rattle.schedule_plan.specs.ScheduleText.{ScheduleText, plan as given_plan, refusal as schedule_refusal, overlong as overlong_schedule}
 use Rattle.schedule_plan.specs.ScheduleText.{schedule}
 use Rattle.schedule_plan.specs.declared.plan.Move.{Move}
+use Rattle.command_line.specs.declared.format.ProofFormat.{ProofFormat}
+use Rattle.command_line.specs.declared.format.ProofFormat.TheVariants.{Lrat}
 use Rattle.command_line.specs.Command.{Command, ToOrder, ToConvert, Solve, Check, Bench, Make, Arrange, Convert, Planned, ByName, ByFile}
 use Rattle.command_line.specs.Command.{ByBuckets, Found}
-use Rattle.command_line.specs.Command.{formula_file, mode_of, command}
+use Rattle.command_line.specs.Command.{command, format_of, formula_file, mode_of}
 use Rattle.solver_cli.specs.declared.status.Status.{Status}
 use Rattle.solver_cli.specs.declared.status.Status.TheVariants.{Sat, Unsat, Unknown, Verified, NotVerified, Done, Help, Usage, CnfRefused}
 use Rattle.solver_cli.specs.declared.status.Status.TheVariants.{OrderRefused, BucketsRefused, PlanRefused, TooLong, ReadFault, WriteFault, OutOfMemory}
 use Rattle.solver_cli.specs.Answer.{AreGiven, IsRead, IsOrdered, IsPlanned}
-use Rattle.solver_cli.specs.Headline.{Run, GivesCommand, GivesMake, AsksOver, AsksFor, AsksByOrder, AsksByBuckets, AsksBySchedule}
-use Rattle.solver_cli.specs.Headline.{AsksToJudge, HasVerdict, name_given}
+use Rattle.solver_cli.specs.Format.{verdict_in}
 use Rattle.solver_cli.specs.Headline.{CallsFor}
+use Rattle.solver_cli.specs.Run.{Run, GivesCommand, GivesMake, AsksOver, AsksFor, AsksByOrder, AsksByBuckets, AsksBySchedule, AsksToJudge}
+use Rattle.solver_cli.specs.Run.{HasVerdict, name_given}
 use Rattle.solver_cli.proofs.Facts.{one_text, same_command}
 
 -- The refusals, text by text: what a text is refused by, and what comes next where it is accepted.
@@ -75,8 +77,8 @@ after_formula run (Solve task) problem = with_order run task.order problem (λ o
 after_formula run (Bench task) problem = None
 after_formula run (Make task) problem = None
 after_formula run (Arrange task) problem = None
-after_formula run (Check task) problem = in_file (run.files task.proof) (λ bytes. by_proof (text_verdict problem.clauses bytes))
-after_formula run (Convert task) problem = in_file (run.files task.proof) (λ bytes. by_proof (text_verdict problem.clauses bytes))
+after_formula run (Check task) problem = in_file (run.files task.proof) (λ bytes. by_proof (verdict_in task.format problem.clauses bytes))
+after_formula run (Convert task) problem = in_file (run.files task.proof) (λ bytes. by_proof (verdict_in Lrat problem.clauses bytes))
 
 abbrev pub by_words : Run → Option Command → Option Status
 by_words run None = None
@@ -136,26 +138,26 @@ by_its_schedule run problem text a =
     ∙ reads run.files by_schedule a.read
 
 -- what stands in the named file decides
-in_named : (run : Run) (own : List ℕ) (problem : Formula) {file bytes : List ℕ} → ◌≡◌ {A = Option (List ℕ)} (Some own) (Some file)
-    → run.files file ≡ Some bytes
-    → in_file (run.files own) (λ bytes. by_proof (text_verdict problem.clauses bytes)) ≡ by_proof (text_verdict problem.clauses bytes)
-in_named run own problem {file = file} named stands =
-    ap (λ (b : Option (List ℕ)). in_file b (λ bytes. by_proof (text_verdict problem.clauses bytes))) (ap run.files (inner named) ∙ stands) where
+in_named : (run : Run) (format : ProofFormat) (own : List ℕ) (problem : Formula) {file bytes : List ℕ}
+    → ◌≡◌ {A = Option (List ℕ)} (Some own) (Some file) → run.files file ≡ Some bytes
+    → in_file (run.files own) (λ bytes. by_proof (verdict_in format problem.clauses bytes)) ≡ by_proof (verdict_in format problem.clauses bytes)
+in_named run format own problem {file = file} named stands =
+    ap (λ (b : Option (List ℕ)). in_file b (λ bytes. by_proof (verdict_in format problem.clauses bytes))) (ap run.files (inner named) ∙ stands) where
       inner : ◌≡◌ {A = Option (List ℕ)} (Some own) (Some file) → own ≡ file
       inner e = cc
 
 -- a command that names a proof's file goes by that
 after_judged : (run : Run) (asked : Command) (problem : Formula) {file bytes : List ℕ} → name_given ProofIn asked ≡ Some file
-    → run.files file ≡ Some bytes → after_formula run asked problem ≡ by_proof (text_verdict problem.clauses bytes)
+    → run.files file ≡ Some bytes → after_formula run asked problem ≡ by_proof (verdict_in (format_of asked) problem.clauses bytes)
 after_judged run (Solve task) problem named stands = cc
 after_judged run (Bench task) problem named stands = cc
 after_judged run (Make task) problem named stands = cc
 after_judged run (Arrange task) problem named stands = cc
-after_judged run (Check task) problem named stands = in_named run task.proof problem named stands
-after_judged run (Convert task) problem named stands = in_named run task.proof problem named stands
+after_judged run (Check task) problem named stands = in_named run task.format task.proof problem named stands
+after_judged run (Convert task) problem named stands = in_named run Lrat task.proof problem named stands
 
-to_judge : (run : Run) (problem : Formula) (bytes : List ℕ) → AsksToJudge run problem bytes → refusal_due run
-    ≡ by_proof (text_verdict problem.clauses bytes)
+to_judge : (run : Run) (problem : Formula) (bytes : List ℕ) (a : AsksToJudge run problem bytes) → refusal_due run
+    ≡ by_proof (verdict_in (format_of a.asked) problem.clauses bytes)
 to_judge run problem bytes a =
     asks run a.asked (formula problem) a.asks ∙ after_judged run a.asked problem a.named a.stands
 
@@ -245,7 +247,7 @@ long_only (Some bytes) verdict e = inner (verdict bytes) e where
 
 pub calls_long : (run : Run) (task : ToConvert) (problem : Formula) → AsksOver run (Convert task) (formula problem) → (status : Status)
     → CallsFor run status → status ≡ TooLong ProofIn
-calls_long run task problem a status is = long_only (run.files task.proof) (λ bytes. text_verdict problem.clauses bytes)
+calls_long run task problem a status is = long_only (run.files task.proof) (λ bytes. verdict_in Lrat problem.clauses bytes)
     (sym (asks run (Convert task) (formula problem) a) ∙ called run status is)
 
 -- a refusal is called for only where the words give a command

@@ -16,15 +16,16 @@ use Rattle.solver_cli.specs.ErrorText.{is_answer}
 use Rattle.solver_cli.specs.ExitCode.{status_of_convert}
 use Rattle.solver_cli.specs.DratProof.{RewritesProof}
 use Rattle.solver_cli.specs.Stages.{streams_of, Converted, Unconverted}
-use Rattle.solver_cli.specs.Headline.{Run, GivesConversion, HasFault, OutputFailed, AsksOver, AsksToJudge, IsConverted}
 use Rattle.solver_cli.specs.Headline.{WrittenStands}
+use Rattle.solver_cli.specs.Run.{Run, GivesConversion, HasFault, OutputFailed, AsksOver, AsksToJudge, IsConverted}
 use Rattle.solver_cli.proofs.Facts.{no_answer}
 use Rattle.solver_cli.proofs.Reading.{ok_err}
 use Rattle.solver_cli.proofs.CallsFor.{calls_long}
 use Rattle.solver_cli.proofs.Promised.{Core, due, no_text, no_verdict, quiet_output, same_written}
 use Rattle.solver_cli.proofs.Untaken.{took}
 use Rattle.solver_cli.proofs.Accepted.{Accepts, accepts_write}
-use Rattle.solver_cli.proofs.Unjudged.{Judging, Laws, check_complete, unjudged}
+use Rattle.solver_cli.proofs.VerdictLaws.{Laws}
+use Rattle.solver_cli.proofs.Unjudged.{Judging, check_complete, unjudged}
 use Rattle.solver_cli.proofs.Verdicts.{judged}
 
 -- what was written of the DRAT proof stands

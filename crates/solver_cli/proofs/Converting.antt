@@ -20,6 +20,7 @@ use Rattle.drat_proof.specs.Conversion.{AreFirstLines, HasVerdict, HasWritten, c
 use Rattle.drat_proof.specs.TwoRoles.{KeptButTwo, OnlyWrites, added}
 use Rattle.drat_proof.specs.declared.error.ConvertError.{ConvertError}
 use Rattle.drat_proof.specs.declared.error.ConvertError.TheVariants as error
+use Rattle.command_line.specs.declared.format.ProofFormat.TheVariants.{Lrat}
 use Rattle.solver_cli.specs.Phases.{ChecksProof, JudgesProof}
 use Rattle.solver_cli.specs.DratProof.{ConvertsProof, IsFront, RewritesProof}
 use Rattle.solver_cli.proofs.Facts.{behind, nothing_more, whole_of}
@@ -36,7 +37,7 @@ pub record Converts (tells : Bool) (in_old in_new out_old out_new : Channel) (cl
   pub write_fault : result ≡ Err error.WriteFault → Rose out_old.faults out_new.faults
   pub read : result ≢ Err error.ReadFault → in_new.faults ≡ in_old.faults
   pub unfailed : result ≢ Err error.WriteFault → out_new.faults ≡ out_old.faults
-  pub memory : IsTrue tells → result ≡ Err error.OutOfMemory → Wanted clauses in_old in_new
+  pub memory : IsTrue tells → result ≡ Err error.OutOfMemory → Wanted Lrat clauses in_old in_new
   pub reads : OnlyReads in_old in_new
   pub writes : OnlyWrites out_old out_new
 
@@ -54,7 +55,7 @@ unflushed {tells = tells} {in_old = in_old} {in_new = in_new} {out_old = out_old
         judged = λ t. Decides-whole (c.decides t);
         decided = λ t. Decides-taken (c.decides t);
         undecided = c.undecided;
-        memory = λ t e. wanted_by clauses in_old in_new (c.memory t e);
+        memory = λ t e. wanted_by Lrat clauses in_old in_new (c.memory t e);
         read_fault = c.read_fault;
         unfailed_reads = c.read;
         read_written = c.reads.written;
@@ -131,7 +132,7 @@ torn {tells = tells} {in_old = in_old} {in_new = in_new} {out_old = out_old} {ou
 -- the proof's file was not opened
 no_answer_read : {tells : Bool} {old new : Channel} {files : Files} {file : List ℕ} {clauses : List (List ℤ)} {opened : Result ⊤ Failed}
     → Opens old new file opened → IsErr opened → (answer : Result Verdict CheckError)
-    → ◌≡◌ {A = Result Verdict ConvertError} (Err error.ReadFault) (converted answer) → JudgesProof tells old new files file clauses answer
+    → ◌≡◌ {A = Result Verdict ConvertError} (Err error.ReadFault) (converted answer) → JudgesProof Lrat tells old new files file clauses answer
 no_answer_read opens failed (Ok verdict) e = absurd (ok_err (sym e))
 no_answer_read opens failed (Err check_error.ReadFault) e = unopened opens failed
 no_answer_read opens failed (Err check_error.TooLong) e = cc
@@ -210,7 +211,7 @@ read_failed (Err check_error.TooLong) e = cc
 read_failed (Err check_error.OutOfMemory) e = cc
 
 checks : {tells : Bool} {in_old in_new out_old out_new : Channel} {clauses : List (List ℤ)} (answer : Result Verdict CheckError)
-    → ConvertsProof tells in_old in_new out_old out_new clauses (converted answer) → ChecksProof tells in_old in_new clauses answer
+    → ConvertsProof tells in_old in_new out_old out_new clauses (converted answer) → ChecksProof Lrat tells in_old in_new clauses answer
 checks {in_old = in_old} {in_new = in_new} {clauses = clauses} answer c = record {
   judged = λ t. as_check answer (text_verdict clauses in_old.left) (c.judged t);
   decided = λ t. as_check answer (text_verdict clauses (gained in_old in_new)) (c.decided t);

@@ -5,7 +5,7 @@ use Rattle.host_io.specs.Files.{Files}
 use Rattle.schedule_plan.specs.declared.plan.Move.{Move}
 use Rattle.command_line.specs.Command.{Command, Solve, Check, Bench, Make, Arrange, Convert}
 use Rattle.solver_cli.specs.Answer.{AreGiven}
-use Rattle.solver_cli.specs.Headline.{Run, GivesDecision, AsksFor, decides}
+use Rattle.solver_cli.specs.Run.{Run, GivesDecision, AsksFor, decides}
 
 given_decides : (files : Files) (asked : Command) (problem : Formula) (order : List ℕ) (moves : List Move)
     → AreGiven files asked problem order moves → IsTrue (decides asked)

@@ -17,7 +17,7 @@ use Rattle.command_line.specs.Command.{Meaning, Asks}
 use Rattle.command_line.specs.Command.{AsksHelp, Misuse, IsOneOf, MayMean, CanOnlyMean, meanings, only_command, command}
 use Rattle.solver_cli.specs.ExitCode.{status_of_run}
 use Rattle.host_io.specs.declared.role.Role.TheVariants.{ProofIn}
-use Rattle.solver_cli.specs.Headline.{decides, name_given}
+use Rattle.solver_cli.specs.Run.{decides, name_given}
 
 -- what was written behind what stood there
 pub behind : (old new : Channel) (part : List ℕ) → new.written ≡ old.written ++ part → drop (length old.written) new.written ≡ part

@@ -9,7 +9,8 @@ use Rattle.command_line.specs.Command.{AsksHelp, Misuse}
 use Rattle.solver_cli.specs.ErrorText.{is_answer}
 use Rattle.solver_cli.specs.Phases.{PutsText}
 use Rattle.solver_cli.specs.Stages.{streams_of, Helped, status_of_help}
-use Rattle.solver_cli.specs.Headline.{Run, written_in, HasFault, RefusalsAreDue, IsHelp}
+use Rattle.solver_cli.specs.Headline.{RefusalsAreDue, IsHelp}
+use Rattle.solver_cli.specs.Run.{Run, written_in, HasFault}
 use Rattle.solver_cli.proofs.Facts.{behind, grown_by, no_answer, no_help}
 use Rattle.solver_cli.proofs.CallsFor.{calls_give}
 use Rattle.solver_cli.proofs.Promised.{Core, due, no_proof, no_text, no_verdict, none_written}

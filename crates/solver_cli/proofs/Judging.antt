@@ -6,79 +6,84 @@ use Rattle.host_io.specs.Channel.{Channel, Rose}
 use Rattle.host_io.specs.Files.{Files, Opens}
 use Rattle.host_io.specs.declared.source.Failed.{Failed}
 use Rattle.text_scan.specs.Decides.{gained, gained-none, Decides, OnlyReads, Decides-whole, Decides-taken}
-use Rattle.lrat_checker.specs.TextVerdict.{text_verdict, verdict_so_far, Answers}
+use Rattle.lrat_checker.specs.TextVerdict.{Answers}
 use Rattle.lrat_checker.specs.declared.verdict.Verdict.{Verdict}
 use Rattle.lrat_checker.specs.declared.verdict.CheckError.{CheckError}
 use Rattle.lrat_checker.specs.declared.verdict.CheckError.TheVariants.{ReadFault, OutOfMemory}
-use Rattle.lrat_checker.specs.Memory.{check_may_want_memory}
+use Rattle.command_line.specs.declared.format.ProofFormat.{ProofFormat}
+use Rattle.command_line.specs.declared.format.ProofFormat.TheVariants.{Lrat, Drat}
+use Rattle.solver_cli.specs.Format.{may_want_memory_in, so_far_in, verdict_in}
 use Rattle.solver_cli.specs.Phases.{ChecksProof, JudgesProof, WantsProof}
 use Rattle.solver_cli.proofs.Reading.{none_taken, rose_since}
 
 -- want of memory, as the check tells it
-abbrev pub Wanted : List (List ℤ) → Channel → Channel → Type 0
-Wanted clauses old new = (new ≡ old) ⊎ Decides old new (λ bytes more. IsTrue (check_may_want_memory clauses (length more) bytes))
+abbrev pub Wanted : ProofFormat → List (List ℤ) → Channel → Channel → Type 0
+Wanted format clauses old new = (new ≡ old)
+    ⊎ Decides old new (λ bytes more. IsTrue (may_want_memory_in format clauses (length more) bytes))
 
-pub wanted_by : (clauses : List (List ℤ)) (old new : Channel) → Wanted clauses old new → WantsProof clauses old.left (gained old new)
-wanted_by clauses old new (inl same) = inl (ap (gained old) same ∙ gained-none old)
-wanted_by clauses old new (inr decides) =
+pub wanted_by : (format : ProofFormat) (clauses : List (List ℤ)) (old new : Channel) → Wanted format clauses old new
+    → WantsProof format clauses old.left (gained old new)
+wanted_by format clauses old new (inl same) = inl (ap (gained old) same ∙ gained-none old)
+wanted_by format clauses old new (inr decides) =
     let parts : length old.left ≡ length (gained old new) + length new.left = ap length decides.left
     ∙ length-append (gained old new) new.left in
     let behind : length new.left ≡ length old.left - length (gained old new) = omega (arith, parts) in
-    inr (subst (λ n. IsTrue (check_may_want_memory clauses n old.left)) behind (Decides-whole decides), Decides-taken decides)
+    inr (subst (λ n. IsTrue (may_want_memory_in format clauses n old.left)) behind (Decides-whole decides), Decides-taken decides)
 
-seen : (tells : Bool) (old new : Channel) (clauses : List (List ℤ)) (result : Result Verdict CheckError)
-    → (IsTrue tells → Decides old new (λ bytes more. Answers result (text_verdict clauses bytes)))
+seen : (format : ProofFormat) (tells : Bool) (old new : Channel) (clauses : List (List ℤ)) (result : Result Verdict CheckError)
+    → (IsTrue tells → Decides old new (λ bytes more. Answers result (verdict_in format clauses bytes)))
     → (result ≡ Err ReadFault → Rose old.faults new.faults) → (result ≢ Err ReadFault → new.faults ≡ old.faults)
-    → (IsTrue tells → result ≡ Err ReadFault → verdict_so_far clauses (gained old new) ≡ None)
-    → (IsTrue tells → result ≡ Err OutOfMemory → Wanted clauses old new) → OnlyReads old new
-    → ChecksProof tells old new clauses result
-seen tells old new clauses result decides fault unfailed undecided memory reads = record {
+    → (IsTrue tells → result ≡ Err ReadFault → so_far_in format clauses (gained old new) ≡ None)
+    → (IsTrue tells → result ≡ Err OutOfMemory → Wanted format clauses old new) → OnlyReads old new
+    → ChecksProof format tells old new clauses result
+seen format tells old new clauses result decides fault unfailed undecided memory reads = record {
   judged = λ t. Decides-whole (decides t);
   decided = λ t. Decides-taken (decides t);
   fault = fault;
   unfailed = unfailed;
   undecided = undecided;
-  memory = λ t e. wanted_by clauses old new (memory t e);
+  memory = λ t e. wanted_by format clauses old new (memory t e);
   written = reads.written;
   name = reads.name;
   faults = reads.faults;
 }
 
-pub checked : {tells : Bool} {seen_old seen_new old new : Channel} {clauses : List (List ℤ)} {result : Result Verdict CheckError} → seen_old
-    ≡ old → new ≡ seen_new
-    → (IsTrue tells → Decides seen_old seen_new (λ bytes more. Answers result (text_verdict clauses bytes)))
+pub checked : (format : ProofFormat) {tells : Bool} {seen_old seen_new old new : Channel} {clauses : List (List ℤ)}
+    {result : Result Verdict CheckError} → seen_old ≡ old → new ≡ seen_new
+    → (IsTrue tells → Decides seen_old seen_new (λ bytes more. Answers result (verdict_in format clauses bytes)))
     → (result ≡ Err ReadFault → Rose seen_old.faults seen_new.faults) → (result ≢ Err ReadFault → seen_new.faults ≡ seen_old.faults)
-    → (IsTrue tells → result ≡ Err ReadFault → verdict_so_far clauses (gained seen_old seen_new) ≡ None)
-    → (IsTrue tells → result ≡ Err OutOfMemory → Wanted clauses seen_old seen_new) → OnlyReads seen_old seen_new
-    → ChecksProof tells old new clauses result
-checked {tells = tells} {seen_old = seen_old} {seen_new = seen_new} {old = old} {new = new} {clauses = clauses} {result = result} from to
+    → (IsTrue tells → result ≡ Err ReadFault → so_far_in format clauses (gained seen_old seen_new) ≡ None)
+    → (IsTrue tells → result ≡ Err OutOfMemory → Wanted format clauses seen_old seen_new) → OnlyReads seen_old seen_new
+    → ChecksProof format tells old new clauses result
+checked format {tells = tells} {seen_old = seen_old} {seen_new = seen_new} {old = old} {new = new} {clauses = clauses} {result = result} from to
     decides fault unfailed undecided memory reads =
-    subst (λ (o : Channel). ChecksProof tells o new clauses result) from
-    (subst (λ (n : Channel). ChecksProof tells seen_old n clauses result) (sym to)
-    (seen tells seen_old seen_new clauses result decides fault unfailed undecided memory reads))
+    subst (λ (o : Channel). ChecksProof format tells o new clauses result) from
+    (subst (λ (n : Channel). ChecksProof format tells seen_old n clauses result) (sym to)
+    (seen format tells seen_old seen_new clauses result decides fault unfailed undecided memory reads))
 
-empty_text : (clauses : List (List ℤ)) → verdict_so_far clauses [] ≡ None
-empty_text clauses = refl
+empty_text : (format : ProofFormat) (clauses : List (List ℤ)) → so_far_in format clauses [] ≡ None
+empty_text Lrat clauses = refl
+empty_text Drat clauses = refl
 
 -- the file was not opened
-pub unopened : {tells : Bool} {old new : Channel} {files : Files} {file : List ℕ} {clauses : List (List ℤ)} {answer : Result ⊤ Failed}
-    → Opens old new file answer → IsErr answer → JudgesProof tells old new files file clauses (Err ReadFault)
-unopened {clauses = clauses} opens failed = record {
+pub unopened : {format : ProofFormat} {tells : Bool} {old new : Channel} {files : Files} {file : List ℕ} {clauses : List (List ℤ)} {answer : Result ⊤ Failed}
+    → Opens old new file answer → IsErr answer → JudgesProof format tells old new files file clauses (Err ReadFault)
+unopened {format = format} {clauses = clauses} opens failed = record {
   read = λ t. inl refl;
   fault = λ e. opens.faults.cause failed;
   unfailed = λ no. absurd (no refl);
-  undecided = λ t e. ap (verdict_so_far clauses) (none_taken opens) ∙ empty_text clauses;
+  undecided = λ t e. ap (so_far_in format clauses) (none_taken opens) ∙ empty_text format clauses;
   written = opens.idle.written ∙ sym opens.was_idle.written;
   name = opens.failed failed;
   faults = opens.faults.no_less;
 }
 
 -- the file was opened, and then its text was judged
-pub judged : {tells : Bool} {old opened new : Channel} {files : Files} {file : List ℕ} {clauses : List
+pub judged : {format : ProofFormat} {tells : Bool} {old opened new : Channel} {files : Files} {file : List ℕ} {clauses : List
     (List ℤ)} {answer : Result ⊤ Failed} {result : Result Verdict CheckError}
     → Opens old opened file answer → IsOk answer → (IsTrue tells → files file ≡ Some opened.left)
-    → ChecksProof tells opened new clauses result → JudgesProof tells old new files file clauses result
-judged {tells = tells} {old = old} {opened = opened} {new = new} {clauses = clauses} {result = result} opens ok content checks =
+    → ChecksProof format tells opened new clauses result → JudgesProof format tells old new files file clauses result
+judged {format = format} {tells = tells} {old = old} {opened = opened} {new = new} {clauses = clauses} {result = result} opens ok content checks =
     let same : gained opened new ≡ gained old new = ap (λ (l : List ℕ). drop (length l) new.taken) (opens.idle.taken
     ∙ sym opens.was_idle.taken) in
     record {
@@ -86,12 +91,12 @@ judged {tells = tells} {old = old} {opened = opened} {new = new} {clauses = clau
         bytes = opened.left;
         stands = content t;
         judged = checks.judged t;
-        decided = subst (λ (l : List ℕ). Answers result (text_verdict clauses l)) same (checks.decided t);
-        memory = λ e. subst (WantsProof clauses opened.left) same (checks.memory t e);
+        decided = subst (λ (l : List ℕ). Answers result (verdict_in format clauses l)) same (checks.decided t);
+        memory = λ e. subst (WantsProof format clauses opened.left) same (checks.memory t e);
       });
       fault = λ e. rose_since opens.faults.no_less (checks.fault e);
       unfailed = λ no. checks.unfailed no ∙ opens.faults.unfailed ok;
-      undecided = λ t e. ap (verdict_so_far clauses) (sym same) ∙ checks.undecided t e;
+      undecided = λ t e. ap (so_far_in format clauses) (sym same) ∙ checks.undecided t e;
       written = checks.written ∙ opens.idle.written ∙ sym opens.was_idle.written;
       name = inl (checks.name ∙ opens.named ok);
       faults = omega (arith, opens.faults.no_less, checks.faults);

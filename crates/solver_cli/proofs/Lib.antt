@@ -8,6 +8,7 @@ pub mod Answering
 pub mod Complaints
 pub mod Facts
 pub mod CallsFor
+pub mod VerdictLaws
 pub mod Promised
 pub mod Helped
 pub mod Untaken
@@ -24,5 +25,7 @@ pub mod Told
 pub mod Whole
 pub mod Decided
 pub mod Puts
+pub mod CheckEnds
 pub mod SolveThenCheck
+pub mod DratThenCheck
 pub mod OrderLine

@@ -33,8 +33,9 @@ use Rattle.solver_cli.specs.Phases.{HasOrder, HasBuckets, HasPlan, Complains, bu
 use Rattle.solver_cli.specs.Stages.{Streams, FilesBeside, Helped, Job, NoneRead, Untaken, streams_of, Came, CameToAnswer, CameToArrange}
 use Rattle.solver_cli.specs.Stages.{CameToBench, CameToCheck, CameToConvert, CameToMake, CameToWrite, Stages, status_after}
 use Rattle.solver_cli.specs.Stages.{status_of_printed, status_of_written}
-use Rattle.solver_cli.specs.Headline.{Run, GivesConversion, GivesDecision, AsksFor, AsksToConvert, ConvertsAsItReads, ErrorStands}
-use Rattle.solver_cli.specs.Headline.{NamesAreGiven, ends_before_proof, ends_in_proof, name_given}
+use Rattle.solver_cli.specs.Headline.{ErrorStands, NamesAreGiven, ends_before_proof}
+use Rattle.solver_cli.specs.Run.{Run, GivesConversion, GivesDecision, AsksFor, AsksToConvert, name_given}
+use Rattle.solver_cli.specs.Faults.{ConvertsAsItReads, ends_in_proof}
 use Rattle.solver_cli.proofs.Facts.{behind, decided_apart, grown_by}
 use Rattle.solver_cli.proofs.Untaken.{took}
 use Rattle.solver_cli.proofs.Served.{order_name, buckets_name, plan_name}

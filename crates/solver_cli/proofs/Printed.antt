@@ -25,8 +25,8 @@ use Rattle.solver_cli.specs.Answer.{ending_text, last_identifier, outcome_at, sh
 use Rattle.solver_cli.specs.ErrorText.{is_answer}
 use Rattle.solver_cli.specs.Phases.{PutsText, WritesProof}
 use Rattle.solver_cli.specs.Stages.{Job, Answered, status_after}
-use Rattle.solver_cli.specs.Headline.{Run, written_in, limits_given, text_for, OutputFailed, AsksFor, AnswerTo, IsRefuted, IsSatisfied}
-use Rattle.solver_cli.specs.Headline.{IsUndecided, IsTrueAnswer, ProofStands}
+use Rattle.solver_cli.specs.Headline.{AnswerTo, IsRefuted, IsSatisfied, IsUndecided, IsTrueAnswer, ProofStands}
+use Rattle.solver_cli.specs.Run.{Run, written_in, limits_given, text_for, OutputFailed, AsksFor}
 use Rattle.solver_cli.proofs.Facts.{behind, grown_by, whole_of, no_answer}
 use Rattle.solver_cli.proofs.Promised.{Core, due, no_text, no_verdict}
 use Rattle.solver_cli.proofs.Accepted.{Posed, asks_by, asks_for, decision, same_limits, solve_complete, answer_due, Accepts, accepts_write}

@@ -12,10 +12,10 @@ use Rattle.solver_cli.specs.declared.status.Status.TheVariants.{OutOfMemory}
 use Rattle.command_line.specs.Command.{Command, AsksHelp, Misuse, command}
 use Rattle.solver_cli.specs.ErrorText.{is_answer}
 use Rattle.solver_cli.specs.Stages.{Streams, streams_of, Misused}
-use Rattle.solver_cli.specs.Headline.{Run, written_in, taken_in, InputFailed, NamedInputFailed, UnsatisfiableIsProved, SatisfiableIsTrue}
-use Rattle.solver_cli.specs.Headline.{LimitsAreReached, IsIdle, MemoryIsWanted}
-use Rattle.solver_cli.specs.Headline.{VerdictIsTrue, TextIsMade, MadeStands, GivesMake, IsDue, RefusalsAreDue, IsStillOpen}
-use Rattle.solver_cli.specs.Headline.{ConvertsAsItReads, FaultsAreCounted, OutputStands, WrittenStands, CallsFor, IsComplete}
+use Rattle.solver_cli.specs.Headline.{UnsatisfiableIsProved, SatisfiableIsTrue, LimitsAreReached, IsIdle, MemoryIsWanted, VerdictIsTrue}
+use Rattle.solver_cli.specs.Headline.{TextIsMade, MadeStands, IsDue, RefusalsAreDue, OutputStands, WrittenStands, CallsFor, IsComplete}
+use Rattle.solver_cli.specs.Run.{Run, written_in, taken_in, InputFailed, GivesMake}
+use Rattle.solver_cli.specs.Faults.{NamedInputFailed, IsStillOpen, ConvertsAsItReads, FaultsAreCounted}
 use Rattle.solver_cli.proofs.Facts.{behind, grown_by, nothing_more, no_answer, not_unasked, no_misuse, only_misuse, only_help}
 use Rattle.solver_cli.proofs.CallsFor.{one_call, no_call, no_call_arranged, no_call_judged, calls_give}
 

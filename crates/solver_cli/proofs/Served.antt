@@ -16,7 +16,7 @@ use Rattle.solver_cli.specs.declared.basis.Basis.{Basis}
 use Rattle.solver_cli.specs.Phases.{Finds, Makes, MakesByBuckets, Schedules, TakesOrder, HasOrder, HasBuckets, HasPlan}
 use Rattle.solver_cli.specs.Phases.{as_some, basis_of, moves_in}
 use Rattle.solver_cli.proofs.Reading.{ok_err, same_error}
-use Rattle.solver_cli.specs.Headline.{schedule_file}
+use Rattle.solver_cli.specs.Run.{schedule_file}
 
 -- no byte was written, and the count stayed where no call failed
 pub record IsServed {T E : Type 0} (fault : E) (old new : Channel) (result : Result T E) : Type 0 where

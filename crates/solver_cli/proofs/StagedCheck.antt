@@ -9,6 +9,7 @@ use Rattle.host_io.specs.Channel.{Channel}
 use Rattle.host_io.specs.Files.{Files, FilesBut, Others}
 use Rattle.lrat_checker.specs.declared.verdict.Verdict.{Verdict}
 use Rattle.lrat_checker.specs.declared.verdict.CheckError.{CheckError}
+use Rattle.command_line.specs.declared.format.ProofFormat.{ProofFormat}
 use Rattle.command_line.specs.Command.{ToCheck}
 use Rattle.solver_cli.specs.declared.status.Status.{Status}
 use Rattle.solver_cli.specs.ExitCode.{status_of_check}
@@ -18,9 +19,9 @@ use Rattle.solver_cli.specs.Stages.{streams_of, CameToCheck, status_of_printed}
 use Rattle.solver_cli.proofs.Staged.{still_taken, printed_from}
 
 -- the files are those before the formula was read
-judged_in : {tells : Bool} {old new : Channel} {file : List ℕ} {clauses : List (List ℤ)} {result : Result Verdict CheckError}
+judged_in : {format : ProofFormat} {tells : Bool} {old new : Channel} {file : List ℕ} {clauses : List (List ℤ)} {result : Result Verdict CheckError}
     (files before : Files) → FilesBut None before files
-    → JudgesProof tells old new files file clauses result → JudgesProof tells old new before file clauses result
+    → JudgesProof format tells old new files file clauses result → JudgesProof format tells old new before file clauses result
 judged_in {file = file} files before same judges = record {
   read = λ t. elim (judges.read t) [
     | inl fault ↦ inl fault
@@ -44,17 +45,17 @@ judged_in {file = file} files before same judges = record {
   none_some e = cc
 
 -- and so are the channels
-judged_from : {tells : Bool} {start old new now : Channel} {files : Files} {file : List ℕ} {clauses : List
+judged_from : {format : ProofFormat} {tells : Bool} {start old new now : Channel} {files : Files} {file : List ℕ} {clauses : List
     (List ℤ)} {result : Result Verdict CheckError} → old ≡ start → now ≡ new
-    → JudgesProof tells old new files file clauses result → JudgesProof tells start now files file clauses result
-judged_from {tells = tells} {start = start} {new = new} {files = files} {file = file} {clauses = clauses} {result = result} from to judges =
-    subst (λ (c : Channel). JudgesProof tells start c files file clauses result) (sym to)
-    (subst (λ (c : Channel). JudgesProof tells c new files file clauses result) from judges)
+    → JudgesProof format tells old new files file clauses result → JudgesProof format tells start now files file clauses result
+judged_from {format = format} {tells = tells} {start = start} {new = new} {files = files} {file = file} {clauses = clauses} {result = result} from to judges =
+    subst (λ (c : Channel). JudgesProof format tells start c files file clauses result) (sym to)
+    (subst (λ (c : Channel). JudgesProof format tells c new files file clauses result) from judges)
 
 pub unjudged : {tells : Bool} {task : ToCheck} {problem : Formula} {error : CheckError} {status : Status} (old taken new : Role
     → Channel) (before files : Files)
     → TakesFormula task.mode tells (old Cnf) (taken Cnf) before task.file (Ok problem) → Others Cnf old taken → FilesBut None before files
-    → JudgesProof tells (taken ProofIn) (new ProofIn) files task.proof problem.clauses (Err error) → Others ProofIn taken new → status
+    → JudgesProof task.format tells (taken ProofIn) (new ProofIn) files task.proof problem.clauses (Err error) → Others ProofIn taken new → status
     ≡ status_of_check error
     → CameToCheck tells (streams_of old) (streams_of new) before task status
 unjudged {task = task} {problem = problem} {error = error} old taken new before files takes beside_taken same judges beside_new ends =
@@ -75,7 +76,7 @@ unjudged {task = task} {problem = problem} {error = error} old taken new before 
 pub judged : {tells : Bool} {task : ToCheck} {problem : Formula} {verdict : Verdict} {printed : Result ⊤ Failed} {status : Status}
     (old taken checked new : Role → Channel) (before files : Files)
     → TakesFormula task.mode tells (old Cnf) (taken Cnf) before task.file (Ok problem) → Others Cnf old taken → FilesBut None before files
-    → JudgesProof tells (taken ProofIn) (checked ProofIn) files task.proof problem.clauses (Ok verdict) → Others ProofIn taken checked
+    → JudgesProof task.format tells (taken ProofIn) (checked ProofIn) files task.proof problem.clauses (Ok verdict) → Others ProofIn taken checked
     → PutsText tells (checked Out) (new Out) (verdict_text verdict) printed → Others Out checked new → status
     ≡ status_of_printed verdict printed
     → CameToCheck tells (streams_of old) (streams_of new) before task status

@@ -26,7 +26,8 @@ use Rattle.solver_cli.specs.Stages.{Streams, streams_of, Misused, Helped, Untake
 use Rattle.solver_cli.specs.Stages.{Benched, Unjudged, Judged, FormulaAlone, Came, CameToAnswer, CameToArrange, CameToBench, CameToCheck}
 use Rattle.solver_cli.specs.Stages.{CameToConvert, Converted, Unconverted}
 use Rattle.solver_cli.specs.Stages.{CameToMake, CameToWrite, Stages, status_of_help, status_after, status_of_printed, status_of_written}
-use Rattle.solver_cli.specs.Headline.{Run, ConvertsAsItReads, FailuresAreTold, ends_in_proof, written_in}
+use Rattle.solver_cli.specs.Run.{Run, written_in}
+use Rattle.solver_cli.specs.Faults.{ConvertsAsItReads, FailuresAreTold, ends_in_proof}
 use Rattle.solver_cli.proofs.Facts.{behind, nothing_more}
 use Rattle.solver_cli.proofs.Reading.{ok_err, same_error}
 use Rattle.solver_cli.specs.Phases.{TakesFormula, buckets_file}

@@ -1,51 +1,39 @@
 -- What is promised of a run that took its formula, and did not judge the proof that it names.
-use Rattle.std.proofs.Common.{◌≡◌, ◌<◌, ℕ, ℤ, List, length, refl, sym, ap₂, ◌∙◌, Some, None, Err, IsTrue, inl, inr}
+use Rattle.std.proofs.Common.{◌≡◌, ℕ, List, refl, sym, ◌∙◌, Some, Err, IsTrue, inl, inr}
 use Rattle.std.specs.Prelude.{Option, Result, ◌⊎◌}
 use Rattle.cnf_base.specs.Formula.{Formula}
 use Rattle.cnf_base.specs.Truth.{AreClausesOf}
-use Rattle.term_runner.specs.Proofs.{AreUnsatisfiable}
 use Rattle.dimacs_reader.specs.Cnf.{formula}
 use Rattle.host_io.specs.declared.role.Role.TheVariants.{ProofIn}
-use Rattle.lrat_rules.specs.Run.{Refutes, verdict}
-use Rattle.lrat_rules.specs.declared.outcome.Reason.{Reason}
-use Rattle.lrat_checker.specs.TextVerdict.{max_bytes, text_verdict}
 use Rattle.lrat_checker.specs.declared.verdict.Verdict.{Verdict}
-use Rattle.lrat_checker.specs.declared.verdict.Verdict.TheVariants as judgement
 use Rattle.lrat_checker.specs.declared.verdict.CheckError.{CheckError}
 use Rattle.lrat_checker.specs.declared.verdict.CheckError.TheVariants as error
 use Rattle.solver_cli.specs.declared.status.Status.{Status}
 use Rattle.solver_cli.specs.declared.status.Status.TheVariants.{TooLong, ReadFault, OutOfMemory}
 use Rattle.host_io.specs.declared.role.Role.TheVariants.{ProofOut, Made, Out}
-use Rattle.command_line.specs.Command.{Command, ToCheck, Check, command}
+use Rattle.command_line.specs.Command.{Command, ToCheck, Check, command, format_of}
 use Rattle.solver_cli.specs.ExitCode.{status_of_check}
+use Rattle.solver_cli.specs.Format.{verdict_in}
 use Rattle.solver_cli.specs.Verdict.{status_of_verdict}
 use Rattle.solver_cli.specs.Phases.{JudgesText, JudgesProof}
-use Rattle.solver_cli.specs.Headline.{Run, taken_in, IsUnharmed, AsksOver, AsksToJudge, HasVerdict, IsLongProof, IsOpenProof, CallsFor}
-use Rattle.solver_cli.specs.Headline.{GivesConversion, IsComplete, OutputFailed, WrittenStands, name_given}
+use Rattle.solver_cli.specs.Headline.{IsLongProof, CallsFor, IsComplete, WrittenStands}
+use Rattle.solver_cli.specs.Run.{Run, taken_in, IsUnharmed, AsksOver, AsksToJudge, HasVerdict, GivesConversion, OutputFailed, name_given}
+use Rattle.solver_cli.specs.Faults.{IsOpenProof}
 use Rattle.solver_cli.proofs.Facts.{one_proof, not_unasked, decided_unjudged, judged_apart, only_misuse, only_help}
-use Rattle.solver_cli.proofs.Facts.{same_formula}
+use Rattle.solver_cli.proofs.Facts.{same_command, same_formula}
 use Rattle.solver_cli.proofs.CallsFor.{same_text}
+use Rattle.solver_cli.proofs.VerdictLaws.{Laws}
 use Rattle.solver_cli.proofs.Promised.{Core, LeftAlone, left_proof, refused, short, unread}
 use Rattle.solver_cli.proofs.Deciding.{deciding}
 
--- that bytes which refute a formula leave it no satisfying assignment
-abbrev pub Law : Type 0
-Law = (vars : ℕ) (clauses : List (List ℤ)) (bytes : List ℕ) → AreClausesOf vars clauses → Refutes clauses bytes → AreUnsatisfiable clauses
-
--- the laws of the rules and of the check
-pub record Laws : Type 0 where
-  pub sound : Law
-  pub verified : (clauses : List (List ℤ)) (bytes : List ℕ) → text_verdict clauses bytes ≡ Some judgement.Verified → Refutes clauses bytes
-  pub refused : (clauses : List (List ℤ)) (bytes : List ℕ) (line : ℕ) (reason : Reason)
-      → text_verdict clauses bytes ≡ Some (judgement.Refused line reason) → verdict clauses bytes ≡ Some (line, reason)
-  pub overlong : (clauses : List (List ℤ)) (bytes : List ℕ) → text_verdict clauses bytes ≡ None → max_bytes < length bytes
-
 -- the words name one formula and one proof, which has one verdict
-pub one_verdict : (run : Run) {problem other : Formula} {bytes text : List ℕ} → AsksToJudge run problem bytes → AsksToJudge run other text
-    → text_verdict problem.clauses bytes ≡ text_verdict other.clauses text
-one_verdict run here there = ap₂ (λ (p : Formula) (b : List ℕ). text_verdict p.clauses b)
-    (same_formula refl (same_text run here.asks there.asks))
-    (one_proof run.files here.asks.command there.asks.command here.named there.named here.stands there.stands)
+pub one_verdict : (run : Run) {problem other : Formula} {bytes text : List ℕ} (here : AsksToJudge run problem bytes)
+    (there : AsksToJudge run other text)
+    → verdict_in (format_of here.asked) problem.clauses bytes ≡ verdict_in (format_of there.asked) other.clauses text
+one_verdict run here there =
+    let same_problem = same_formula refl (same_text run here.asks there.asks) in
+    let same_bytes = one_proof run.files here.asks.command there.asks.command here.named there.named here.stands there.stands in
+    λ i. verdict_in (format_of (same_command here.asks.command there.asks.command i)) (same_problem i).clauses (same_bytes i)
 
 pub one_some : {text : Option Verdict} (here there : Verdict) → text ≡ Some here → text ≡ Some there → here ≡ there
 one_some here there e d = inner (sym e ∙ d) where
@@ -99,7 +87,7 @@ check_complete run j uncalled judges = record {
 
 -- the proof was not judged
 pub unjudged : Laws → (run : Run) {problem : Formula} (j : Judging run problem) → run.after Out ≡ run.before Out → (e : CheckError)
-    → JudgesProof run.tells (run.before ProofIn) (run.after ProofIn) run.files j.file problem.clauses (Err e)
+    → JudgesProof (format_of j.asked) run.tells (run.before ProofIn) (run.after ProofIn) run.files j.file problem.clauses (Err e)
     → run.status ≡ status_of_check e → Core run
 unjudged laws run {problem = problem} j out = go where
   alone : (status : Status) → LeftAlone run status
@@ -111,10 +99,10 @@ unjudged laws run {problem = problem} j out = go where
   }
 
   to_judge : {result : Result Verdict CheckError} → IsTrue run.tells
-      → (text : JudgesText run.files j.file problem.clauses (taken_in run ProofIn) result) → AsksToJudge run problem text.bytes
+      → (text : JudgesText (format_of j.asked) run.files j.file problem.clauses (taken_in run ProofIn) result) → AsksToJudge run problem text.bytes
   to_judge t text = record { asked = j.asked; asks = j.read t; file = j.file; named = j.named; stands = text.stands }
 
-  go : (e : CheckError) → JudgesProof run.tells (run.before ProofIn) (run.after ProofIn) run.files j.file problem.clauses (Err e)
+  go : (e : CheckError) → JudgesProof (format_of j.asked) run.tells (run.before ProofIn) (run.after ProofIn) run.files j.file problem.clauses (Err e)
       → run.status ≡ status_of_check e → Core run
   go error.ReadFault judges ends = unread run j.asked j.gives (alone ReadFault) ends
       (ProofIn, tt, judges.fault refl, j.asked, j.file, j.gives, j.named)
@@ -134,7 +122,7 @@ unjudged laws run {problem = problem} j out = go where
         no_fault : ◌≡◌ {A = Result Verdict CheckError} (Err error.TooLong) (Err error.ReadFault) → ⊥
         no_fault e = cc
 
-        text_of : IsTrue run.tells → JudgesText run.files j.file problem.clauses (taken_in run ProofIn) (Err error.TooLong)
+        text_of : IsTrue run.tells → JudgesText (format_of j.asked) run.files j.file problem.clauses (taken_in run ProofIn) (Err error.TooLong)
         text_of t = elim (judges.read t) [ inl e ↦ absurd (no_fault e) | inr text ↦ text ]
 
         is_long : IsTrue run.tells → IsLongProof run
@@ -144,7 +132,7 @@ unjudged laws run {problem = problem} j out = go where
           asked = to_judge t text;
           judged = text.judged;
           decided = text.decided;
-          long = laws.overlong problem.clauses (taken_in run ProofIn) text.decided;
+          long = laws.overlong (format_of j.asked) problem.clauses (taken_in run ProofIn) text.decided;
         }
   go error.OutOfMemory judges ends = short run j.asked j.gives (alone OutOfMemory) (inr (inr (inr (inr (inr (inr (inl (record {
     asked = j.asked;
@@ -159,5 +147,5 @@ unjudged laws run {problem = problem} j out = go where
     no_fault : ◌≡◌ {A = Result Verdict CheckError} (Err error.OutOfMemory) (Err error.ReadFault) → ⊥
     no_fault e = cc
 
-    text_of : IsTrue run.tells → JudgesText run.files j.file problem.clauses (taken_in run ProofIn) (Err error.OutOfMemory)
+    text_of : IsTrue run.tells → JudgesText (format_of j.asked) run.files j.file problem.clauses (taken_in run ProofIn) (Err error.OutOfMemory)
     text_of t = elim (judges.read t) [ inl e ↦ absurd (no_fault e) | inr text ↦ text ]

@@ -28,8 +28,9 @@ use Rattle.solver_cli.specs.declared.basis.Basis.{Basis}
 use Rattle.solver_cli.specs.Phases.{ReadsText, TakesFormula, TakesOrder, TakesSchedule, HasOrder, HasBuckets, HasPlan, as_some, basis_of}
 use Rattle.solver_cli.specs.Phases.{WantsRead, buckets_file, order_wants, schedule_wants}
 use Rattle.solver_cli.specs.Stages.{streams_of, Untaken, Unordered, Unbucketed, Unplanned}
-use Rattle.solver_cli.specs.Headline.{Run, taken_in, AsksOver, IsRefusedBy, OrderIsRefusedBy, BucketsAreRefusedBy, ScheduleIsRefusedBy}
-use Rattle.solver_cli.specs.Headline.{IsOpenFormula, MemoryIsWanted, schedule_file}
+use Rattle.solver_cli.specs.Headline.{IsRefusedBy, OrderIsRefusedBy, BucketsAreRefusedBy, ScheduleIsRefusedBy, MemoryIsWanted}
+use Rattle.solver_cli.specs.Run.{Run, taken_in, AsksOver, schedule_file}
+use Rattle.solver_cli.specs.Faults.{IsOpenFormula}
 use Rattle.solver_cli.proofs.Reading.{text_read, ok_err, same_error}
 use Rattle.solver_cli.proofs.Facts.{same_command, decided_apart}
 use Rattle.solver_cli.proofs.Promised.{Core, LeftAlone, left_proof, refused, short, unread, untouched}

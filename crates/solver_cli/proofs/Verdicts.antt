@@ -1,11 +1,10 @@
 -- What is promised of a run that judged its proof.
-use Rattle.std.proofs.Common.{◌≡◌, ℕ, true, false, List, [], ◌++◌, append-nil, refl, sym, ap, ◌∙◌, subst, Some, Ok, Err, IsTrue, inl, inr}
+use Rattle.std.proofs.Common.{◌≡◌, ℕ, true, false, List, [], ◌++◌, append-nil, refl, sym, ap, ◌∙◌, Some, Ok, Err, IsTrue, inl, inr}
 use Rattle.std.proofs.Common.{true≢false}
 use Rattle.std.specs.Prelude.{Result, ⊤}
 use Rattle.cnf_base.specs.Formula.{Formula}
 use Rattle.host_io.specs.declared.role.Role.TheVariants.{ProofIn, Out}
 use Rattle.host_io.specs.declared.source.Failed.{Failed}
-use Rattle.lrat_rules.specs.Run.{Refutes}
 use Rattle.lrat_rules.specs.declared.outcome.Reason.{Reason}
 use Rattle.lrat_checker.specs.declared.verdict.Verdict.{Verdict}
 use Rattle.lrat_checker.specs.declared.verdict.Verdict.TheVariants as judgement
@@ -18,13 +17,15 @@ use Rattle.solver_cli.specs.ErrorText.{is_answer}
 use Rattle.solver_cli.specs.Verdict.{verdict_text, status_of_verdict}
 use Rattle.solver_cli.specs.Phases.{JudgesProof, JudgesText, PutsText}
 use Rattle.solver_cli.specs.Stages.{status_of_printed}
-use Rattle.solver_cli.specs.Headline.{Run, written_in, taken_in, OutputFailed, HasVerdict, RefusalsAreDue, CallsFor, VerdictOn}
-use Rattle.solver_cli.specs.Headline.{GivesConversion, IsConverted, IsTrueAnswer}
+use Rattle.command_line.specs.Command.{format_of}
+use Rattle.solver_cli.specs.Headline.{RefusalsAreDue, CallsFor, VerdictOn, IsTrueAnswer}
+use Rattle.solver_cli.specs.Run.{Run, written_in, taken_in, OutputFailed, HasVerdict, GivesConversion, IsConverted}
 use Rattle.solver_cli.proofs.Facts.{behind, grown_by, no_answer}
 use Rattle.solver_cli.proofs.CallsFor.{no_call_judged}
 use Rattle.solver_cli.proofs.Promised.{Core, due, no_text, no_verdict}
 use Rattle.solver_cli.proofs.Accepted.{Accepts, accepts_write}
-use Rattle.solver_cli.proofs.Unjudged.{Judging, Laws, one_verdict, one_some, check_complete}
+use Rattle.solver_cli.proofs.VerdictLaws.{Laws}
+use Rattle.solver_cli.proofs.Unjudged.{Judging, one_verdict, one_some, check_complete}
 
 -- statuses of verdicts
 
@@ -68,7 +69,7 @@ verdict_due run (judgement.Refused line reason) ends = due run ends tt
 
 -- the proof was judged, and what it becomes was written where that is asked for
 pub judged : Laws → (run : Run) {problem : Formula} (j : Judging run problem) (verdict : Verdict)
-    → JudgesProof run.tells (run.before ProofIn) (run.after ProofIn) run.files j.file problem.clauses (Ok verdict)
+    → JudgesProof (format_of j.asked) run.tells (run.before ProofIn) (run.after ProofIn) run.files j.file problem.clauses (Ok verdict)
     → (IsTrue run.tells → GivesConversion run → (bytes : List ℕ) → run.files j.file ≡ Some bytes → IsConverted run problem bytes)
     → (printed : Result ⊤ Failed) → PutsText run.tells (run.before Out) (run.after Out) (verdict_text verdict) printed
     → run.status ≡ status_of_printed verdict printed → Core run
@@ -79,7 +80,7 @@ judged laws run {problem = problem} j verdict judges converts = go where
   no_fault : (v : Verdict) → ◌≡◌ {A = Result Verdict CheckError} (Ok v) (Err error.ReadFault) → ⊥
   no_fault v e = cc
 
-  judged_text : IsTrue run.tells → JudgesText run.files j.file problem.clauses (taken_in run ProofIn) (Ok verdict)
+  judged_text : IsTrue run.tells → JudgesText (format_of j.asked) run.files j.file problem.clauses (taken_in run ProofIn) (Ok verdict)
   judged_text t = elim (judges.read t) [ inl e ↦ absurd (no_fault verdict e) | inr found ↦ found ]
 
   has : (t : IsTrue run.tells) → HasVerdict run problem (judged_text t).bytes verdict
@@ -89,7 +90,7 @@ judged laws run {problem = problem} j verdict judges converts = go where
   }
 
   has_as : (t : IsTrue run.tells) (v : Verdict) → verdict ≡ v → HasVerdict run problem (judged_text t).bytes v
-  has_as t v is = subst (λ (x : Verdict). HasVerdict run problem (judged_text t).bytes x) is (has t)
+  has_as t v is = record { asked = (has t).asked; judged = (has t).judged ∙ ap (λ (x : Verdict). Some x) is }
 
   same_verdict : (other : Formula) (bytes : List ℕ) (v : Verdict) → HasVerdict run other bytes v → IsTrue run.tells → verdict ≡ v
   same_verdict other bytes v given t = let here = has t in one_some verdict v (one_verdict run given.asked here.asked
@@ -130,15 +131,13 @@ judged laws run {problem = problem} j verdict judges converts = go where
             λ t.
                 let is : verdict ≡ judgement.Verified = is_verified verdict (sym ends ∙ e) in
                 let verified : HasVerdict run problem (judged_text t).bytes judgement.Verified = has_as t judgement.Verified is in
-                let refutes : Refutes problem.clauses (judged_text t).bytes = laws.verified problem.clauses
-                (judged_text t).bytes verified.judged in
                 record {
                   problem = problem;
                   bytes = (judged_text t).bytes;
                   has = verified;
                   converted = converted t;
-                  refuted = refutes;
-                  unsatisfiable = laws.sound problem.vars problem.clauses (judged_text t).bytes j.literals refutes;
+                  refuted = laws.verified (format_of j.asked) problem.clauses (judged_text t).bytes verified.judged;
+                  unsatisfiable = laws.sound (format_of j.asked) problem.vars problem.clauses (judged_text t).bytes j.literals verified.judged;
                   printed = all t ∙ ap verdict_text is;
                 },
           );
@@ -153,7 +152,7 @@ judged laws run {problem = problem} j verdict judges converts = go where
                   bytes = (judged_text t).bytes;
                   has = refused;
                   converted = converted t;
-                  refused = laws.refused problem.clauses (judged_text t).bytes line reason refused.judged;
+                  refused = laws.refused (format_of j.asked) problem.clauses (judged_text t).bytes line reason refused.judged;
                   printed = all t ∙ ap verdict_text is;
                 },
           );

@@ -11,14 +11,17 @@ use Rattle.solver_cli.specs.Phases.{Complains}
 use Rattle.command_line.specs.Command.{ToConvert, Solve, Check, Bench, Make, Arrange, Convert}
 use Rattle.solver_cli.specs.Stages.{Streams, FilesBeside, Job, streams_of, Came, CameToAnswer, CameToArrange, CameToBench, CameToCheck}
 use Rattle.solver_cli.specs.Stages.{CameToConvert, CameToMake, Stages}
-use Rattle.solver_cli.specs.Headline.{Run, ConvertsAsItReads, Promises}
+use Rattle.solver_cli.specs.Headline.{Promises}
+use Rattle.solver_cli.specs.Run.{Run}
+use Rattle.solver_cli.specs.Faults.{ConvertsAsItReads}
 use Rattle.solver_cli.proofs.Facts.{same_command}
 use Rattle.solver_cli.proofs.Promised.{Core, misused}
 use Rattle.solver_cli.proofs.Helped.{helped}
 use Rattle.solver_cli.proofs.Untaken.{took, untaken, unordered, unbucketed, unplanned}
 use Rattle.solver_cli.proofs.Accepted.{Posed, posed_by_board, posed_by_files, uncreated, undecided}
 use Rattle.solver_cli.proofs.Printed.{answered}
-use Rattle.solver_cli.proofs.Unjudged.{Laws, checks, unjudged}
+use Rattle.solver_cli.proofs.VerdictLaws.{Laws}
+use Rattle.solver_cli.proofs.Unjudged.{checks, unjudged}
 use Rattle.solver_cli.proofs.Conversions.{converted, unconverted}
 use Rattle.solver_cli.proofs.Verdicts.{judged}
 use Rattle.solver_cli.proofs.Texts.{arranged, made, unarranged, unmade}

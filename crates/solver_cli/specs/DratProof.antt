@@ -13,6 +13,7 @@ use Rattle.drat_proof.specs.Conversion.{AreFirstLines, HasVerdict as IsAnswered,
 use Rattle.drat_proof.specs.TwoRoles.{added}
 use Rattle.drat_proof.specs.declared.error.ConvertError.{ConvertError}
 use Rattle.drat_proof.specs.declared.error.ConvertError.TheVariants.{ReadFault, OutOfMemory, WriteFault}
+use Rattle.command_line.specs.declared.format.ProofFormat.TheVariants.{Lrat}
 use Rattle.solver_cli.specs.Phases.{JudgesProof, WantsProof}
 
 -- this is said of the DRAT proof that the text in the file of this name becomes
@@ -30,7 +31,7 @@ pub record ConvertsProof (tells : Bool) (in_old in_new out_old out_new : Channel
   pub judged : IsTrue tells → IsAnswered result (text_verdict clauses in_old.left)
   pub decided : IsTrue tells → IsAnswered result (text_verdict clauses (gained in_old in_new))
   pub undecided : IsTrue tells → result ≡ Err ReadFault → verdict_so_far clauses (gained in_old in_new) ≡ None
-  pub memory : IsTrue tells → result ≡ Err OutOfMemory → WantsProof clauses in_old.left (gained in_old in_new)
+  pub memory : IsTrue tells → result ≡ Err OutOfMemory → WantsProof Lrat clauses in_old.left (gained in_old in_new)
   pub read_fault : result ≡ Err ReadFault → Rose in_old.faults in_new.faults
   pub unfailed_reads : result ≢ Err ReadFault → in_new.faults ≡ in_old.faults
   pub read_written : in_new.written ≡ in_old.written
@@ -46,7 +47,7 @@ pub record ConvertsProof (tells : Bool) (in_old in_new out_old out_new : Channel
 pub record RewritesProof (tells : Bool) (in_old in_new out_old out_new : Channel) (files : Files) (file out : List ℕ)
     (clauses : List (List ℤ)) (result : Result Verdict ConvertError) : Type 0 where
   pub judges : (answer : Result Verdict CheckError) → result ≡ converted answer
-      → JudgesProof tells in_old in_new files file clauses answer
+      → JudgesProof Lrat tells in_old in_new files file clauses answer
   pub unfailed_reads : result ≢ Err ReadFault → in_new.faults ≡ in_old.faults
   pub read_written : in_new.written ≡ in_old.written
   pub read_name : (in_new.name ≡ Some file) ⊎ (in_new.name ≡ None)

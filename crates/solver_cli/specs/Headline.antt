@@ -1,27 +1,23 @@
 -- What the program promises, over one run of it: its words, the host before and after, and how it ended. What it
 -- says of bytes is said of hosts that tell their bytes.
-use Rattle.std.specs.Prelude.{◌≡◌, ◌≢◌, ◌⊎◌, ◌++◌, ◌<◌, ℕ, Bool, true, false, List, [], Option, None, Some, length, drop, IsTrue, IsFalse}
+use Rattle.std.specs.Prelude.{◌≡◌, ◌≢◌, ◌⊎◌, ◌++◌, ◌<◌, ℕ, Bool, true, false, List, [], None, Some, length, IsTrue, IsFalse}
 use Rattle.std.specs.Prelude.{⊤}
 use Rattle.cnf_base.specs.Truth.{Satisfies, assignment_of}
 use Rattle.cnf_base.specs.Formula.{Formula}
 use Rattle.host_io.specs.declared.role.Role.{Role}
 use Rattle.host_io.specs.declared.role.Role.TheVariants.{Cnf, Order, Buckets, Schedule, ProofIn, ProofOut, Made, Out, Err}
-use Rattle.host_io.specs.Channel.{Channel, Rose}
-use Rattle.host_io.specs.Files.{Files, IsInput, IsCreated}
-use Rattle.dimacs_reader.specs.Cnf.{CnfText, formula, refusal, overlong, cnf, cnf_so_far}
-use Rattle.lrat_rules.specs.Run.{Refutes, verdict}
+use Rattle.dimacs_reader.specs.Cnf.{CnfText, formula, refusal, overlong, cnf}
+use Rattle.lrat_rules.specs.Run.{Refutes}
 use Rattle.lrat_rules.specs.declared.outcome.Reason.{Reason}
-use Rattle.lrat_checker.specs.TextVerdict.{max_bytes, text_verdict, verdict_so_far}
+use Rattle.lrat_checker.specs.TextVerdict.{max_bytes}
 use Rattle.lrat_checker.specs.declared.verdict.Verdict.{Verdict}
 use Rattle.lrat_checker.specs.declared.verdict.Verdict.TheVariants as judgement
 use Rattle.drat_proof.specs.Drat.{drat, drat_steps}
 use Rattle.drat_proof.specs.Conversion.{AreFirstLines}
 use Rattle.schedule_plan.specs.OrderText.{OrderText, order as given_order, refusal as order_refusal, overlong as overlong_order}
-use Rattle.schedule_plan.specs.OrderText.{order_text, order_so_far}
+use Rattle.schedule_plan.specs.OrderText.{order_text}
 use Rattle.schedule_plan.specs.ScheduleText.{ScheduleText, refusal as schedule_refusal, overlong as overlong_schedule, schedule}
-use Rattle.schedule_plan.specs.ScheduleText.{schedule_so_far}
 use Rattle.schedule_plan.specs.declared.plan.Move.{Move}
-use Rattle.schedule_plan.specs.declared.limits.Limits.{Limits}
 use Rattle.term_runner.specs.declared.outcome.Outcome.{Outcome}
 use Rattle.term_runner.specs.declared.outcome.Outcome.TheVariants as outcome
 use Rattle.term_runner.specs.Clauses.{has_empty_clause, one_line}
@@ -31,211 +27,24 @@ use Rattle.term_runner.specs.Width.{HasWidth}
 use Rattle.term_runner.specs.Ends.{Says, Shows}
 use Rattle.term_runner.specs.Recovered.{IsRecovered}
 use Rattle.answer_text.specs.Status.{verified_line, refused_text}
-use Rattle.command_line.specs.Command.{Command, ToSolve, ToBench, ToMake, ToOrder, ToConvert, Solve, Check, Bench, Make}
-use Rattle.command_line.specs.Command.{Arrange, Convert, Planned}
-use Rattle.command_line.specs.Command.{ByName, ByFile}
-use Rattle.command_line.specs.Command.{ByBuckets, Found, formula_file}
-use Rattle.command_line.specs.Command.{mode_of, AsksHelp, Misuse, MayMean, CanOnlyMean, command, limits_asked}
+use Rattle.command_line.specs.Command.{Command, ToSolve, ToMake, ToOrder, Solve, Make}
+use Rattle.command_line.specs.Command.{Arrange, ByFile, ByBuckets, format_of, formula_file, mode_of, AsksHelp, Misuse, MayMean, CanOnlyMean, command}
 use Rattle.solver_cli.specs.declared.status.Why.{Why}
 use Rattle.solver_cli.specs.declared.status.Status.{Status}
 use Rattle.solver_cli.specs.declared.status.Status.TheVariants.{Sat, Unsat, Unknown, Verified, NotVerified, Done, Help, Usage, CnfRefused}
 use Rattle.solver_cli.specs.declared.status.Status.TheVariants.{OrderRefused, BucketsRefused, PlanRefused, TooLong, ReadFault, WriteFault}
 use Rattle.solver_cli.specs.declared.status.Status.TheVariants.{OutOfMemory}
 use Rattle.solver_cli.specs.ErrorText.{error_text, is_answer}
-use Rattle.workload.specs.Board.{board_formula}
-use Rattle.solver_cli.specs.Answer.{AreGiven, AreOfBoard, IsRead, IsOrdered, IsOrderOf, Holds, answer_text, outcome_at, status_of}
+use Rattle.solver_cli.specs.Answer.{IsRead, IsOrdered, IsOrderOf, Holds, outcome_at, status_of}
+use Rattle.solver_cli.specs.Format.{verdict_in, RefutesIn, IsRefusedIn}
 use Rattle.solver_cli.specs.MadeText.{made_text, order_line}
-use Rattle.solver_cli.specs.Phases.{WantsProof, WantsRead, buckets_file, cnf_wants, order_wants, schedule_wants}
+use Rattle.solver_cli.specs.Phases.{WantsProof, WantsRead, cnf_wants, order_wants, schedule_wants}
 use Rattle.solver_cli.specs.Verdict.{verdict_text, status_of_verdict}
-
--- One run of the program: whether the host tells its bytes, the words, the roles and the files before, the roles
--- and the files after, and how it ended.
-pub record Run : Type 0 where
-  pub tells : Bool
-  pub words : List (List ℕ)
-  pub before : Role → Channel
-  pub after : Role → Channel
-  pub files : Files
-  pub files_after : Files
-  pub status : Status
-
--- the bytes that a role wrote in the run, and those that it took
-abbrev pub written_in : Run → Role → List ℕ
-written_in run role = drop (length (run.before role).written) (run.after role).written
-
-abbrev pub taken_in : Run → Role → List ℕ
-taken_in run role = drop (length (run.before role).taken) (run.after role).taken
-
--- the limits that the words give
-abbrev pub limits_given : Run → Limits
-limits_given run = limits_asked (command run.words)
-
--- the role's count of faults rose
-abbrev pub HasFault : Run → Role → Type 0
-HasFault run role = Rose (run.before role).faults (run.after role).faults
-
--- a call on a file that is read failed, or one on a file that is created or on standard output
-abbrev pub InputFailed : Run → Type 0
-InputFailed run = (role : Role) × IsInput role × HasFault run role
-
-abbrev pub OutputFailed : Run → Type 0
-OutputFailed run = (role : Role) × (IsCreated role ⊎ (role ≡ Out)) × HasFault run role
-
--- no call failed, standard error aside
-abbrev pub IsUnharmed : Run → Type 0
-IsUnharmed run = (InputFailed run → ⊥) × (OutputFailed run → ⊥)
-
--- the words give a command; they give `solve`; they give `make`; they give `drat`
-abbrev pub GivesCommand : Run → Type 0
-GivesCommand run = (asked : Command) × (command run.words ≡ Some asked)
-
-abbrev pub GivesSolve : Run → Type 0
-GivesSolve run = (task : ToSolve) × (command run.words ≡ Some (Solve task))
-
-abbrev pub GivesMake : Run → Type 0
-GivesMake run = (task : ToMake) × (command run.words ≡ Some (Make task))
-
-abbrev pub GivesConversion : Run → Type 0
-GivesConversion run = (task : ToConvert) × (command run.words ≡ Some (Convert task))
-
--- they give `solve` or `bench`, which decide a formula
-abbrev pub decides : Command → Bool
-decides (Solve task) = true
-decides (Check task) = false
-decides (Bench task) = true
-decides (Make task) = false
-decides (Arrange task) = false
-decides (Convert task) = false
-
-abbrev pub GivesDecision : Run → Type 0
-GivesDecision run = (asked : Command) × (command run.words ≡ Some asked) × IsTrue (decides asked)
-
--- the schedule's file, where one is named
-abbrev pub schedule_file : Planned → Option (List ℕ)
-schedule_file (ByName name) = None
-schedule_file (ByFile file) = Some file
-schedule_file (ByBuckets file) = None
-schedule_file Found = None
-
--- the roles that have a name only where the words give it
-abbrev pub name_given : Role → Command → Option (List ℕ)
-name_given Cnf asked = formula_file asked
-name_given Order (Solve task) = task.order
-name_given Order _ = None
-name_given Buckets (Solve task) = buckets_file task.plan
-name_given Buckets _ = None
-name_given Schedule (Solve task) = schedule_file task.plan
-name_given Schedule _ = None
-name_given ProofIn (Check task) = Some task.proof
-name_given ProofIn (Convert task) = Some task.proof
-name_given ProofIn _ = None
-name_given ProofOut (Solve task) = Some task.proof
-name_given ProofOut (Bench task) = Some task.proof
-name_given ProofOut (Convert task) = Some task.out
-name_given ProofOut _ = None
-name_given Made (Make task) = Some task.file
-name_given Made (Arrange task) = Some task.out
-name_given Made _ = None
-name_given Out asked = None
-name_given Err asked = None
-
--- they name a formula's file; with `solve` they name the file of an order, that of an order of the buckets, or a schedule's
-abbrev pub GivesFormula : Run → Type 0
-GivesFormula run = (asked : Command) × (command run.words ≡ Some asked) × (file : List ℕ) × (formula_file asked ≡ Some file)
-
--- With `check` and `drat` they name a proof's file, which is to be judged.
-abbrev pub GivesProof : Run → Type 0
-GivesProof run = (asked : Command) × (command run.words ≡ Some asked) × (file : List ℕ) × (name_given ProofIn asked ≡ Some file)
-
-abbrev pub GivesOrder : Run → Type 0
-GivesOrder run = (task : ToSolve) × (command run.words ≡ Some (Solve task)) × (file : List ℕ) × (task.order ≡ Some file)
-
-abbrev pub GivesBuckets : Run → Type 0
-GivesBuckets run = (task : ToSolve) × (command run.words ≡ Some (Solve task)) × (file : List ℕ) × (task.plan ≡ ByBuckets file)
-
-abbrev pub GivesSchedule : Run → Type 0
-GivesSchedule run = (task : ToSolve) × (command run.words ≡ Some (Solve task)) × (file : List ℕ) × (task.plan ≡ ByFile file)
-
--- the words ask for this command, and the text of its formula's file, read in its mode, says this
-pub record AsksOver (run : Run) (asked : Command) (text : CnfText) : Type 0 where
-  pub command : command run.words ≡ Some asked
-  pub file : List ℕ
-  pub named : formula_file asked ≡ Some file
-  pub read : IsRead run.files file (cnf (mode_of asked)) text
-
--- They ask to decide this formula by an order that stands in a file, whose text says this.
-pub record AsksByOrder (run : Run) (problem : Formula) (text : OrderText) : Type 0 where
-  pub task : ToSolve
-  pub asks : AsksOver run (Solve task) (formula problem)
-  pub file : List ℕ
-  pub named : task.order ≡ Some file
-  pub read : IsRead run.files file (order_text problem.vars) text
-
--- They ask to decide this formula by buckets of an order that stands in a file, and the order is given; the text of that file says this.
-pub record AsksByBuckets (run : Run) (problem : Formula) (text : OrderText) : Type 0 where
-  pub task : ToSolve
-  pub asks : AsksOver run (Solve task) (formula problem)
-  pub order : List ℕ
-  pub ordered : IsOrdered run.files task.order problem order
-  pub file : List ℕ
-  pub named : task.plan ≡ ByBuckets file
-  pub read : IsRead run.files file (order_text problem.vars) text
-
--- They ask to decide this formula by a schedule, and the order is given; the text of the schedule's file says this.
-pub record AsksBySchedule (run : Run) (problem : Formula) (text : ScheduleText) : Type 0 where
-  pub task : ToSolve
-  pub asks : AsksOver run (Solve task) (formula problem)
-  pub order : List ℕ
-  pub ordered : IsOrdered run.files task.order problem order
-  pub file : List ℕ
-  pub named : task.plan ≡ ByFile file
-  pub read : IsRead run.files file (schedule problem) text
-
--- They ask to decide this formula by this order of its variables and these moves: those of the files that are named, those of a board,
--- or, where they are to be found, any order and the moves of the bucket plan by any order.
-pub record AsksBy (run : Run) (problem : Formula) (order : List ℕ) (moves : List Move) : Type 0 where
-  pub asked : Command
-  pub command : command run.words ≡ Some asked
-  pub given : AreGiven run.files asked problem order moves
-
--- With `bench` this is the formula of the board that they ask for; and so are the order and the moves, those of its columns.
-abbrev pub IsBoardAsked : Run → Formula → Type 0
-IsBoardAsked run problem = (task : ToBench) → command run.words ≡ Some (Bench task) → problem ≡ board_formula task.size
-
-abbrev pub IsPlanAsked : Run → Formula → List ℕ → List Move → Type 0
-IsPlanAsked run problem order moves = (task : ToBench) → command run.words ≡ Some (Bench task) → AreOfBoard task.size problem order moves
-
--- they ask to decide this formula
-pub record AsksFor (run : Run) (problem : Formula) : Type 0 where
-  pub order : List ℕ
-  pub moves : List Move
-  pub by : AsksBy run problem order moves
-
--- they ask to judge this proof over this formula
-pub record AsksToJudge (run : Run) (problem : Formula) (bytes : List ℕ) : Type 0 where
-  pub asked : Command
-  pub asks : AsksOver run asked (formula problem)
-  pub file : List ℕ
-  pub named : name_given ProofIn asked ≡ Some file
-  pub stands : run.files file ≡ Some bytes
-
--- and this is the verdict on it
-pub record HasVerdict (run : Run) (problem : Formula) (bytes : List ℕ) (verdict : Verdict) : Type 0 where
-  pub asked : AsksToJudge run problem bytes
-  pub judged : text_verdict problem.clauses bytes ≡ Some verdict
-
--- They ask to judge a proof over this formula, and to write it as a DRAT proof.
-abbrev pub AsksToConvert : Run → Type 0
-AsksToConvert run = (task : ToConvert) × (problem : Formula) × AsksOver run (Convert task) (formula problem)
-
--- the file that the DRAT proof goes to gained exactly what this proof over the formula becomes, and that is flushed
-pub record IsConverted (run : Run) (problem : Formula) (bytes : List ℕ) : Type 0 where
-  pub written : written_in run ProofOut ≡ drat problem.clauses bytes
-  pub flushed : (run.after ProofOut).flushed ≡ length (run.after ProofOut).written
-
--- what is printed for an outcome of the formula that is asked for, by the proof's bytes
-abbrev pub text_for : Run → Formula → Outcome → List ℕ
-text_for run problem found = answer_text (command run.words) problem (written_in run ProofOut) found
+use Rattle.solver_cli.specs.Run.{Run, written_in, taken_in, limits_given, HasFault, InputFailed, OutputFailed, IsUnharmed, GivesMake}
+use Rattle.solver_cli.specs.Run.{GivesConversion, GivesDecision, name_given, GivesFormula, GivesProof, GivesOrder, GivesBuckets}
+use Rattle.solver_cli.specs.Run.{GivesSchedule, AsksOver, AsksByOrder, AsksByBuckets, AsksBySchedule, AsksBy, IsBoardAsked, IsPlanAsked}
+use Rattle.solver_cli.specs.Run.{AsksFor, AsksToJudge, HasVerdict, AsksToConvert, IsConverted, text_for}
+use Rattle.solver_cli.specs.Faults.{ConvertsAsItReads, FaultsAreCounted, FailuresAreTold}
 
 -- Unsatisfiable: the words give `solve` or `bench`, and no assignment satisfies the formula's clauses. It is the formula
 -- that is asked for (of `bench` whatever the host tells), and the very bytes of the proof refute its clauses, by one line where
@@ -303,25 +112,25 @@ pub record IsUndecided (run : Run) (why : Why) : Type 0 where
 abbrev pub LimitsAreReached : Run → Type 0
 LimitsAreReached run = (why : Why) → run.status ≡ Unknown why → IsUndecided run why
 
--- Verified: the very bytes of the proof's file refute the formula's clauses, so that no assignment satisfies them. With `drat`
--- the proof was converted, whole.
+-- Verified: the very bytes of the proof's file refute the formula's clauses, by the rules of LRAT, or with `check --format drat` by those of
+-- DRAT, so that no assignment satisfies them. With `drat` the proof was converted, whole.
 pub record IsVerified (run : Run) : Type 0 where
   pub problem : Formula
   pub bytes : List ℕ
   pub has : HasVerdict run problem bytes judgement.Verified
   pub converted : GivesConversion run → IsConverted run problem bytes
-  pub refuted : Refutes problem.clauses bytes
+  pub refuted : RefutesIn (format_of has.asked.asked) problem.clauses bytes
   pub unsatisfiable : AreUnsatisfiable problem.clauses
   pub printed : written_in run Out ≡ verified_line
 
--- Not verified: this is the first bad line of the proof, or that of its end, and why it is refused. With `drat` what comes
+-- Not verified: this is the first bad line of the proof by the same rules, or that of its end, and why it is refused. With `drat` what comes
 -- before it was converted, whole.
 pub record IsNotVerified (run : Run) (line : ℕ) (reason : Reason) : Type 0 where
   pub problem : Formula
   pub bytes : List ℕ
   pub has : HasVerdict run problem bytes (judgement.Refused line reason)
   pub converted : GivesConversion run → IsConverted run problem bytes
-  pub refused : verdict problem.clauses bytes ≡ Some (line, reason)
+  pub refused : IsRefusedIn (format_of has.asked.asked) problem.clauses bytes line reason
   pub printed : written_in run Out ≡ refused_text line reason
 
 pub record VerdictIsTrue (run : Run) : Type 0 where
@@ -398,8 +207,8 @@ pub record IsLongProof (run : Run) : Type 0 where
   pub problem : Formula
   pub bytes : List ℕ
   pub asked : AsksToJudge run problem bytes
-  pub judged : text_verdict problem.clauses bytes ≡ None
-  pub decided : text_verdict problem.clauses (taken_in run ProofIn) ≡ None
+  pub judged : verdict_in (format_of asked.asked) problem.clauses bytes ≡ None
+  pub decided : verdict_in (format_of asked.asked) problem.clauses (taken_in run ProofIn) ≡ None
   pub long : max_bytes < length (taken_in run ProofIn)
 
 -- What memory was wanted for. For the words, or for a board: no role but standard error changed.
@@ -474,7 +283,7 @@ pub record VerdictWantsMemory (run : Run) : Type 0 where
   pub problem : Formula
   pub asks : IsTrue run.tells → AsksOver run asked (formula problem)
   pub wants : IsTrue run.tells → (bytes : List ℕ) × (run.files file ≡ Some bytes)
-      × WantsProof problem.clauses bytes (taken_in run ProofIn)
+      × WantsProof (format_of asked) problem.clauses bytes (taken_in run ProofIn)
   pub before_answer : run.after Out ≡ run.before Out
 
 pub record ArrangingWantsMemory (run : Run) : Type 0 where
@@ -518,142 +327,6 @@ IsDue run OutOfMemory = MemoryIsWanted run
 
 abbrev pub RefusalsAreDue : Run → Type 0
 RefusalsAreDue run = IsDue run run.status
-
--- the formula that is to be decided was accepted, or the proof was judged, or none is read, or the formula was accepted of which an order is
--- to be made, or over which a proof is to be converted
-abbrev pub TextsAreRead : Run → Type 0
-TextsAreRead run = ((problem : Formula) × AsksFor run problem)
-    ⊎ (((problem : Formula) × (bytes : List ℕ) × (judged : Verdict) × HasVerdict run problem bytes judged)
-    ⊎ (GivesMake run
-    ⊎ (((task : ToOrder) × (problem : Formula) × AsksOver run (Arrange task) (formula problem))
-    ⊎ AsksToConvert run)))
-
--- A call on the formula's file failed where the bytes taken of it decide nothing yet, and none of another file was taken.
-pub record IsOpenFormula (run : Run) : Type 0 where
-  pub asked : Command
-  pub given : command run.words ≡ Some asked
-  pub failed : HasFault run Cnf
-  pub undecided : cnf_so_far (mode_of asked) (taken_in run Cnf) ≡ overlong
-  pub before_others : (role : Role) → IsInput role → role ≢ Cnf → taken_in run role ≡ []
-
--- The words give `solve` with an order's file, the formula was accepted, and a call on that file failed where the bytes
--- taken of it decide nothing yet. The file may be missing: then none was taken. None of a schedule was, and none of the buckets' order.
-pub record IsOpenOrder (run : Run) : Type 0 where
-  pub task : ToSolve
-  pub problem : Formula
-  pub asks : AsksOver run (Solve task) (formula problem)
-  pub file : List ℕ
-  pub named : task.order ≡ Some file
-  pub failed : HasFault run Order
-  pub undecided : order_so_far problem.vars (taken_in run Order) ≡ overlong_order
-  pub before_schedule : taken_in run Schedule ≡ []
-  pub before_buckets : taken_in run Buckets ≡ []
-
--- The same of the buckets' order, where the order is given too.
-pub record AreOpenBuckets (run : Run) : Type 0 where
-  pub task : ToSolve
-  pub problem : Formula
-  pub asks : AsksOver run (Solve task) (formula problem)
-  pub order : List ℕ
-  pub ordered : IsOrdered run.files task.order problem order
-  pub file : List ℕ
-  pub named : task.plan ≡ ByBuckets file
-  pub failed : HasFault run Buckets
-  pub undecided : order_so_far problem.vars (taken_in run Buckets) ≡ overlong_order
-  pub before_schedule : taken_in run Schedule ≡ []
-
--- The same of a schedule's file, where the order is given too.
-pub record IsOpenSchedule (run : Run) : Type 0 where
-  pub task : ToSolve
-  pub problem : Formula
-  pub asks : AsksOver run (Solve task) (formula problem)
-  pub order : List ℕ
-  pub ordered : IsOrdered run.files task.order problem order
-  pub file : List ℕ
-  pub named : task.plan ≡ ByFile file
-  pub failed : HasFault run Schedule
-  pub undecided : schedule_so_far problem (taken_in run Schedule) ≡ overlong_schedule
-
--- The words name a proof, the formula was accepted, and a call on the proof's file failed where the bytes taken of it
--- decide nothing yet over the formula. That file may be missing: then none was taken.
-pub record IsOpenProof (run : Run) : Type 0 where
-  pub asked : Command
-  pub problem : Formula
-  pub asks : AsksOver run asked (formula problem)
-  pub file : List ℕ
-  pub named : name_given ProofIn asked ≡ Some file
-  pub failed : HasFault run ProofIn
-  pub undecided : verdict_so_far problem.clauses (taken_in run ProofIn) ≡ None
-
--- What was taken decides nothing yet: of the formula's text, or, where the texts before it were accepted, of the order's,
--- the buckets' order's, the schedule's or the proof's.
-abbrev pub IsStillOpen : Run → Type 0
-IsStillOpen run = IsOpenFormula run ⊎ (IsOpenOrder run ⊎ (AreOpenBuckets run ⊎ (IsOpenSchedule run ⊎ IsOpenProof run)))
-
--- a call on a file that is read and that the words name failed
-abbrev pub NamedInputFailed : Run → Type 0
-NamedInputFailed run = (role : Role) × IsInput role × HasFault run role × (asked : Command) × (file : List ℕ)
-    × (command run.words ≡ Some asked) × (name_given role asked ≡ Some file)
-
--- one on standard output failed, or one on a created file that the words name
-abbrev pub NamedOutputFailed : Run → Type 0
-NamedOutputFailed run = HasFault run Out ⊎ ((role : Role) × IsCreated role × HasFault run role × (asked : Command) × (file : List ℕ)
-    × (command run.words ≡ Some asked) × (name_given role asked ≡ Some file))
-
--- a status with which `drat` ends when it has read its proof: a verdict, or that the proof is too long
-abbrev pub ends_in_proof : Status → Bool
-ends_in_proof Sat = false
-ends_in_proof Unsat = false
-ends_in_proof (Unknown why) = false
-ends_in_proof Verified = true
-ends_in_proof (NotVerified line reason) = true
-ends_in_proof Done = false
-ends_in_proof Help = false
-ends_in_proof Usage = false
-ends_in_proof (CnfRefused kind line) = false
-ends_in_proof (OrderRefused kind line) = false
-ends_in_proof (BucketsRefused kind line) = false
-ends_in_proof (PlanRefused kind line) = false
-ends_in_proof (TooLong Cnf) = false
-ends_in_proof (TooLong Order) = false
-ends_in_proof (TooLong Buckets) = false
-ends_in_proof (TooLong Schedule) = false
-ends_in_proof (TooLong ProofIn) = true
-ends_in_proof (TooLong ProofOut) = false
-ends_in_proof (TooLong Made) = false
-ends_in_proof (TooLong Out) = false
-ends_in_proof (TooLong Err) = false
-ends_in_proof ReadFault = false
-ends_in_proof WriteFault = false
-ends_in_proof OutOfMemory = false
-
--- The words give `drat`, and it came to the reading of the proof: a call on that failed, or it was read.
-abbrev pub ConvertsAsItReads : Run → Type 0
-ConvertsAsItReads run = GivesConversion run × (HasFault run ProofIn ⊎ IsTrue (ends_in_proof run.status))
-
--- Faults: a read fault comes only where a call on a file that is read and that the words name failed, and what was taken decides
--- nothing yet, and then nothing was written but on standard error, and by `drat`, where the proof's file failed, of the DRAT proof; a write
--- fault only where all texts were read and accepted (of `drat` the formula), or the words may ask for help, and a call on standard
--- output, or on a created file that they name, failed.
-pub record FaultsAreCounted (run : Run) : Type 0 where
-  pub read : run.status ≡ ReadFault → GivesCommand run × InputFailed run
-  pub named : run.status ≡ ReadFault → NamedInputFailed run
-  pub undecided : run.status ≡ ReadFault → IsTrue run.tells → IsStillOpen run
-  pub quiet : run.status ≡ ReadFault → IsTrue run.tells → (role : Role) → role ≢ Err → (written_in run role ≡ [])
-      ⊎ ((role ≡ ProofOut) × ConvertsAsItReads run)
-  pub write : run.status ≡ WriteFault → OutputFailed run
-  pub created : run.status ≡ WriteFault → NamedOutputFailed run
-  pub accepted : run.status ≡ WriteFault → MayMean run.words AsksHelp ⊎ (GivesCommand run × (IsTrue run.tells → TextsAreRead run))
-
--- the role's count of faults stayed: none of its calls failed, unless the count stood at the end of its type
-abbrev pub IsUnfailed : Run → Role → Type 0
-IsUnfailed run role = (run.after role).faults ≡ (run.before role).faults
-
--- Failed calls are told: unless a run ends with a read fault, no call on a file that is read failed, and unless it ends
--- with a write fault, none on a file that is created or on standard output. This holds of every host.
-pub record FailuresAreTold (run : Run) : Type 0 where
-  pub read : run.status ≢ ReadFault → (role : Role) → IsInput role → IsUnfailed run role
-  pub write : run.status ≢ WriteFault → (role : Role) → IsCreated role ⊎ (role ≡ Out) → IsUnfailed run role
 
 -- what was found: the outcome of a formula, or the verdict on a proof over one
 pub data Finding : Type 0 where
@@ -808,8 +481,8 @@ CallsFor run (TooLong Cnf) = (asked : Command) × AsksOver run asked overlong
 CallsFor run (TooLong Order) = (problem : Formula) × AsksByOrder run problem overlong_order
 CallsFor run (TooLong Buckets) = (problem : Formula) × AsksByBuckets run problem overlong_order
 CallsFor run (TooLong Schedule) = (problem : Formula) × AsksBySchedule run problem overlong_schedule
-CallsFor run (TooLong ProofIn) = (problem : Formula) × (bytes : List ℕ) × AsksToJudge run problem bytes
-    × (text_verdict problem.clauses bytes ≡ None)
+CallsFor run (TooLong ProofIn) = (problem : Formula) × (bytes : List ℕ) × (asks : AsksToJudge run problem bytes)
+    × (verdict_in (format_of asks.asked) problem.clauses bytes ≡ None)
 CallsFor run (TooLong ProofOut) = ⊥
 CallsFor run (TooLong Made) = ⊥
 CallsFor run (TooLong Out) = ⊥

@@ -3,9 +3,13 @@ pub mod ExitCode
 pub mod Answer
 pub mod MadeText
 pub mod Verdict
+pub mod Format
+pub mod Run
+pub mod Faults
 pub mod Headline
 pub mod Phases
 pub mod DratProof
 pub mod Stages
 pub mod Start
 pub mod SolveThenCheck
+pub mod DratThenCheck

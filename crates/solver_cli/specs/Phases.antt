@@ -14,11 +14,10 @@ use Rattle.dimacs_reader.specs.Answers.{Answers as CnfAnswers, WantsMemory as Cn
 use Rattle.dimacs_reader.specs.declared.mode.Mode.{Mode}
 use Rattle.dimacs_reader.specs.declared.error.CnfError.{CnfError}
 use Rattle.dimacs_reader.specs.declared.error.CnfError.TheVariants.{ReadFault as CnfReadFault, OutOfMemory as CnfOutOfMemory}
-use Rattle.lrat_checker.specs.TextVerdict.{text_verdict, verdict_so_far, Answers}
+use Rattle.lrat_checker.specs.TextVerdict.{Answers}
 use Rattle.lrat_checker.specs.declared.verdict.Verdict.{Verdict}
 use Rattle.lrat_checker.specs.declared.verdict.CheckError.{CheckError}
 use Rattle.lrat_checker.specs.declared.verdict.CheckError.TheVariants.{ReadFault as CheckReadFault, OutOfMemory as CheckOutOfMemory}
-use Rattle.lrat_checker.specs.Memory.{check_may_want_memory}
 use Rattle.cnf_base.specs.Order.{natural as natural_order}
 use Rattle.schedule_plan.specs.OrderText.{overlong as unread_order, order_text, order_so_far}
 use Rattle.schedule_plan.specs.OrderReader.{Answers as OrderAnswers, WantsMemory as OrderWantsMemory}
@@ -31,11 +30,13 @@ use Rattle.schedule_plan.specs.declared.schedule.error.PlanError.{PlanError}
 use Rattle.schedule_plan.specs.declared.schedule.error.PlanError.TheVariants.{ReadFault as PlanReadFault, OutOfMemory as PlanOutOfMemory}
 use Rattle.schedule_plan.specs.Plan.{IsAdmissible}
 use Rattle.schedule_plan.specs.declared.plan.Move.{Move}
+use Rattle.command_line.specs.declared.format.ProofFormat.{ProofFormat}
 use Rattle.command_line.specs.declared.plan.PlanName.{PlanName}
 use Rattle.command_line.specs.Command.{Planned, ByName, ByFile, ByBuckets, Found}
 use Rattle.schedule_plan.specs.Bucket.{bucket}
 use Rattle.solver_cli.specs.Answer.{AreFound, IsOrderOf, last_identifier, moves_of_plan}
 use Rattle.solver_cli.specs.declared.basis.Basis.{Basis}
+use Rattle.solver_cli.specs.Format.{may_want_memory_in, so_far_in, verdict_in}
 use Rattle.schedule_plan.specs.declared.limits.Limits.{Limits}
 use Rattle.term_runner.specs.Ends.{Says, Shows}
 use Rattle.term_runner.specs.Price.{AreAmple, IsDecision, IsMovePrice, IsPaidFor}
@@ -215,39 +216,40 @@ pub record HasPlan (problem : Formula) (given : List ℕ) (buckets : Option (Lis
   pub found : asked ≡ Found → Finds problem old new result
 
 -- Memory was wanted for a proof: before its first byte was taken, or at a place of the whole text, and already of the bytes taken.
-abbrev pub WantsProof : List (List ℤ) → List ℕ → List ℕ → Type 0
-WantsProof clauses bytes taken = (taken ≡ [])
-    ⊎ (IsTrue (check_may_want_memory clauses (length bytes - length taken) bytes) × IsTrue (check_may_want_memory clauses 0 taken))
+abbrev pub WantsProof : ProofFormat → List (List ℤ) → List ℕ → List ℕ → Type 0
+WantsProof format clauses bytes taken = (taken ≡ [])
+    ⊎ (IsTrue (may_want_memory_in format clauses (length bytes - length taken) bytes) × IsTrue (may_want_memory_in format clauses 0 taken))
 
--- The answer of the check is the verdict of the text in the opened proof's file, and already of the bytes taken; where a
+-- The answer of the check is the verdict of the text in the opened proof's file, in its format, and already of the bytes taken; where a
 -- call on it failed, these decide nothing yet.
-pub record ChecksProof (tells : Bool) (old new : Channel) (clauses : List (List ℤ)) (result : Result Verdict CheckError) : Type 0 where
-  pub judged : IsTrue tells → Answers result (text_verdict clauses old.left)
-  pub decided : IsTrue tells → Answers result (text_verdict clauses (gained old new))
+pub record ChecksProof (format : ProofFormat) (tells : Bool) (old new : Channel) (clauses : List (List ℤ))
+    (result : Result Verdict CheckError) : Type 0 where
+  pub judged : IsTrue tells → Answers result (verdict_in format clauses old.left)
+  pub decided : IsTrue tells → Answers result (verdict_in format clauses (gained old new))
   pub fault : result ≡ Err CheckReadFault → Rose old.faults new.faults
   pub unfailed : result ≢ Err CheckReadFault → new.faults ≡ old.faults
-  pub undecided : IsTrue tells → result ≡ Err CheckReadFault → verdict_so_far clauses (gained old new) ≡ None
-  pub memory : IsTrue tells → result ≡ Err CheckOutOfMemory → WantsProof clauses old.left (gained old new)
+  pub undecided : IsTrue tells → result ≡ Err CheckReadFault → so_far_in format clauses (gained old new) ≡ None
+  pub memory : IsTrue tells → result ≡ Err CheckOutOfMemory → WantsProof format clauses old.left (gained old new)
   pub written : new.written ≡ old.written
   pub name : new.name ≡ old.name
   pub faults : old.faults ≤ new.faults
 
 -- what the file of this name holds was judged
-pub record JudgesText (files : Files) (file : List ℕ) (clauses : List (List ℤ)) (taken : List ℕ)
+pub record JudgesText (format : ProofFormat) (files : Files) (file : List ℕ) (clauses : List (List ℤ)) (taken : List ℕ)
     (result : Result Verdict CheckError) : Type 0 where
   pub bytes : List ℕ
   pub stands : files file ≡ Some bytes
-  pub judged : Answers result (text_verdict clauses bytes)
-  pub decided : Answers result (text_verdict clauses taken)
-  pub memory : result ≡ Err CheckOutOfMemory → WantsProof clauses bytes taken
+  pub judged : Answers result (verdict_in format clauses bytes)
+  pub decided : Answers result (verdict_in format clauses taken)
+  pub memory : result ≡ Err CheckOutOfMemory → WantsProof format clauses bytes taken
 
 -- the proof's file was opened, and its text judged
-pub record JudgesProof (tells : Bool) (old new : Channel) (files : Files) (file : List ℕ) (clauses : List (List ℤ))
-    (result : Result Verdict CheckError) : Type 0 where
-  pub read : IsTrue tells → (result ≡ Err CheckReadFault) ⊎ JudgesText files file clauses (gained old new) result
+pub record JudgesProof (format : ProofFormat) (tells : Bool) (old new : Channel) (files : Files) (file : List ℕ)
+    (clauses : List (List ℤ)) (result : Result Verdict CheckError) : Type 0 where
+  pub read : IsTrue tells → (result ≡ Err CheckReadFault) ⊎ JudgesText format files file clauses (gained old new) result
   pub fault : result ≡ Err CheckReadFault → Rose old.faults new.faults
   pub unfailed : result ≢ Err CheckReadFault → new.faults ≡ old.faults
-  pub undecided : IsTrue tells → result ≡ Err CheckReadFault → verdict_so_far clauses (gained old new) ≡ None
+  pub undecided : IsTrue tells → result ≡ Err CheckReadFault → so_far_in format clauses (gained old new) ≡ None
   pub written : new.written ≡ old.written
   pub name : (new.name ≡ Some file) ⊎ (new.name ≡ None)
   pub faults : old.faults ≤ new.faults

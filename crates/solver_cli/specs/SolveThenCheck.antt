@@ -5,10 +5,11 @@ use Rattle.lrat_checker.specs.TextVerdict.{max_bytes}
 use Rattle.solver_cli.specs.declared.status.Status.{Status}
 use Rattle.solver_cli.specs.declared.status.Status.TheVariants.{Sat, Unsat, Unknown, Verified, NotVerified, Done, Help, Usage, CnfRefused}
 use Rattle.solver_cli.specs.declared.status.Status.TheVariants.{OrderRefused, BucketsRefused, PlanRefused, TooLong, ReadFault, WriteFault, OutOfMemory}
+use Rattle.command_line.specs.declared.format.ProofFormat.TheVariants.{Lrat}
 use Rattle.command_line.specs.Command.{ToSolve, ToCheck, Solve, Check, command}
-use Rattle.solver_cli.specs.Headline.{Run, written_in, InputFailed, OutputFailed}
+use Rattle.solver_cli.specs.Run.{Run, written_in, InputFailed, OutputFailed}
 
--- One run found a formula unsatisfiable. Another judges a proof over the same text of a formula, read in the same mode, and
+-- One run found a formula unsatisfiable. Another judges an LRAT proof over the same text of a formula, read in the same mode, and
 -- the proof's file holds the bytes that the first run wrote as its proof.
 pub record ChecksSolved (solved checked : Run) : Type 0 where
   pub solved_tells : IsTrue solved.tells
@@ -18,6 +19,7 @@ pub record ChecksSolved (solved checked : Run) : Type 0 where
   pub solve_asked : command solved.words ≡ Some (Solve solve)
   pub task : ToCheck
   pub check_asked : command checked.words ≡ Some (Check task)
+  pub format : task.format ≡ Lrat
   pub same_mode : task.mode ≡ solve.mode
   pub same_formula : checked.files task.file ≡ solved.files solve.file
   pub same_proof : checked.files task.proof ≡ Some (written_in solved ProofOut)

@@ -268,7 +268,7 @@ task_of task = record {
 }
 
 abbrev pub check_of : CheckTask → ToCheck
-check_of task = record { file = task.files.formula.now; proof = task.files.proof.now; mode = task.mode }
+check_of task = record { file = task.files.formula.now; proof = task.files.proof.now; format = task.format; mode = task.mode }
 
 abbrev pub arrange_of : OrderTask → ToOrder
 arrange_of task = record { file = task.formula.now; method = task.method; mode = task.mode; out = task.out.now }
@@ -292,7 +292,7 @@ pub record Unjudged (tells : Bool) (old new : Streams) (files : Files) (task : T
   pub buckets : new.buckets ≡ old.buckets
   pub schedule : new.schedule ≡ old.schedule
   pub error : CheckError
-  pub judges : JudgesProof tells old.judged new.judged files task.proof problem.clauses (Err error)
+  pub judges : JudgesProof task.format tells old.judged new.judged files task.proof problem.clauses (Err error)
   pub proof : new.proof ≡ old.proof
   pub made : new.made ≡ old.made
   pub out : new.out ≡ old.out
@@ -311,7 +311,7 @@ pub record Judged (tells : Bool) (old new : Streams) (files : Files) (task : ToC
   pub buckets : new.buckets ≡ old.buckets
   pub schedule : new.schedule ≡ old.schedule
   pub verdict : Verdict
-  pub judges : JudgesProof tells old.judged new.judged files task.proof problem.clauses (Ok verdict)
+  pub judges : JudgesProof task.format tells old.judged new.judged files task.proof problem.clauses (Ok verdict)
   pub proof : new.proof ≡ old.proof
   pub made : new.made ≡ old.made
   pub printed : Result ⊤ Failed

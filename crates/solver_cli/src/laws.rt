@@ -4,21 +4,36 @@ ghost use Rattle.cnf_base.specs.Limits.{max_vars};
 ghost use Rattle.host_io.specs.declared.role.Role.TheVariants.{ProofOut};
 ghost use Rattle.schedule_plan.specs.OrderText.{order as given_order, order_text};
 ghost use Rattle.solver_cli.specs.Answer.{IsOrderOf};
-ghost use Rattle.solver_cli.specs.Headline.{Promises, Run, written_in};
+ghost use Rattle.solver_cli.specs.Headline.{Promises};
+ghost use Rattle.solver_cli.specs.Run.{Run, written_in};
 ghost use Rattle.solver_cli.specs.MadeText.{order_line};
 ghost use Rattle.solver_cli.specs.SolveThenCheck.{ChecksSolved, MayEnd};
+ghost use Rattle.solver_cli.specs.DratThenCheck.{ChecksConverted};
 
 use cnf_base::number_laws;
+use dimacs_reader::cnf_law;
+use drat_law::drat_law;
 use lrat_checker::check_law;
 use text_scan::short_text_law;
 
-/// The proof that `solve` leaves with 'unsatisfiable' is verified by `check`, where both read the formula in the same mode,
+/// The proof that `solve` leaves with 'unsatisfiable' is verified by `check` as LRAT, where both read the formula in the same mode,
 /// unless it is too long, memory runs out or a call of the host fails. It holds of any two runs that keep what `run` promises.
 pub fn solve_then_check_law()
     ensures { (solved checked : Run) → Promises solved → Promises checked → ChecksSolved solved checked
         → MayEnd checked (written_in solved ProofOut) checked.status }
 {
     check_law();
+}
+
+/// The DRAT proof that `drat` leaves of a verified proof is verified by `check --format drat`, where both read the formula in the same
+/// mode, unless it is longer than is looked at, memory runs out or a call of the host fails. It holds of any two runs that keep what `run`
+/// promises.
+pub fn drat_then_check_law()
+    ensures { (converted checked : Run) → Promises converted → Promises checked → ChecksConverted converted checked
+        → MayEnd checked (written_in converted ProofOut) checked.status }
+{
+    cnf_law();
+    drat_law();
 }
 
 /// The text that `order` writes is read, by `--order` and `--buckets` of a formula of as many variables, as the order that was written.

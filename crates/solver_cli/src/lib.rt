@@ -1,7 +1,7 @@
 //! The program as a library. `run` does all that it does, over any host: it reads the words, decides a formula and writes the
 //! proof, or judges a proof, and prints the answer, and may write that proof in DRAT; or it makes a workload's texts, or an order of a formula's variables. Its contract,
 //! `Promises` of `specs/Headline.antt`, is what the program is worth; `run_with` is that over the words as the system gives them. It
-//! stands on `command_line`, `term_runner`, `plan_search`, `variable_order`, `lrat_checker`, `drat_proof`, `dimacs_reader` and `answer_text`.
+//! stands on `command_line`, `term_runner`, `plan_search`, `variable_order`, `lrat_checker`, `drat_checker`, `drat_proof`, `dimacs_reader` and `answer_text`.
 #![tactic(auto)]
 
 mod answer;
@@ -25,9 +25,9 @@ mod verdict;
 pub use answer::Shape;
 pub use command_line::{
     Asked, BenchTask, BoardText, CheckTask, ConvertTask, FileNames, MakeTask, OrderMethod,
-    OrderTask, PlanName, PlanSource, Refusal, SolveTask, gather, read_words,
+    OrderTask, PlanName, PlanSource, ProofFormat, Refusal, SolveTask, gather, read_words,
 };
 pub use complaint::complain;
-pub use laws::{order_line_law, solve_then_check_law};
+pub use laws::{drat_then_check_law, order_line_law, solve_then_check_law};
 pub use program::{run, run_in_memory, run_with};
 pub use status::{Status, Why};

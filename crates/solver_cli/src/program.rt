@@ -38,6 +38,7 @@ use command_line::{
     Asked, BenchTask, CheckTask, ConvertTask, MakeTask, OrderTask, Refusal, SolveTask, gather,
     read_words,
 };
+use drat_checker::check_drat_law;
 use host_io::{Host, MemoryHost, Role as HostRole};
 use lrat_checker::check_law;
 use lrat_rules::soundness_law;
@@ -222,7 +223,7 @@ fn arrange<H: Host>(alloc: Global, asked: &OrderTask<'_>, host: &mut H) -> Statu
     }
 }
 
-// Reads the formula, judges the proof over it and prints the verdict.
+// Reads the formula, judges the proof over it by the rules of its format and prints the verdict.
 fn check<H: Host>(alloc: Global, asked: &CheckTask<'_>, host: &mut H) -> Status
     requires unnamed { (role : Role) → (H.channel host.old role).name ≡ None }
     ensures came { CameToCheck H.tells (streams_of (H.channel host.old)) (streams_of (H.channel host.new)) (H.files host.old)
@@ -234,7 +235,7 @@ fn check<H: Host>(alloc: Global, asked: &CheckTask<'_>, host: &mut H) -> Status
         Ok(problem) => problem,
         Err(error) => return Status::from(error),
     };
-    let verdict = match judge(alloc, host, &problem, asked.files.proof) {
+    let verdict = match judge(alloc, host, &problem, asked.files.proof, asked.format) {
         Ok(verdict) => verdict,
         Err(error) => return Status::from(error),
     };
@@ -282,6 +283,7 @@ pub fn run<H: Host>(alloc: Global, words: &[String], host: &mut H) -> Status
 {
     soundness_law();
     check_law();
+    check_drat_law();
     let status = work(alloc, words, host);
     complain(host, status);
     status

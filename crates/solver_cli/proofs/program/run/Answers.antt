@@ -1,16 +1,23 @@
 -- What is left to show of `run`.
+use Rattle.solver_cli.proofs.VerdictLaws.{both}
 use Rattle.solver_cli.proofs.Whole.{promises}
 use Rattle.solver_cli.proofs.program.run.Goals as goal
 
 pub returns : goal.returns
 returns g c = record {
   promises = promises
+      (both
       (record {
         sound = c.soundness_law.ensures.refuted;
         verified = c.check_law.ensures.verified;
         refused = c.check_law.ensures.refused;
         overlong = c.check_law.ensures.overlong;
       })
+      (record {
+        sound = c.check_drat_law.ensures.refuted;
+        verified = c.check_drat_law.ensures.verified;
+        overlong = c.check_drat_law.ensures.overlong;
+      }))
       _ (g.H.Host.channel c.work-status.new.host) (g.H.Host.files c.work-status.new.host) c.requires.unnamed
       c.work-status.ensures.stages c.work-status.ensures.error c.work-status.ensures.files c.complain.ensures.complains
       c.complain.ensures.kept;

@@ -1,0 +1,7 @@
+pub mod FalseSets
+pub mod Propagated
+pub mod Deleted
+pub mod Turns
+pub mod Wanted
+pub mod Verdicts
+pub mod Written

@@ -1,0 +1,45 @@
+-- What a DRAT text says over a formula: its steps in turn from the formula's clauses on, up to the first bad line, to the end, or
+-- to the limit. (The format: Wetzler, Heule, Hunt: DRAT-trim, SAT 2014.)
+use Rattle.std.specs.Prelude.{ℕ, ◌+◌, Bool, false, ◌||◌, ℤ, List, [], ◌∷◌, Option, None, Some}
+use Rattle.drat_text.specs.declared.step.DratStep.{DratStep}
+use Rattle.drat_text.specs.DratText.{DratLine, drat_step_of}
+use Rattle.drat_text.specs.DratSteps.{drat_steps_in}
+use Rattle.lrat_text.specs.LineSteps.{StepsOf, no_more, overlong, no_step, next_step, steps_so_far_by}
+use Rattle.lrat_rules.specs.declared.outcome.Reason.TheVariants.{Syntax}
+use Rattle.lrat_checker.specs.declared.verdict.Verdict.{Verdict}
+use Rattle.lrat_checker.specs.declared.verdict.Verdict.TheVariants.{Refused}
+use Rattle.lrat_checker.specs.TextVerdict.{end_verdict, judged, max_bytes}
+use Rattle.drat_rules.specs.Run.{after, adds_empty, drat_step_fault}
+
+-- The verdict of these steps where these clauses stand, and where earlier ones did or didn't add the empty clause. Nothing where
+-- they are good up to the limit.
+abbrev pub drat_steps_verdict : List (List ℤ) → Bool → StepsOf DratStep → Option Verdict
+drat_steps_verdict clauses has_empty (no_more line) = Some (end_verdict has_empty line)
+drat_steps_verdict clauses has_empty overlong = None
+drat_steps_verdict clauses has_empty (no_step line) = Some (Refused line Syntax)
+drat_steps_verdict clauses has_empty (next_step step line steps) =
+    judged (drat_step_fault clauses step) line (drat_steps_verdict (after clauses step) (has_empty || adds_empty step) steps)
+
+-- the verdict of a text, nothing where it is too long and no line under the limit is bad
+abbrev pub drat_text_verdict : List (List ℤ) → List ℕ → Option Verdict
+drat_text_verdict clauses bytes = drat_steps_verdict clauses false (drat_steps_in max_bytes bytes)
+
+-- The verdict that the front of a longer text decides, whatever comes after it: some line of it is bad, and a token of a later
+-- line has come. Nothing where none is bad so far.
+abbrev pub drat_verdict_so_far : List (List ℤ) → List ℕ → Option Verdict
+drat_verdict_so_far clauses bytes = drat_steps_verdict clauses false (steps_so_far_by drat_step_of bytes)
+
+-- the steps of lines, where each of them spells one
+abbrev pub with_step : Option DratStep → Option (List DratStep) → Option (List DratStep)
+with_step None steps = None
+with_step (Some step) None = None
+with_step (Some step) (Some steps) = Some (step ∷ steps)
+
+abbrev pub steps_of_lines : List DratLine → Option (List DratStep)
+steps_of_lines [] = Some []
+steps_of_lines (line ∷ lines) = with_step line.step (steps_of_lines lines)
+
+-- these steps, one on each line from this one on
+abbrev pub numbered_lines : ℕ → List DratStep → List DratLine
+numbered_lines line [] = []
+numbered_lines line (step ∷ steps) = record { line = line; step = Some step } ∷ numbered_lines (line + 1) steps

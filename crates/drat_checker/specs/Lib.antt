@@ -1,0 +1,3 @@
+pub mod Propagation
+pub mod DratVerdict
+pub mod Memory

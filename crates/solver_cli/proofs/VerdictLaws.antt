@@ -1,0 +1,67 @@
+-- What the verdict on a proof says, of both formats.
+use Rattle.std.proofs.Common.{◌≡◌, ◌<◌, ℕ, ℤ, List, length, Some, None}
+use Rattle.cnf_base.specs.Truth.{Assignment, AreClausesOf, Satisfies}
+use Rattle.term_runner.specs.Proofs.{AreUnsatisfiable}
+use Rattle.lrat_rules.specs.Run.{Refutes, verdict}
+use Rattle.lrat_rules.specs.declared.outcome.Reason.{Reason}
+use Rattle.lrat_checker.specs.TextVerdict.{max_bytes, text_verdict}
+use Rattle.lrat_checker.specs.declared.verdict.Verdict.TheVariants as judgement
+use Rattle.drat_text.specs.declared.step.DratStep.{DratStep}
+use Rattle.drat_text.specs.DratText.{drat_lines}
+use Rattle.drat_rules.specs.Run.{DratRefutes}
+use Rattle.drat_checker.specs.DratVerdict.{drat_text_verdict, steps_of_lines}
+use Rattle.command_line.specs.declared.format.ProofFormat.{ProofFormat}
+use Rattle.command_line.specs.declared.format.ProofFormat.TheVariants.{Lrat, Drat}
+use Rattle.solver_cli.specs.Format.{verdict_in, IsRefusedIn, RefutesIn}
+
+-- those of LRAT
+pub record LratLaws : Type 0 where
+  pub sound : (vars : ℕ) (clauses : List (List ℤ)) (bytes : List ℕ) → AreClausesOf vars clauses → Refutes clauses bytes
+      → AreUnsatisfiable clauses
+  pub verified : (clauses : List (List ℤ)) (bytes : List ℕ) → text_verdict clauses bytes ≡ Some judgement.Verified → Refutes clauses bytes
+  pub refused : (clauses : List (List ℤ)) (bytes : List ℕ) (line : ℕ) (reason : Reason)
+      → text_verdict clauses bytes ≡ Some (judgement.Refused line reason) → verdict clauses bytes ≡ Some (line, reason)
+  pub overlong : (clauses : List (List ℤ)) (bytes : List ℕ) → text_verdict clauses bytes ≡ None → max_bytes < length bytes
+
+-- those of DRAT
+pub record DratLaws : Type 0 where
+  pub sound : (vars : ℕ) (clauses : List (List ℤ)) (bytes : List ℕ) → AreClausesOf vars clauses
+      → drat_text_verdict clauses bytes ≡ Some judgement.Verified → (a : Assignment) → Satisfies a clauses → ⊥
+  pub verified : (clauses : List (List ℤ)) (bytes : List ℕ) → drat_text_verdict clauses bytes ≡ Some judgement.Verified
+      → (steps : List DratStep) × (steps_of_lines (drat_lines bytes) ≡ Some steps) × DratRefutes clauses steps
+  pub overlong : (clauses : List (List ℤ)) (bytes : List ℕ) → drat_text_verdict clauses bytes ≡ None → max_bytes < length bytes
+
+-- those of a format
+pub record Laws : Type 0 where
+  pub sound : (format : ProofFormat) (vars : ℕ) (clauses : List (List ℤ)) (bytes : List ℕ) → AreClausesOf vars clauses
+      → verdict_in format clauses bytes ≡ Some judgement.Verified → AreUnsatisfiable clauses
+  pub verified : (format : ProofFormat) (clauses : List (List ℤ)) (bytes : List ℕ)
+      → verdict_in format clauses bytes ≡ Some judgement.Verified → RefutesIn format clauses bytes
+  pub refused : (format : ProofFormat) (clauses : List (List ℤ)) (bytes : List ℕ) (line : ℕ) (reason : Reason)
+      → verdict_in format clauses bytes ≡ Some (judgement.Refused line reason) → IsRefusedIn format clauses bytes line reason
+  pub overlong : (format : ProofFormat) (clauses : List (List ℤ)) (bytes : List ℕ) → verdict_in format clauses bytes ≡ None
+      → max_bytes < length bytes
+
+pub both : LratLaws → DratLaws → Laws
+both lrat drat = record { sound = sound; verified = verified; refused = refused; overlong = overlong } where
+  sound : (format : ProofFormat) (vars : ℕ) (clauses : List (List ℤ)) (bytes : List ℕ) → AreClausesOf vars clauses
+      → verdict_in format clauses bytes ≡ Some judgement.Verified → AreUnsatisfiable clauses
+  sound Lrat vars clauses bytes are is = lrat.sound vars clauses bytes are (lrat.verified clauses bytes is)
+  sound Drat vars clauses bytes are is = drat.sound vars clauses bytes are is
+
+  verified : (format : ProofFormat) (clauses : List (List ℤ)) (bytes : List ℕ)
+      → verdict_in format clauses bytes ≡ Some judgement.Verified → RefutesIn format clauses bytes
+  verified Lrat clauses bytes is = lrat.verified clauses bytes is
+  verified Drat clauses bytes is =
+      let found = drat.verified clauses bytes is in
+      record { steps = found.0; spelled = found.1; refutes = found.2 }
+
+  refused : (format : ProofFormat) (clauses : List (List ℤ)) (bytes : List ℕ) (line : ℕ) (reason : Reason)
+      → verdict_in format clauses bytes ≡ Some (judgement.Refused line reason) → IsRefusedIn format clauses bytes line reason
+  refused Lrat clauses bytes line reason is = lrat.refused clauses bytes line reason is
+  refused Drat clauses bytes line reason is = is
+
+  overlong : (format : ProofFormat) (clauses : List (List ℤ)) (bytes : List ℕ) → verdict_in format clauses bytes ≡ None
+      → max_bytes < length bytes
+  overlong Lrat clauses bytes is = lrat.overlong clauses bytes is
+  overlong Drat clauses bytes is = drat.overlong clauses bytes is

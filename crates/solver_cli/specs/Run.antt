@@ -1,0 +1,212 @@
+-- One run of the program, and what its words ask for.
+use Rattle.std.specs.Prelude.{◌≡◌, ◌⊎◌, ℕ, Bool, true, false, List, Option, None, Some, length, drop, IsTrue}
+use Rattle.cnf_base.specs.Formula.{Formula}
+use Rattle.host_io.specs.declared.role.Role.{Role}
+use Rattle.host_io.specs.declared.role.Role.TheVariants.{Cnf, Order, Buckets, Schedule, ProofIn, ProofOut, Made, Out, Err}
+use Rattle.host_io.specs.Channel.{Channel, Rose}
+use Rattle.host_io.specs.Files.{Files, IsInput, IsCreated}
+use Rattle.dimacs_reader.specs.Cnf.{CnfText, formula, cnf}
+use Rattle.lrat_checker.specs.declared.verdict.Verdict.{Verdict}
+use Rattle.drat_proof.specs.Drat.{drat}
+use Rattle.schedule_plan.specs.OrderText.{OrderText, order_text}
+use Rattle.schedule_plan.specs.ScheduleText.{ScheduleText, schedule}
+use Rattle.schedule_plan.specs.declared.plan.Move.{Move}
+use Rattle.schedule_plan.specs.declared.limits.Limits.{Limits}
+use Rattle.term_runner.specs.declared.outcome.Outcome.{Outcome}
+use Rattle.command_line.specs.Command.{Command, ToSolve, ToBench, ToMake, ToConvert, Solve, Check, Bench, Make}
+use Rattle.command_line.specs.Command.{Arrange, Convert, Planned, ByName, ByFile, ByBuckets, Found}
+use Rattle.command_line.specs.Command.{command, format_of, formula_file, limits_asked, mode_of}
+use Rattle.solver_cli.specs.declared.status.Status.{Status}
+use Rattle.workload.specs.Board.{board_formula}
+use Rattle.solver_cli.specs.Answer.{AreGiven, AreOfBoard, IsRead, IsOrdered, answer_text}
+use Rattle.solver_cli.specs.Format.{verdict_in}
+use Rattle.solver_cli.specs.Phases.{buckets_file}
+
+-- One run of the program: whether the host tells its bytes, the words, the roles and the files before, the roles
+-- and the files after, and how it ended.
+pub record Run : Type 0 where
+  pub tells : Bool
+  pub words : List (List ℕ)
+  pub before : Role → Channel
+  pub after : Role → Channel
+  pub files : Files
+  pub files_after : Files
+  pub status : Status
+
+-- the bytes that a role wrote in the run, and those that it took
+abbrev pub written_in : Run → Role → List ℕ
+written_in run role = drop (length (run.before role).written) (run.after role).written
+
+abbrev pub taken_in : Run → Role → List ℕ
+taken_in run role = drop (length (run.before role).taken) (run.after role).taken
+
+-- the limits that the words give
+abbrev pub limits_given : Run → Limits
+limits_given run = limits_asked (command run.words)
+
+-- the role's count of faults rose
+abbrev pub HasFault : Run → Role → Type 0
+HasFault run role = Rose (run.before role).faults (run.after role).faults
+
+-- a call on a file that is read failed, or one on a file that is created or on standard output
+abbrev pub InputFailed : Run → Type 0
+InputFailed run = (role : Role) × IsInput role × HasFault run role
+
+abbrev pub OutputFailed : Run → Type 0
+OutputFailed run = (role : Role) × (IsCreated role ⊎ (role ≡ Out)) × HasFault run role
+
+-- no call failed, standard error aside
+abbrev pub IsUnharmed : Run → Type 0
+IsUnharmed run = (InputFailed run → ⊥) × (OutputFailed run → ⊥)
+
+-- the words give a command; they give `solve`; they give `make`; they give `drat`
+abbrev pub GivesCommand : Run → Type 0
+GivesCommand run = (asked : Command) × (command run.words ≡ Some asked)
+
+abbrev pub GivesSolve : Run → Type 0
+GivesSolve run = (task : ToSolve) × (command run.words ≡ Some (Solve task))
+
+abbrev pub GivesMake : Run → Type 0
+GivesMake run = (task : ToMake) × (command run.words ≡ Some (Make task))
+
+abbrev pub GivesConversion : Run → Type 0
+GivesConversion run = (task : ToConvert) × (command run.words ≡ Some (Convert task))
+
+-- they give `solve` or `bench`, which decide a formula
+abbrev pub decides : Command → Bool
+decides (Solve task) = true
+decides (Check task) = false
+decides (Bench task) = true
+decides (Make task) = false
+decides (Arrange task) = false
+decides (Convert task) = false
+
+abbrev pub GivesDecision : Run → Type 0
+GivesDecision run = (asked : Command) × (command run.words ≡ Some asked) × IsTrue (decides asked)
+
+-- the schedule's file, where one is named
+abbrev pub schedule_file : Planned → Option (List ℕ)
+schedule_file (ByName name) = None
+schedule_file (ByFile file) = Some file
+schedule_file (ByBuckets file) = None
+schedule_file Found = None
+
+-- the roles that have a name only where the words give it
+abbrev pub name_given : Role → Command → Option (List ℕ)
+name_given Cnf asked = formula_file asked
+name_given Order (Solve task) = task.order
+name_given Order _ = None
+name_given Buckets (Solve task) = buckets_file task.plan
+name_given Buckets _ = None
+name_given Schedule (Solve task) = schedule_file task.plan
+name_given Schedule _ = None
+name_given ProofIn (Check task) = Some task.proof
+name_given ProofIn (Convert task) = Some task.proof
+name_given ProofIn _ = None
+name_given ProofOut (Solve task) = Some task.proof
+name_given ProofOut (Bench task) = Some task.proof
+name_given ProofOut (Convert task) = Some task.out
+name_given ProofOut _ = None
+name_given Made (Make task) = Some task.file
+name_given Made (Arrange task) = Some task.out
+name_given Made _ = None
+name_given Out asked = None
+name_given Err asked = None
+
+-- they name a formula's file; with `solve` they name the file of an order, that of an order of the buckets, or a schedule's
+abbrev pub GivesFormula : Run → Type 0
+GivesFormula run = (asked : Command) × (command run.words ≡ Some asked) × (file : List ℕ) × (formula_file asked ≡ Some file)
+
+-- With `check` and `drat` they name a proof's file, which is to be judged.
+abbrev pub GivesProof : Run → Type 0
+GivesProof run = (asked : Command) × (command run.words ≡ Some asked) × (file : List ℕ) × (name_given ProofIn asked ≡ Some file)
+
+abbrev pub GivesOrder : Run → Type 0
+GivesOrder run = (task : ToSolve) × (command run.words ≡ Some (Solve task)) × (file : List ℕ) × (task.order ≡ Some file)
+
+abbrev pub GivesBuckets : Run → Type 0
+GivesBuckets run = (task : ToSolve) × (command run.words ≡ Some (Solve task)) × (file : List ℕ) × (task.plan ≡ ByBuckets file)
+
+abbrev pub GivesSchedule : Run → Type 0
+GivesSchedule run = (task : ToSolve) × (command run.words ≡ Some (Solve task)) × (file : List ℕ) × (task.plan ≡ ByFile file)
+
+-- the words ask for this command, and the text of its formula's file, read in its mode, says this
+pub record AsksOver (run : Run) (asked : Command) (text : CnfText) : Type 0 where
+  pub command : command run.words ≡ Some asked
+  pub file : List ℕ
+  pub named : formula_file asked ≡ Some file
+  pub read : IsRead run.files file (cnf (mode_of asked)) text
+
+-- They ask to decide this formula by an order that stands in a file, whose text says this.
+pub record AsksByOrder (run : Run) (problem : Formula) (text : OrderText) : Type 0 where
+  pub task : ToSolve
+  pub asks : AsksOver run (Solve task) (formula problem)
+  pub file : List ℕ
+  pub named : task.order ≡ Some file
+  pub read : IsRead run.files file (order_text problem.vars) text
+
+-- They ask to decide this formula by buckets of an order that stands in a file, and the order is given; the text of that file says this.
+pub record AsksByBuckets (run : Run) (problem : Formula) (text : OrderText) : Type 0 where
+  pub task : ToSolve
+  pub asks : AsksOver run (Solve task) (formula problem)
+  pub order : List ℕ
+  pub ordered : IsOrdered run.files task.order problem order
+  pub file : List ℕ
+  pub named : task.plan ≡ ByBuckets file
+  pub read : IsRead run.files file (order_text problem.vars) text
+
+-- They ask to decide this formula by a schedule, and the order is given; the text of the schedule's file says this.
+pub record AsksBySchedule (run : Run) (problem : Formula) (text : ScheduleText) : Type 0 where
+  pub task : ToSolve
+  pub asks : AsksOver run (Solve task) (formula problem)
+  pub order : List ℕ
+  pub ordered : IsOrdered run.files task.order problem order
+  pub file : List ℕ
+  pub named : task.plan ≡ ByFile file
+  pub read : IsRead run.files file (schedule problem) text
+
+-- They ask to decide this formula by this order of its variables and these moves: those of the files that are named, those of a board,
+-- or, where they are to be found, any order and the moves of the bucket plan by any order.
+pub record AsksBy (run : Run) (problem : Formula) (order : List ℕ) (moves : List Move) : Type 0 where
+  pub asked : Command
+  pub command : command run.words ≡ Some asked
+  pub given : AreGiven run.files asked problem order moves
+
+-- With `bench` this is the formula of the board that they ask for; and so are the order and the moves, those of its columns.
+abbrev pub IsBoardAsked : Run → Formula → Type 0
+IsBoardAsked run problem = (task : ToBench) → command run.words ≡ Some (Bench task) → problem ≡ board_formula task.size
+
+abbrev pub IsPlanAsked : Run → Formula → List ℕ → List Move → Type 0
+IsPlanAsked run problem order moves = (task : ToBench) → command run.words ≡ Some (Bench task) → AreOfBoard task.size problem order moves
+
+-- they ask to decide this formula
+pub record AsksFor (run : Run) (problem : Formula) : Type 0 where
+  pub order : List ℕ
+  pub moves : List Move
+  pub by : AsksBy run problem order moves
+
+-- they ask to judge this proof over this formula
+pub record AsksToJudge (run : Run) (problem : Formula) (bytes : List ℕ) : Type 0 where
+  pub asked : Command
+  pub asks : AsksOver run asked (formula problem)
+  pub file : List ℕ
+  pub named : name_given ProofIn asked ≡ Some file
+  pub stands : run.files file ≡ Some bytes
+
+-- and this is the verdict on it, by the rules of its format
+pub record HasVerdict (run : Run) (problem : Formula) (bytes : List ℕ) (verdict : Verdict) : Type 0 where
+  pub asked : AsksToJudge run problem bytes
+  pub judged : verdict_in (format_of asked.asked) problem.clauses bytes ≡ Some verdict
+
+-- They ask to judge a proof over this formula, and to write it as a DRAT proof.
+abbrev pub AsksToConvert : Run → Type 0
+AsksToConvert run = (task : ToConvert) × (problem : Formula) × AsksOver run (Convert task) (formula problem)
+
+-- the file that the DRAT proof goes to gained exactly what this proof over the formula becomes, and that is flushed
+pub record IsConverted (run : Run) (problem : Formula) (bytes : List ℕ) : Type 0 where
+  pub written : written_in run ProofOut ≡ drat problem.clauses bytes
+  pub flushed : (run.after ProofOut).flushed ≡ length (run.after ProofOut).written
+
+-- what is printed for an outcome of the formula that is asked for, by the proof's bytes
+abbrev pub text_for : Run → Formula → Outcome → List ℕ
+text_for run problem found = answer_text (command run.words) problem (written_in run ProofOut) found
