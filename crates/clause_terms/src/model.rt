@@ -1,5 +1,5 @@
 // Truth values of all variables.
-ghost use Rattle.std.specs.Prelude.{◌≡◌};
+ghost use Rattle.std.specs.Prelude.{◌≡◌, ◌<◌, ◌≤◌, ◌-◌, length, slice_set};
 
 /// An assignment: the value of variable 1 first.
 #[derive(Debug, Drop)]
@@ -20,5 +20,14 @@ impl Model {
         ensures { result.now ≡ self.now }
     {
         self.values.as_slice()
+    }
+
+    /// Gives a variable this value.
+    pub fn set(&mut self, variable: u32, value: bool)
+        requires some { 0 < variable }
+        requires within { variable ≤ length self.old }
+        ensures { self.new ≡ slice_set self.old (variable - 1) value }
+    {
+        self.values[variable as usize - 1] = value;
     }
 }

@@ -5,10 +5,10 @@ ghost use Rattle.node_table.specs.NodeHash.{hash_word};
 use cnf_base::Id;
 use std::hash::{Hash, Hasher};
 
-/// Names an inner node of a table.
+/// Names an inner node of a table, by its place in lists by key.
 #[derive(Clone, Copy, Debug, PartialEq, Eq, Hash)]
 pub struct NodeKey {
-    pub(crate) index: u32,
+    pub index: u32,
 }
 
 /// The diagram of a Boolean function, by its top node. Equal nodes of a table are equal functions.

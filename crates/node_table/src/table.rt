@@ -144,6 +144,13 @@ impl<S: Sink + Drop> Table<S> {
         self.diagram.len()
     }
 
+    /// The keys of inner nodes are below this.
+    pub fn key_end(&self) -> u32
+        ensures { (key : ℕ) (branch : BranchValue) → branch_at self.now.graph key ≡ Some branch → key < result }
+    {
+        self.diagram.key_end()
+    }
+
     /// The node whose cofactors at this level are these children: the child where they are equal, else the node that
     /// is there already, or a new one with its defining clauses. A refusal, but for a failed write, changes nothing.
     pub fn node(&mut self, level: u32, high: Node, low: Node) -> Result<Node, TableError>

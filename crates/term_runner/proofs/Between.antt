@@ -5,31 +5,33 @@ use Rattle.std.specs.List.{slice_get}
 use Rattle.std.specs.Option.{option_and_then}
 use Rattle.cnf_base.specs.Formula.{Formula}
 use Rattle.lrat_rules.specs.State.{Live}
-use Rattle.node_table.specs.declared.node.Node.{Node}
 use Rattle.node_table.specs.Diagram.{Graph}
+use Rattle.reconstruction.specs.Copies.{AreCopies}
+use Rattle.reconstruction.specs.Stack.{Stack, empty_stack}
 use Rattle.schedule_plan.specs.declared.plan.Move.{Move}
 use Rattle.schedule_plan.specs.Plan.{Stage, after_move, after_moves, no_stage}
 use Rattle.term_runner.specs.declared.held.HeldTerm.{HeldTerm}
-use Rattle.term_runner.specs.Held.{AreHeld, AreKept, IsAt}
+use Rattle.term_runner.specs.Held.{AreHeld, IsAt}
+use Rattle.term_runner.proofs.Trails.{trail_first}
 
 -- The moves up to here lead to the stage, those from this one on lead where the whole plan does, and the stack and the
 -- trail are the stage's.
 pub record IsBetween (formula : Formula) (moves : List Move) (i : ℕ) (graph : Graph) (live : Live) (stack : List HeldTerm)
-    (trail : List (ℕ × Node)) : Type 0 where
+    (trail : Stack) : Type 0 where
   pub stage : Stage
   pub front : after_moves formula no_stage (take i moves) ≡ Some stage
   pub rest : after_moves formula stage (drop i moves) ≡ after_moves formula no_stage moves
   pub at : IsAt formula graph live stack trail stage
 
-pub at_first : (formula : Formula) (moves : List Move) (graph : Graph) (live : Live) (stack : List HeldTerm) (trail : List (ℕ × Node))
-    → stack ≡ [] → trail ≡ [] → IsBetween formula moves 0 graph live stack trail
-at_first formula moves graph live stack trail empty none = record {
+pub at_first : (formula : Formula) (moves : List Move) (graph : Graph) (live : Live) (stack : List HeldTerm) (trail : Stack)
+    → stack ≡ [] → trail ≡ empty_stack → AreCopies graph [] [] → IsBetween formula moves 0 graph live stack trail
+at_first formula moves graph live stack trail empty bare none = record {
   stage = no_stage;
   front = refl;
   rest = refl;
   at = record {
     held = subst (λ (s : List HeldTerm). AreHeld formula graph live (reverse s) []) (sym empty) tt;
-    kept = subst (λ (t : List (ℕ × Node)). AreKept formula graph (reverse t) []) (sym none) tt;
+    kept = trail_first formula graph trail bare none;
   };
 }
 
@@ -69,7 +71,7 @@ next_of formula moves i stage last step at reached =
 
 -- so it is where the plan is possible
 pub next_at : (formula : Formula) (moves : List Move) (i : ℕ) (graph : Graph) (live : Live) (stack : List HeldTerm)
-    (trail : List (ℕ × Node)) (last : Stage) (step : Move) → after_moves formula no_stage moves ≡ Some last → slice_get moves i ≡ Some step
+    (trail : Stack) (last : Stage) (step : Move) → after_moves formula no_stage moves ≡ Some last → slice_get moves i ≡ Some step
     → (between : IsBetween formula moves i graph live stack trail) → IsNext formula moves i between.stage step last
 next_at formula moves i graph live stack trail last step reached at between = next_of formula moves i between.stage last step at
     (between.rest ∙ reached)
@@ -82,7 +84,7 @@ drop_all (move ∷ moves) (suc i) large = drop_all moves i (omega (arith, large)
 
 -- at the end the stage is the plan's last
 pub at_last : (formula : Formula) (moves : List Move) (i : ℕ) (graph : Graph) (live : Live) (stack : List HeldTerm)
-    (trail : List (ℕ × Node)) (last : Stage) → length moves ≤ i → after_moves formula no_stage moves ≡ Some last
+    (trail : Stack) (last : Stage) → length moves ≤ i → after_moves formula no_stage moves ≡ Some last
     → IsBetween formula moves i graph live stack trail → IsAt formula graph live stack trail last
 at_last formula moves i graph live stack trail last large reached between =
     subst (IsAt formula graph live stack trail)

@@ -11,13 +11,13 @@ use Rattle.std.proofs.lemmas.Map.Keys.{IsDistinct-cons}
 use Rattle.std.proofs.lemmas.Map.Steps.{length-le_from_distinct_below}
 use Rattle.cnf_base.specs.Formula.{Formula}
 use Rattle.lrat_rules.specs.State.{Live}
-use Rattle.node_table.specs.declared.node.Node.{Node}
 use Rattle.node_table.specs.declared.node.Justification.{Justification}
 use Rattle.node_table.specs.declared.node.Justification.TheVariants.{Trivial, Clause}
 use Rattle.node_table.specs.Diagram.{Graph}
 use Rattle.node_table.specs.Lean.{HasAdded}
 use Rattle.node_table.specs.Table.{TableState}
 use Rattle.operations.specs.Entries.{Entry, IsNamed, just_of}
+use Rattle.reconstruction.specs.Stack.{Stack}
 use Rattle.schedule_plan.specs.declared.plan.Move.{Move}
 use Rattle.schedule_plan.specs.declared.plan.Move.TheVariants.{Push, And, Exists}
 use Rattle.schedule_plan.specs.Plan.{Stage, Term, after_and, after_move, after_moves, after_push, input, is_pushed, no_stage}
@@ -209,7 +209,7 @@ few_stacked formula moves stage reached =
 
 -- between two moves, with the number of stacked terms
 pub added_between : {S : Type 0} (formula : Formula) (moves : List Move) (i : ℕ) (table : TableState S) (entries : List Entry)
-    (stack : List HeldTerm) (trail : List (ℕ × Node)) (number : ℕ)
+    (stack : List HeldTerm) (trail : Stack) (number : ℕ)
     → ((ids : List ℕ) × (length ids ≤ number) × ((id : ℕ) → IsNamed entries id → Contains ids id)) → table.retired ≡ []
     → HasUnits table entries (reverse stack)
     → IsBetween formula moves i table.graph table.book.state.live stack trail → HasAdded table (number + length (reverse stack))

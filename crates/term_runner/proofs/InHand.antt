@@ -4,7 +4,7 @@ use Rattle.std.proofs.Common.{◌≡◌, ◌⊎◌, ◌∙◌, ℕ, Bool, true, 
 use Rattle.std.proofs.Common.{subst, arith, inl, inr, eq-eqb}
 use Rattle.std.specs.Prelude.{nat_lt, nat_le, not, ◌&&◌, if◌then◌else◌, length}
 use Rattle.std.specs.List.{list_any}
-use Rattle.std.proofs.lemmas.List.Elements.{Contains-append_cases}
+use Rattle.std.proofs.lemmas.List.Elements.{Contains-append_cases, Contains-append_left}
 use Rattle.cnf_base.specs.Formula.{Formula}
 use Rattle.node_table.specs.declared.node.Node.{Node}
 use Rattle.node_table.specs.declared.node.Node.TheVariants.{False, True, Inner}
@@ -107,9 +107,9 @@ module _ (formula : Formula) (order : List ℕ) (ordered : IsOrder order) (befor
   over_order term node same = subst (λ (o : List ℕ). (a : Levels) → value_of were.graph a node
       ≡ term_function formula o term a) were.order_is same
 
-  root_of : (root : Node) → Contains (held_nodes were.stack were.trail) root → IsRootOf formula order were.graph before root
+  root_of : (root : Node) → Contains (held_nodes were.stack were.trail.recent) root → IsRootOf formula order were.graph before root
   root_of root there = elim (Contains-append_cases (map (λ (h : HeldTerm). h.node) were.stack)
-      (map (λ (k : ℕ × Node). k.1) were.trail) root there) [
+      (map (λ (k : ℕ × Node). k.1) were.trail.recent) root there) [
         | inl of_stack ↦
             let was = of_map (λ (h : HeldTerm). h.node) were.stack root of_stack in
             let found = held_term formula were.graph were.live (reverse were.stack) before.stack were.at.held was.0
@@ -122,12 +122,14 @@ module _ (formula : Formula) (order : List ℕ) (ordered : IsOrder order) (befor
                   (node_function were.graph were.reduced own_order formula was.0.node found.0 found.2.is.stands found.2.is.value);
             })
         | inr of_trail ↦
-            let was = of_map (λ (k : ℕ × Node). k.1) were.trail root of_trail in
-            let found = kept_term formula were.graph were.live (reverse were.trail) before.trail were.at.kept was.0
-            (in_reverse were.trail was.0 was.1) in
+            let was = of_map (λ (k : ℕ × Node). k.1) were.trail.recent root of_trail in
+            let found = kept_term formula were.graph were.live (reverse were.trail.recent) were.at.kept.recent were.at.kept.kept was.0
+            (in_reverse were.trail.recent was.0 was.1) in
             subst (IsRootOf formula order were.graph before) was.2 (record {
               term = found.0.1;
-              there = inr (in_map (λ (k : ℕ × Term). k.1) before.trail found.0 found.1);
+              there = inr (in_map (λ (k : ℕ × Term). k.1) before.trail found.0
+                  (subst (λ (t : List (ℕ × Term)). Contains t found.0) (sym were.at.kept.all)
+                  (Contains-append_left were.at.kept.recent were.at.kept.stored found.0 found.1)));
               stands = found.2.stands;
               same = over_order found.0.1 was.0.1
                   (node_function were.graph were.reduced own_order formula was.0.1 found.0.1 found.2.stands found.2.value);

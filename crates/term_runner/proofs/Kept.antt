@@ -1,5 +1,5 @@
 -- A reclamation keeps the terms that are out: their nodes are its roots.
-use Rattle.std.proofs.Common.{◌≡◌, ◌⊎◌, ◌∙◌, ℕ, zero, suc, true, List, [], Contains, Option, None, Some, refl, sym, ap, subst}
+use Rattle.std.proofs.Common.{◌≡◌, ◌⊎◌, ◌∙◌, zero, suc, true, List, [], Contains, Option, None, Some, refl, sym, ap, subst}
 use Rattle.std.proofs.Common.{arith, inl, inr}
 use Rattle.std.specs.Option.{option_to_list}
 use Rattle.std.specs.Prelude.{◌≢◌}
@@ -12,6 +12,7 @@ use Rattle.node_table.specs.Laws.{Growth, Reachability}
 use Rattle.node_table.specs.Table.{TableState, IsSound}
 use Rattle.clause_terms.specs.Term.{IsTerm}
 use Rattle.reclaim.specs.Reclaimed.{MayReclaim, Reclaims}
+use Rattle.reconstruction.specs.Stack.{Stack, empty_stack}
 use Rattle.term_runner.specs.declared.caches.Caches.{Caches}
 use Rattle.term_runner.specs.declared.held.HeldTerm.{HeldTerm}
 use Rattle.term_runner.specs.declared.runner.Runner.{Runner}
@@ -23,8 +24,8 @@ use Rattle.term_runner.proofs.Given.{true_unit}
 use Rattle.term_runner.proofs.Reclaimed.{in_map, leaves_reached, may_reclaim_owned, of_map, over_reclaimed, proved_stays, units_reclaimed}
 
 -- no variable was quantified, so that the roots are the terms' nodes alone
-pub roots_of_terms : (items : List HeldTerm) (trail : List (ℕ × Node)) → trail ≡ [] → held_nodes items trail ≡ nodes_of items
-roots_of_terms items trail none = ap (λ (t : List (ℕ × Node)). held_nodes items t) none ∙ append-nil (nodes_of items)
+pub roots_of_terms : (items : List HeldTerm) (trail : Stack) → trail ≡ empty_stack → held_nodes items trail.recent ≡ nodes_of items
+roots_of_terms items trail none = ap (λ (t : Stack). held_nodes items t.recent) none ∙ append-nil (nodes_of items)
 
 of_option : (kept : Option HeldTerm) (held : HeldTerm) → Contains (option_to_list kept) held → kept ≡ Some held
 of_option None held there = absurd (omega (arith, there.1))

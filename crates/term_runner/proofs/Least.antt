@@ -8,7 +8,7 @@ use Rattle.node_table.specs.Value.{by_level, value_of}
 use Rattle.schedule_plan.specs.declared.plan.Move.{Move}
 use Rattle.schedule_plan.specs.Plan.{IsAdmissible, Term, term_holds}
 use Rattle.clause_terms.specs.Recovery.{IsRecoveredFrom, set_node_back, set_nodes_back}
-use Rattle.term_runner.specs.Held.{AreKept, IsKept}
+use Rattle.term_runner.specs.Trail.{AreKept, IsKept, IsRecoveredBy}
 use Rattle.term_runner.specs.Recovered.{IsRecovered, set_all_back, set_back, stack_holds}
 use Rattle.term_runner.proofs.Plans.{satisfied_alike, satisfied_by_recovered}
 
@@ -29,16 +29,24 @@ all_same_back formula graph a (kept ∷ nodes) (quantified ∷ trail) are =
     all_same_back formula graph (set_node_back graph a kept) nodes trail are.1
     ∙ ap (λ (b : Assignment). set_all_back formula b trail) (same_back formula graph a kept quantified are.0)
 
+-- by nodes, and so by the terms
+pub by_terms : (formula : Formula) (graph : Graph) (node : Node) (trail : List (ℕ × Node)) (quantified : List (ℕ × Term))
+    → AreKept formula graph trail quantified → (values : List Bool) → IsRecoveredFrom graph node trail values
+    → IsRecoveredBy formula graph node quantified values
+by_terms formula graph node trail quantified kept values from = record {
+  one_each = from.one_each;
+  first = from.first;
+  least = from.least;
+  recovered = λ variable above. from.recovered variable above ∙ ap (λ (a : Assignment). a variable)
+      (all_same_back formula graph from.first trail quantified kept);
+}
+
 pub recovered : (formula : Formula) (graph : Graph) (moves : List Move) (plan : IsAdmissible formula moves)
     → AreClausesOf formula.vars formula.clauses → levels graph ≡ formula.vars
     → (node : Node) → ((a : Assignment) → value_of graph (by_level graph.order a) node ≡ stack_holds formula a plan.last.stack)
-    → (trail : List (ℕ × Node)) → AreKept formula graph trail plan.last.trail → (values : List Bool)
-    → IsRecoveredFrom graph node trail values → IsRecovered formula graph.order moves values
-recovered formula graph moves plan literals vars node same trail kept values from =
+    → (values : List Bool) → IsRecoveredBy formula graph node plan.last.trail values → IsRecovered formula graph.order moves values
+recovered formula graph moves plan literals vars node same values from =
     let holds : stack_holds formula from.first plan.last.stack ≡ true = sym (same from.first) ∙ from.least.satisfies in
-    let back : (variable : ℕ) → 0 < variable → assignment_of values variable ≡ set_all_back formula from.first plan.last.trail variable =
-    λ variable above. from.recovered variable above ∙ ap (λ (a : Assignment). a variable)
-    (all_same_back formula graph from.first trail plan.last.trail kept) in
     record {
       one_each = from.one_each ∙ vars;
       last = plan.last;
@@ -49,9 +57,9 @@ recovered formula graph moves plan literals vars node same trail kept values fro
         least = λ other true_of place small earlier at. from.least.least (by_level graph.order other) (same other
             ∙ true_of) place small earlier at;
       };
-      recovered = back;
+      recovered = from.recovered;
       satisfied =
           satisfied_alike formula.vars formula.clauses literals (set_all_back formula from.first plan.last.trail) (assignment_of values)
-          (λ variable above. sym (back variable above))
+          (λ variable above. sym (from.recovered variable above))
           (satisfied_by_recovered formula moves plan from.first holds);
     }

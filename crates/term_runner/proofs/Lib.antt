@@ -21,6 +21,7 @@ pub mod AllCaches
 pub mod Purged
 pub mod Quantified
 pub mod Trails
+pub mod Stored
 pub mod Replaced
 pub mod Giving
 pub mod Retired

@@ -75,7 +75,7 @@ module _ {S : Type 0} (canonical : Canonical) (steps : StepByStep S) (formula : 
   -- and done
   pub moved_back : Subfunctions → IsOrder old.table.graph.order → Continues one.table mid.table → IsAtStage formula mid next
       → IsOpen formula mid → mid.table.retired ≡ [] → HasOwnUnits mid
-      → LeavesReached one.table.graph mid.table.graph (held_nodes mid.out.items mid.trail) → mid.left ≡ live_nodes mid.table.graph
+      → LeavesReached one.table.graph mid.table.graph (held_nodes mid.out.items mid.trail.recent) → mid.left ≡ live_nodes mid.table.graph
       → Moved formula stage next old mid (Ok false)
   moved_back law ordered so_far at ready none units reached count =
       let continues = steps.go_on old.table one.table mid.table own.leaves so_far in
@@ -90,7 +90,7 @@ module _ {S : Type 0} (canonical : Canonical) (steps : StepByStep S) (formula : 
         leaves = continues;
         no_empty = λ whole unrefuted. further_empty old.table one.table mid.table unrefuted_yet
             (fewer_empty one.table mid.table so_far top);
-        made = made_behind old.table.graph one.table.graph mid.table.graph mid.table.graph (held_nodes mid.out.items mid.trail)
+        made = made_behind old.table.graph one.table.graph mid.table.graph mid.table.graph (held_nodes mid.out.items mid.trail.recent)
             (top_function formula old.table.graph.order next.stack) own.made reached
             (none_made mid.table.graph (top_function formula old.table.graph.order next.stack));
         lacks = λ limit. absurd (no_error limit);

@@ -5,7 +5,6 @@ use Rattle.std.specs.Prelude.{◌≢◌, IsTrue}
 use Rattle.cnf_base.specs.Formula.{Formula}
 use Rattle.node_table.specs.declared.error.TableError.{TableError}
 use Rattle.node_table.specs.declared.error.TableError.TheVariants.{NodeLimit, OutOfMemory, WriteFault}
-use Rattle.node_table.specs.declared.node.Node.{Node}
 use Rattle.node_table.specs.declared.node.Node.TheVariants.{False}
 use Rattle.node_table.specs.declared.node.Justification.{Justification}
 use Rattle.node_table.specs.Diagram.{Graph}
@@ -15,13 +14,15 @@ use Rattle.node_table.specs.Made.{LacksPart}
 use Rattle.node_table.specs.Progress.{Continues, Leaves, Steps, error_of}
 use Rattle.node_table.specs.Table.{TableState, AddsAtMost}
 use Rattle.operations.specs.Entries.{Entry, Fits, Fitting}
+use Rattle.reconstruction.specs.Stack.{Stack}
 use Rattle.schedule_plan.specs.Plan.{Stage, Term, term_holds}
 use Rattle.term_runner.specs.declared.caches.Caches.{Caches}
 use Rattle.term_runner.specs.declared.held.HeldTerm.{HeldTerm}
 use Rattle.term_runner.specs.declared.terms.Terms.{Terms}
 use Rattle.term_runner.specs.Caches.{HaveRoom, all_entries}
 use Rattle.term_runner.specs.Finds.{AreFew, Finds, IsOperand}
-use Rattle.term_runner.specs.Held.{AreHeld, AreKept, HasUnits, IsHeld, IsPlaced, IsUnitOf, MayGiveUp, RetiresUnits, UnitsApart}
+use Rattle.term_runner.specs.Held.{AreHeld, HasUnits, IsHeld, IsPlaced, IsUnitOf, MayGiveUp, RetiresUnits, UnitsApart}
+use Rattle.term_runner.specs.Trail.{IsTrail}
 use Rattle.term_runner.specs.Moves.{Tried}
 use Rattle.term_runner.specs.Nodes.{KeepsOrMakes}
 use Rattle.term_runner.specs.Terms.{HasOwnUnits, IsAtStage, IsOpen}
@@ -124,7 +125,7 @@ module _ {S : Type 0} (growth : Growth) (steps : StepByStep S) (fitting : Fittin
         found.steps.extends (found.fits no_error)
 
     -- it is False
-    pub refuted_by : (new : TableState S) → new ≡ mid → (other : Terms S) (trail : List (ℕ × Node)) → held.node ≡ False
+    pub refuted_by : (new : TableState S) → new ≡ mid → (other : Terms S) (trail : Stack) → held.node ≡ False
         → Tried formula stage next old (record old { table = new; caches = caches; out = other.out; trail = trail }) (Ok true)
     refuted_by new same other trail is = subst (λ (t : TableState S). Tried formula stage next old
         (record old { table = t; caches = caches; out = other.out; trail = trail }) (Ok true)) (sym same) (record {
@@ -147,7 +148,7 @@ module _ {S : Type 0} (growth : Growth) (steps : StepByStep S) (fitting : Fittin
         })
 
     -- memory is wanted behind it
-    pub not_kept : (end : Result Bool TableError) → end ≡ Err OutOfMemory → held.node ≢ False → (trail : List (ℕ × Node))
+    pub not_kept : (end : Result Bool TableError) → end ≡ Err OutOfMemory → held.node ≢ False → (trail : Stack)
         → trail ≡ old.trail → Tried formula stage next old (record old { table = mid; caches = caches; trail = trail }) end
     not_kept end is some trail same = record {
       held = failed_with end OutOfMemory is _;
@@ -169,9 +170,9 @@ module _ {S : Type 0} (growth : Growth) (steps : StepByStep S) (fitting : Fittin
     }
 
     -- it takes the operands' place
-    module _ (new : TableState S) (other : Terms S) (trail : List (ℕ × Node)) (some : held.node ≢ False)
+    module _ (new : TableState S) (other : Terms S) (trail : Stack) (some : held.node ≢ False)
         (listed : reverse other.out.items ≡ held ∷ rest) (retires : RetiresUnits mid new taken held.unit) (more : Steps mid new 0 None)
-        (kept : AreKept formula mid.graph (reverse trail) next.trail) where
+        (kept : IsTrail formula mid.graph trail next.trail) where
       same_graph : new.graph ≡ mid.graph
       same_graph = ap (λ (t : TableState S). t.graph) retires.same
 
@@ -202,7 +203,7 @@ module _ {S : Type 0} (growth : Growth) (steps : StepByStep S) (fitting : Fittin
               (subst (λ (s : List Term). AreHeld formula new.graph new.book.state.live (held ∷ rest) s) (sym stack)
               (subst (λ (t : TableState S). AreHeld formula t.graph t.book.state.live (held ∷ rest) (term ∷ terms)) (sym retires.same)
               held_here));
-          kept = subst (λ (graph : Graph). AreKept formula graph (reverse trail) next.trail) (sym same_graph) kept;
+          kept = subst (λ (graph : Graph). IsTrail formula graph trail next.trail) (sym same_graph) kept;
         };
         refuted = λ is. absurd (let e : false ≡ true = is in cc);
         ready = λ whole. ready_after formula mid new (all_entries caches) (all_entries caches) ready_mid more.leaves.sound more.extends
@@ -241,7 +242,7 @@ module _ {S : Type 0} (growth : Growth) (steps : StepByStep S) (fitting : Fittin
     (Ok held)) where
   pub put_done : (operands : List HeldTerm) → drop (length operands) (taken ++ rest) ≡ rest
       → ((last : TableState S) → RetiresUnits mid last operands held.unit → RetiresUnits mid last taken held.unit) → (new : TableState S)
-      (other : Terms S) (trail : List (ℕ × Node)) → AreKept formula mid.graph (reverse trail) next.trail → (refuted : Bool)
+      (other : Terms S) (trail : Stack) → IsTrail formula mid.graph trail next.trail → (refuted : Bool)
       → (IsTrue refuted → (held.node ≡ False) × ((new ≡ mid) × (other.out ≡ old.out)))
       → (refuted ≡ false → IsPlaced operands held mid new old.out.items other.out.items)
       → Tried formula stage next old (record old { table = new; caches = caches; out = other.out; trail = trail }) (Ok refuted)

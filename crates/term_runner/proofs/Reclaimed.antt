@@ -26,10 +26,13 @@ use Rattle.node_table.specs.Table.{TableState, IsSound}
 use Rattle.node_table.specs.Value.{by_level, value_of}
 use Rattle.operations.specs.Entries.{Entry}
 use Rattle.reclaim.specs.Reclaimed.{IsOverReached, MayReclaim, Reclaims}
+use Rattle.reconstruction.specs.Copies.{AreCopies}
+use Rattle.reconstruction.specs.Stack.{Stack}
 use Rattle.schedule_plan.specs.Plan.{Stage, Term}
 use Rattle.term_runner.specs.declared.held.HeldTerm.{HeldTerm}
 use Rattle.term_runner.specs.Finds.{IsProved}
-use Rattle.term_runner.specs.Held.{AreHeld, AreKept, HasUnits, IsAt, IsHeld, IsKept, IsOver, IsUnitOf}
+use Rattle.term_runner.specs.Held.{AreHeld, HasUnits, IsAt, IsHeld, IsOver, IsUnitOf}
+use Rattle.term_runner.specs.Trail.{AreKept, IsKept, IsTrail}
 use Rattle.term_runner.specs.Tidy.{LeavesReached, held_nodes}
 use Rattle.term_runner.proofs.OwnUnits.{later}
 use Rattle.term_runner.proofs.Trails.{in_reverse}
@@ -89,18 +92,18 @@ module _ (formula : Formula) (graph : Graph) (live : Live) where
       let found = kept_term nodes trail are.1 kept (k, omega (arith, small), at) in
       (found.0, later quantified trail found.0 found.1, found.2)
 
-  pub roots_stand : (stack : List HeldTerm) (trail : List (ℕ × Node)) (stage : Stage) → IsAt formula graph live stack trail stage
-      → (root : Node) → Contains (held_nodes stack trail) root → is_node graph root ≡ true
+  pub roots_stand : (stack : List HeldTerm) (trail : Stack) (stage : Stage) → IsAt formula graph live stack trail stage
+      → (root : Node) → Contains (held_nodes stack trail.recent) root → is_node graph root ≡ true
   roots_stand stack trail stage at root there = elim (Contains-append_cases (map (λ (h : HeldTerm). h.node) stack)
-      (map (λ (k : ℕ × Node). k.1) trail) root there) [
+      (map (λ (k : ℕ × Node). k.1) trail.recent) root there) [
         | inl of_stack ↦
             let was = of_map (λ (h : HeldTerm). h.node) stack root of_stack in
             subst (λ (node : Node). is_node graph node ≡ true) was.2
             (held_term (reverse stack) stage.stack at.held was.0 (in_reverse stack was.0 was.1)).2.is.stands
         | inr of_trail ↦
-            let was = of_map (λ (k : ℕ × Node). k.1) trail root of_trail in
+            let was = of_map (λ (k : ℕ × Node). k.1) trail.recent root of_trail in
             subst (λ (node : Node). is_node graph node ≡ true) was.2
-            (kept_term (reverse trail) stage.trail at.kept was.0 (in_reverse trail was.0 was.1)).2.stands
+            (kept_term (reverse trail.recent) at.kept.recent at.kept.kept was.0 (in_reverse trail.recent was.0 was.1)).2.stands
       ]
 
 -- The nodes were given back.
@@ -205,11 +208,11 @@ over_reclaimed formula old new roots before after sound reclaims over = record {
   vars = ap length reclaims.order ∙ over.vars;
 }
 
-module _ {S : Type 0} (growth : Growth) (formula : Formula) (old new : TableState S) (stack : List HeldTerm) (trail : List (ℕ × Node))
+module _ {S : Type 0} (growth : Growth) (formula : Formula) (old new : TableState S) (stack : List HeldTerm) (trail : Stack)
     (before after : List Entry) (sound : IsSound new)
-    (reclaims : Reclaims old new (held_nodes stack trail) before after) where
+    (reclaims : Reclaims old new (held_nodes stack trail.recent) before after) where
   abbrev roots : List Node
-  roots = held_nodes stack trail
+  roots = held_nodes stack trail.recent
 
   all_stay : (held : List HeldTerm) (terms : List Term) → ((one : HeldTerm) → Contains held one → Contains roots one.node)
       → ((one : HeldTerm) → Contains held one → (id : ℕ) → one.unit ≡ Clause id → clause_at new.book.state.live id
@@ -249,13 +252,30 @@ module _ {S : Type 0} (growth : Growth) (formula : Formula) (old new : TableStat
         trail_stays nodes quantified (λ other among. there other (later kept nodes other among)) are.1,
       )
 
-  pub at_reclaimed : HasUnits old before (reverse stack) → (stage : Stage) → IsAt formula old.graph old.book.state.live stack trail stage
-      → IsAt formula new.graph new.book.state.live stack trail stage
-  at_reclaimed has stage at = record {
-    held = all_stay (reverse stack) stage.stack (held_root stack trail)
+  -- the nodes that are left were there
+  pub were_there : KeepsNodes new.graph old.graph
+  were_there = were growth old new roots before after sound reclaims
+
+  -- of the trail only the copies changed
+  pub trail_reclaimed : (left : Stack) → left ≡ record trail { copies = left.copies } → AreCopies new.graph left.cells left.copies
+      → (quantified : List (ℕ × Term)) → IsTrail formula old.graph trail quantified → IsTrail formula new.graph left quantified
+  trail_reclaimed left same copies quantified is = subst (λ (t : Stack). IsTrail formula new.graph t quantified) (sym same) (record {
+    recent = is.recent;
+    stored = is.stored;
+    all = is.all;
+    kept = trail_stays (reverse trail.recent) is.recent (kept_root stack trail.recent) is.kept;
+    copied = is.copied;
+    copies = subst (λ (t : Stack). AreCopies new.graph t.cells left.copies) same copies;
+  })
+
+  pub at_reclaimed : HasUnits old before (reverse stack) → (left : Stack) → left ≡ record trail { copies = left.copies }
+      → AreCopies new.graph left.cells left.copies → (stage : Stage) → IsAt formula old.graph old.book.state.live stack trail stage
+      → IsAt formula new.graph new.book.state.live stack left stage
+  at_reclaimed has left same copies stage at = record {
+    held = all_stay (reverse stack) stage.stack (held_root stack trail.recent)
         (λ held there id is. reclaims.kept id (has.added id (record { held = held; stacked = there; unit = is }))
         (has.own held there id is)) at.held;
-    kept = trail_stays (reverse trail) stage.trail (kept_root stack trail) at.kept;
+    kept = trail_reclaimed left same copies stage.trail at.kept;
   }
 
 no_literal : (clause : List ℤ) → Some [] ≡ Some clause → (literal : ℤ) → list_any (int_eq literal) clause ≡ true → ⊥
@@ -317,10 +337,10 @@ module _ {S : Type 0} (table : TableState S) (kept : List Entry) (owners : List 
 
 -- so it is of stacked terms
 pub may_reclaim : {S : Type 0} (formula : Formula) (table : TableState S) (kept : List Entry) (stack : List HeldTerm)
-    (trail : List (ℕ × Node)) (stage : Stage) → IsReduced table.graph → HasUnits table kept (reverse stack)
-    → IsAt formula table.graph table.book.state.live stack trail stage → MayReclaim table kept (held_nodes stack trail)
+    (trail : Stack) (stage : Stage) → IsReduced table.graph → HasUnits table kept (reverse stack)
+    → IsAt formula table.graph table.book.state.live stack trail stage → MayReclaim table kept (held_nodes stack trail.recent)
 may_reclaim formula table kept stack trail stage reduced has at =
-    may_reclaim_owned table kept (reverse stack) (held_nodes stack trail) reduced has
+    may_reclaim_owned table kept (reverse stack) (held_nodes stack trail.recent) reduced has
     (λ held among. let term = held_term formula table.graph table.book.state.live (reverse stack) stage.stack at.held held among in
     record { stands = term.2.is.stands; unit = term.2.is.proved })
-    (λ held among. inr (held_root stack trail held among))
+    (λ held among. inr (held_root stack trail.recent held among))

@@ -11,6 +11,7 @@ use Rattle.node_table.specs.HandedOn.{no_error}
 use Rattle.node_table.specs.Made.{inner}
 use Rattle.node_table.specs.Table.{live_nodes}
 use Rattle.node_table.specs.Value.{Levels, IsSubfunction, value_of}
+use Rattle.reconstruction.specs.Stack.{Stack}
 use Rattle.schedule_plan.specs.Plan.{Stage}
 use Rattle.term_runner.specs.declared.held.HeldTerm.{HeldTerm}
 use Rattle.term_runner.specs.Held.{IsAt}
@@ -41,9 +42,9 @@ made_behind old one two new roots function before left behind = record {
   ];
 }
 
-abbrev pub were_left : (formula : Formula) (old new : Graph) (live : Live) (stack : List HeldTerm) (trail : List (ℕ × Node)) (stage : Stage)
+abbrev pub were_left : (formula : Formula) (old new : Graph) (live : Live) (stack : List HeldTerm) (trail : Stack) (stage : Stage)
     (order : List ℕ) (left : ℕ) → IsAt formula new live stack trail stage
-    → LeavesReached old new (held_nodes stack trail) → new.order ≡ order → left ≡ live_nodes new → WereLeft formula order stage left
+    → LeavesReached old new (held_nodes stack trail.recent) → new.order ≡ order → left ≡ live_nodes new → WereLeft formula order stage left
 were_left formula old new live stack trail stage order left at reached same count = record {
   graph = new;
   live = live;

@@ -14,12 +14,15 @@ use Rattle.node_table.specs.Diagram.{Graph, IsOrder, IsReduced, KeepsNodes, is_n
 use Rattle.node_table.specs.Laws.{Growth}
 use Rattle.node_table.specs.Value.{Levels, by_level, value_of}
 use Rattle.clause_terms.specs.Recovery.{IsLeast, IsRecoveredFrom, set_nodes_back}
+use Rattle.reconstruction.specs.declared.cells.Cell.{Cell}
+use Rattle.reconstruction.specs.Copies.{AreCopies}
+use Rattle.reconstruction.specs.Stack.{Stack, empty_stack}
 use Rattle.schedule_plan.specs.declared.plan.Move.{Move}
 use Rattle.schedule_plan.specs.declared.plan.Move.TheVariants.{Push, And, Exists}
 use Rattle.schedule_plan.specs.Plan.{IsAdmissible, Stage, Term, after_and, after_move, after_moves, no_stage, term_holds}
-use Rattle.term_runner.specs.Held.{AreKept, IsKept}
+use Rattle.term_runner.specs.Trail.{AreKept, AreVariables, IsKept, IsTrail}
 use Rattle.term_runner.specs.Recovered.{IsRecovered, stack_holds}
-use Rattle.term_runner.proofs.Least.{recovered}
+use Rattle.term_runner.proofs.Least.{by_terms, recovered}
 use Rattle.term_runner.proofs.Plans.{AllHold, first_of_moves, inside, pushed_of, quantified_of, true_after, true_after_all}
 
 -- the nodes stay, and one more is put behind them
@@ -50,10 +53,43 @@ kept_pushed formula graph before after kept quantified trail is one are =
     subst (λ (nodes : List (ℕ × Node)). AreKept formula graph nodes (quantified ∷ trail))
     (sym (ap reverse is ∙ reverse-append before (kept ∷ []))) (one, are)
 
--- the quantified variables are some of the formula's
-abbrev pub AreVariables : Formula → List (ℕ × Term) → Type 0
-AreVariables formula [] = Unit {0}
-AreVariables formula (quantified ∷ trail) = (0 < quantified.0) × (quantified.0 ≤ formula.vars) × AreVariables formula trail
+-- a trail without variables
+pub trail_first : (formula : Formula) (graph : Graph) (trail : Stack) → trail ≡ empty_stack → AreCopies graph [] []
+    → IsTrail formula graph trail []
+trail_first formula graph trail empty none = subst (λ (t : Stack). IsTrail formula graph t []) (sym empty)
+    (record { recent = []; stored = []; all = refl; kept = tt; copied = tt; copies = none })
+
+copies_grown : Growth → (old new : Graph) → IsReduced old → KeepsNodes old new → (cells : List Cell) (copies : List ℕ)
+    → AreCopies old cells copies → AreCopies new cells copies
+copies_grown growth old new reduced keeps cells copies are = record {
+  stand = λ node has. growth.stands old new keeps node (are.stand node has);
+  value = λ node has a. are.value node has a ∙ sym ((λ k. value_of new (by_level (keeps.order k) a) node)
+      ∙ growth.value old new reduced keeps (by_level old.order a) node (are.stand node has));
+}
+
+pub trail_grown : Growth → (formula : Formula) (old new : Graph) → IsReduced old → KeepsNodes old new
+    → (trail : Stack) (quantified : List (ℕ × Term)) → IsTrail formula old trail quantified → IsTrail formula new trail quantified
+trail_grown growth formula old new reduced keeps trail quantified is = record {
+  recent = is.recent;
+  stored = is.stored;
+  all = is.all;
+  kept = kept_grown growth formula old new reduced keeps (reverse trail.recent) is.recent is.kept;
+  copied = is.copied;
+  copies = copies_grown growth old new reduced keeps trail.cells trail.copies is.copies;
+}
+
+pub trail_pushed : (formula : Formula) (graph : Graph) (before after : Stack) (kept : ℕ × Node) (quantified : ℕ × Term)
+    (trail : List (ℕ × Term)) → after ≡ record before { recent = before.recent ++ kept ∷ [] }
+    → IsKept formula graph kept quantified → IsTrail formula graph before trail → IsTrail formula graph after (quantified ∷ trail)
+trail_pushed formula graph before after kept quantified trail same one is =
+    subst (λ (t : Stack). IsTrail formula graph t (quantified ∷ trail)) (sym same) (record {
+      recent = quantified ∷ is.recent;
+      stored = is.stored;
+      all = ap (λ (q : List (ℕ × Term)). quantified ∷ q) is.all;
+      kept = kept_pushed formula graph before.recent (before.recent ++ kept ∷ []) kept quantified is.recent refl one is.kept;
+      copied = is.copied;
+      copies = is.copies;
+    })
 
 trail_after_and : (stage next : Stage) (stack : List Term) → after_and stage stack ≡ Some next → next.trail ≡ stage.trail
 trail_after_and stage next [] is = cc
@@ -76,27 +112,6 @@ are_variables formula (move ∷ moves) stage last is are =
     let first = first_of_moves formula stage last move moves is in
     are_variables formula moves first.later last first.rest (variables_after formula stage first.later move first.taken are)
 
--- what is kept stands, and is of one of the variables
-pub record IsOfVariable (vars : ℕ) (graph : Graph) (kept : ℕ × Node) : Type 0 where
-  pub stands : is_node graph kept.1 ≡ true
-  pub above : 0 < kept.0
-  pub within : kept.0 ≤ vars
-
-kept_in : (formula : Formula) (graph : Graph) (nodes : List (ℕ × Node)) (trail : List (ℕ × Term)) → AreKept formula graph nodes trail
-    → AreVariables formula trail → (kept : ℕ × Node) → Contains nodes kept
-    → IsOfVariable formula.vars graph kept
-kept_in formula graph [] trail are variables kept there = absurd (omega (arith, there.1))
-kept_in formula graph (first ∷ nodes) [] are variables kept there = absurd are
-kept_in formula graph (first ∷ nodes) (quantified ∷ trail) are variables kept (zero, small, at) =
-    subst (IsOfVariable formula.vars graph) at
-    (record {
-      stands = are.0.stands;
-      above = omega (arith, are.0.variable, variables.0);
-      within = omega (arith, are.0.variable, variables.1);
-    })
-kept_in formula graph (first ∷ nodes) (quantified ∷ trail) are variables kept
-    (suc k, small, at) = kept_in formula graph nodes trail are.1 variables.2 kept (k, omega (arith, small), at)
-
 pub in_reverse : {X : Type 0} (xs : List X) (x : X) → Contains xs x → Contains (reverse xs) x
 in_reverse {X} [] x there = absurd (omega (arith, there.1))
 in_reverse {X} (y ∷ xs) x (zero, small, at) =
@@ -105,12 +120,6 @@ in_reverse {X} (y ∷ xs) x (zero, small, at) =
 in_reverse {X} (y ∷ xs) x (suc k, small, at) =
     subst (λ (list : List X). Contains list x) (sym (reverse-append (y ∷ []) xs))
     (Contains-append_left (reverse xs) (y ∷ []) x (in_reverse xs x (k, omega (arith, small), at)))
-
-pub kept_there : (formula : Formula) (graph : Graph) (nodes : List (ℕ × Node)) (trail : List (ℕ × Term))
-    → AreKept formula graph (reverse nodes) trail → AreVariables formula trail → (kept : ℕ × Node) → Contains nodes kept
-    → IsOfVariable formula.vars graph kept
-kept_there formula graph nodes trail are variables kept there = kept_in formula graph (reverse nodes) trail are variables kept
-    (in_reverse nodes kept there)
 
 -- Where all clauses are tautologies, all terms are true: each quantified variable would be set back to false, which it is.
 abbrev pub all_true : Formula → Assignment → List (ℕ × Term) → Bool
@@ -205,5 +214,6 @@ tautologies_recovered formula graph moves plan ordered literals vars all values 
     let trail = plan.last.trail in
     recovered formula graph moves plan literals vars True (λ a. sym
     (true_after_all formula a (all a) moves no_stage plan.last refl plan.possible))
-    (true_nodes trail) (true_kept formula graph trail (λ a. trail_true formula a (all a) moves no_stage plan.last plan.possible refl refl))
-    values (true_recovered graph ordered formula vars trail (are_variables formula moves no_stage plan.last plan.possible tt) values from)
+    values (by_terms formula graph True (true_nodes trail) trail
+    (true_kept formula graph trail (λ a. trail_true formula a (all a) moves no_stage plan.last plan.possible refl refl))
+    values (true_recovered graph ordered formula vars trail (are_variables formula moves no_stage plan.last plan.possible tt) values from))

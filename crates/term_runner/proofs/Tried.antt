@@ -19,7 +19,7 @@ use Rattle.schedule_plan.specs.declared.plan.Move.{Move}
 use Rattle.schedule_plan.specs.Plan.{Stage, after_move}
 use Rattle.term_runner.specs.declared.terms.Terms.{Terms}
 use Rattle.term_runner.specs.Caches.{HaveRoom, HaveSize, all_entries, sizes}
-use Rattle.term_runner.specs.Held.{AreKept}
+use Rattle.term_runner.specs.Trail.{IsTrail}
 use Rattle.term_runner.specs.Moves.{Moved, Tried}
 use Rattle.term_runner.specs.Nodes.{KeepsOrMakes}
 use Rattle.term_runner.specs.Price.{AddsFew, IsMovePrice}
@@ -104,7 +104,7 @@ module _ {S : Type 0} (formula : Formula) (stage next : Stage) (old mid : Terms 
     at_settled : (s : Stage) → HasOwnUnits mid → IsAtStage formula mid s → IsAtStage formula (record mid { table = new }) s
     at_settled s units at = record {
       held = held_settled formula mid.table new (all_entries mid.caches) nodes none stay (reverse mid.out.items) s.stack units.own at.held;
-      kept = subst (λ (graph : Graph). AreKept formula graph (reverse mid.trail) s.trail) (sym nodes) at.kept;
+      kept = subst (λ (graph : Graph). IsTrail formula graph mid.trail s.trail) (sym nodes) at.kept;
     }
 
     own_settled : HasOwnUnits mid → HasOwnUnits (record mid { table = new })
@@ -242,7 +242,7 @@ module _ {S : Type 0} (growth : Growth) (canonical : Canonical) (steps : StepByS
 
   -- and the move is tried once more
   module _ (law : Subfunctions) (ordered : IsOrder old.table.graph.order) (so_far : Continues one.table mid.table)
-      (at : IsAtStage formula mid stage) (reached : LeavesReached one.table.graph mid.table.graph (held_nodes mid.out.items mid.trail))
+      (at : IsAtStage formula mid stage) (reached : LeavesReached one.table.graph mid.table.graph (held_nodes mid.out.items mid.trail.recent))
       (count : mid.left ≡ live_nodes mid.table.graph) (new : Terms S) (r : Result Bool TableError)
       (second : Tried formula stage next mid new r) where
     continues : Continues old.table mid.table
@@ -266,7 +266,7 @@ module _ {S : Type 0} (growth : Growth) (canonical : Canonical) (steps : StepByS
       no_empty = λ whole unrefuted. further_empty old.table mid.table new.table
           (further_empty old.table one.table mid.table unrefuted_yet (fewer_empty one.table mid.table so_far top))
           (second.no_empty whole unrefuted);
-      made = made_behind old.table.graph one.table.graph mid.table.graph new.table.graph (held_nodes mid.out.items mid.trail)
+      made = made_behind old.table.graph one.table.graph mid.table.graph new.table.graph (held_nodes mid.out.items mid.trail.recent)
           (top_function formula old.table.graph.order next.stack) first.made reached made_last;
       lacks = λ limit. subst (λ (order : List ℕ). LacksPart new.table.graph (top_function formula order next.stack)) continues.order
           (second.lacks limit);

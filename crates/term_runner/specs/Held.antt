@@ -2,7 +2,6 @@
 use Rattle.std.specs.Prelude.{◌≡◌, ◌≢◌, ◌⊎◌, ◌<◌, ◌+◌, ℕ, Bool, true, List, [], ◌∷◌, length, Some, Result, Ok, Err, Contains, IsTrue}
 use Rattle.std.specs.Prelude.{IsFalse}
 use Rattle.std.specs.Prelude.{reverse, slice_index_or, drop, None}
-use Rattle.cnf_base.specs.Truth.{Assignment}
 use Rattle.cnf_base.specs.Formula.{Formula}
 use Rattle.lrat_rules.specs.State.{Live, clause_at}
 use Rattle.node_table.specs.declared.error.TableError.{TableError}
@@ -11,15 +10,16 @@ use Rattle.node_table.specs.declared.node.Node.{Node}
 use Rattle.node_table.specs.declared.node.Node.TheVariants.{False, True}
 use Rattle.node_table.specs.declared.node.Justification.{Justification}
 use Rattle.node_table.specs.declared.node.Justification.TheVariants.{Clause, Trivial}
-use Rattle.node_table.specs.Diagram.{Graph, is_node, levels}
-use Rattle.node_table.specs.Value.{by_level, value_of}
+use Rattle.node_table.specs.Diagram.{Graph, levels}
 use Rattle.node_table.specs.Table.{TableState, AddsNoEmpty, IsAddedTo, IsSound}
 use Rattle.node_table.specs.Progress.{Steps}
 use Rattle.operations.specs.Entries.{Entry, Fits, IsAccounted, NamesOnly, RetiresOwn}
+use Rattle.reconstruction.specs.Stack.{Stack}
 use Rattle.clause_terms.specs.Term.{IsTerm}
 use Rattle.schedule_plan.specs.Plan.{Stage, Term, term_holds}
 use Rattle.term_runner.specs.declared.held.HeldTerm.{HeldTerm}
 use Rattle.term_runner.specs.Clauses.{has_empty_clause}
+use Rattle.term_runner.specs.Trail.{IsTrail}
 
 -- a stacked term's node and unit; its node isn't False
 pub record IsHeld (formula : Formula) (graph : Graph) (live : Live) (held : HeldTerm) (term : Term) : Type 0 where
@@ -33,24 +33,10 @@ AreHeld formula graph live [] (term ∷ terms) = ⊥
 AreHeld formula graph live (held ∷ stack) [] = ⊥
 AreHeld formula graph live (held ∷ stack) (term ∷ terms) = IsHeld formula graph live held term × AreHeld formula graph live stack terms
 
--- a quantified variable, with the node of the term before
-pub record IsKept (formula : Formula) (graph : Graph) (kept : ℕ × Node) (quantified : ℕ × Term) : Type 0 where
-  pub variable : kept.0 ≡ quantified.0
-  pub stands : IsTrue (is_node graph kept.1)
-  pub value : (a : Assignment) → value_of graph (by_level graph.order a) kept.1 ≡ term_holds formula a quantified.1
-
--- those of a trail, the last quantified variable first
-abbrev pub AreKept : Formula → Graph → List (ℕ × Node) → List (ℕ × Term) → Type 0
-AreKept formula graph [] [] = Unit {0}
-AreKept formula graph [] (quantified ∷ trail) = ⊥
-AreKept formula graph (kept ∷ nodes) [] = ⊥
-AreKept formula graph (kept ∷ nodes) (quantified ∷ trail) = IsKept formula graph kept quantified × AreKept formula graph nodes trail
-
 -- The stack and the trail of a run, whose last element is the plan's first, are those of this stage.
-pub record IsAt (formula : Formula) (graph : Graph) (live : Live) (stack : List HeldTerm) (trail : List (ℕ × Node))
-    (stage : Stage) : Type 0 where
+pub record IsAt (formula : Formula) (graph : Graph) (live : Live) (stack : List HeldTerm) (trail : Stack) (stage : Stage) : Type 0 where
   pub held : AreHeld formula graph live (reverse stack) stage.stack
-  pub kept : AreKept formula graph (reverse trail) stage.trail
+  pub kept : IsTrail formula graph trail stage.trail
 
 -- the last term's node; where there is no term, that of the empty conjunction
 abbrev pub top_node : List HeldTerm → Node

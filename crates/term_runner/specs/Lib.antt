@@ -7,6 +7,7 @@ pub mod Nodes
 pub mod Price
 pub mod Ends
 pub mod Opened
+pub mod Trail
 pub mod Held
 pub mod Terms
 pub mod Moves

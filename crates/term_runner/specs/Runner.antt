@@ -16,6 +16,7 @@ use Rattle.node_table.specs.Table.{AddsAtMost, UnlessTorn}
 use Rattle.node_table.specs.Value.{Levels, by_level, value_of}
 use Rattle.operations.specs.Budget.{most_additions}
 use Rattle.clause_terms.specs.Term.{IsTerm}
+use Rattle.reconstruction.specs.Stack.{empty_stack}
 use Rattle.term_runner.specs.declared.held.HeldTerm.{HeldTerm}
 use Rattle.term_runner.specs.declared.runner.Runner.{Runner}
 use Rattle.term_runner.specs.declared.term.Term.{Term}
@@ -44,7 +45,7 @@ pub record OwnsTerms {S : Type 0} (runner : Runner S) (terms : List HeldTerm) : 
   pub over : IsOver runner.formula.now runner.terms.table (all_entries runner.terms.caches)
   pub proved : (held : HeldTerm) → Contains terms held → IsProved runner.terms.table.graph runner.terms.table.book.state.live held
   pub units : HasUnits runner.terms.table (all_entries runner.terms.caches) terms
-  pub no_trail : runner.terms.trail ≡ []
+  pub no_trail : runner.terms.trail ≡ empty_stack
   pub kept : (held : HeldTerm) → runner.kept ≡ Some held → held.node ≡ False
   pub refuted : IsTrue runner.refuted → HasFalse terms
   pub unrefuted : runner.refuted ≡ false → (id : ℕ) → runner.terms.table.inputs < id

@@ -10,6 +10,7 @@ use Rattle.node_table.specs.Made.{inner}
 use Rattle.node_table.specs.Marks.{IsReached}
 use Rattle.node_table.specs.Table.{live_nodes}
 use Rattle.node_table.specs.Value.{Levels, value_of}
+use Rattle.reconstruction.specs.Stack.{Stack}
 use Rattle.schedule_plan.specs.Plan.{Stage}
 use Rattle.term_runner.specs.declared.held.HeldTerm.{HeldTerm}
 use Rattle.term_runner.specs.Held.{IsAt}
@@ -19,7 +20,7 @@ use Rattle.term_runner.specs.Nodes.{KeepsOrMakes}
 abbrev pub IsTidy : ℕ → ℕ → Type 0
 IsTidy live left = (live < 1000) ⊎ (live < 2 * left)
 
--- the nodes of the stacked terms, and those on the trail
+-- the nodes of the stacked terms, and those on the trail that aren't stored
 abbrev pub held_nodes : List HeldTerm → List (ℕ × Node) → List Node
 held_nodes stack trail = map (λ held. held.node) stack ++ map (λ kept. kept.1) trail
 
@@ -49,9 +50,9 @@ pub record WereLeft (formula : Formula) (order : List ℕ) (stage : Stage) (left
   pub graph : Graph
   pub live : Live
   pub stack : List HeldTerm
-  pub trail : List (ℕ × Node)
+  pub trail : Stack
   pub at : IsAt formula graph live stack trail stage
   pub order_is : graph.order ≡ order
   pub reduced : IsReduced graph
   pub count : live_nodes graph ≡ left
-  pub reached : (key : ℕ) (branch : Branch) → branch_at graph key ≡ Some branch → IsReached graph (held_nodes stack trail) (inner key)
+  pub reached : (key : ℕ) (branch : Branch) → branch_at graph key ≡ Some branch → IsReached graph (held_nodes stack trail.recent) (inner key)

@@ -3,6 +3,7 @@ use Rattle.std.specs.Prelude.{◌≡◌, ℕ, List, [], false, length, None}
 use Rattle.cnf_base.specs.Formula.{Formula}
 use Rattle.cnf_base.specs.Order.{IsOrder}
 use Rattle.node_table.specs.Table.{opened}
+use Rattle.reconstruction.specs.Stack.{empty_stack}
 use Rattle.schedule_plan.specs.declared.limits.Limits.{Limits}
 use Rattle.schedule_plan.specs.Limits.{AreLimits}
 use Rattle.term_runner.specs.declared.runner.Runner.{Runner}
@@ -20,7 +21,7 @@ pub record IsUnused {S : Type 0} (runner : Runner S) : Type 0 where
   pub no_entries : all_entries runner.terms.caches ≡ []
   pub size : HaveSize runner.terms.caches runner.limits.cache
   pub none_out : runner.terms.out.items ≡ []
-  pub no_trail : runner.terms.trail ≡ []
+  pub no_trail : runner.terms.trail ≡ empty_stack
   pub none_left : runner.terms.left ≡ 0
   pub unrefuted : runner.refuted ≡ false
   pub none_kept : runner.kept ≡ None

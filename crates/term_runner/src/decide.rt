@@ -1,15 +1,18 @@
 // From the moves of a plan to what was found.
-ghost use Rattle.std.specs.Prelude.{◌≡◌, ◌≢◌, ◌⊎◌, ◌≤◌, ◌+◌, ◌*◌, ℕ, [], Ok, Err, None, Some, IsTrue, IsFalse, IfOk, IfErr, IsSome};
+ghost use Rattle.std.specs.Prelude.{◌≡◌, ◌≢◌, ◌⊎◌, ◌≤◌, ◌+◌, ◌*◌, ℕ, List, [], Ok, Err, None, Some, IsTrue, IsFalse, IfOk, IfErr, IsSome};
 ghost use Rattle.std.specs.Prelude.{MatchOption};
 ghost use Rattle.std.specs.Prelude.{length, reverse};
 ghost use Rattle.std.specs.List.{list_all};
 ghost use Rattle.std.specs.FinMap as map;
+ghost use Rattle.cnf_base.specs.Formula.{Formula};
 ghost use Rattle.lrat_rules.specs.State.{clause_at};
 ghost use Rattle.node_table.specs.declared.error.TableError.TheVariants.{NodeLimit, IdLimit, WriteFault};
-ghost use Rattle.node_table.specs.Diagram.{levels};
+ghost use Rattle.node_table.specs.declared.node.Node.TheVariants.{False};
+ghost use Rattle.node_table.specs.Diagram.{is_node, levels};
 ghost use Rattle.node_table.specs.Progress.{Leaves, error_of};
 ghost use Rattle.node_table.specs.Table.{AddsNoEmpty};
-ghost use Rattle.schedule_plan.specs.Plan.{IsAdmissible};
+ghost use Rattle.reconstruction.specs.Stack.{empty_stack};
+ghost use Rattle.schedule_plan.specs.Plan.{IsAdmissible, Term};
 ghost use Rattle.term_runner.specs.Caches.{HaveSize, all_entries};
 ghost use Rattle.term_runner.specs.Clauses.{is_tautology};
 ghost use Rattle.term_runner.specs.Recovered.{IsRecovered};
@@ -18,18 +21,21 @@ ghost use Rattle.term_runner.specs.Width.{HasWidth};
 ghost use Rattle.term_runner.specs.Nodes.{RunsShort};
 ghost use Rattle.term_runner.specs.Opened.{LeavesKind};
 ghost use Rattle.term_runner.specs.Held.{IsReady, top_node};
+ghost use Rattle.term_runner.specs.Trail.{AreVariables, IsRecoveredBy, IsTrail};
 
 use crate::held::HeldTerm;
 use crate::open::are_tautologies;
 use crate::progress::Progress;
 use crate::terms::Terms;
-use clause_terms::{Model, recover};
-use cnf_base::Cnf;
+use clause_terms::{Model, Trail, recover};
+use cnf_base::{Cnf, OutOfMemory};
 use host_io::Sink;
 use node_table::{
-    Node, TableError, canonical_law, in_use_law, lean_law, steps_law, subfunction_law,
+    Node, Table, TableError, canonical_law, in_use_law, lean_law, steps_law, subfunction_law,
 };
+use reconstruction::{Reconstruction, copies_law};
 use schedule_plan::Plan;
+use std::alloc::Global;
 
 impl<S: Sink + Drop> Terms<S> {
     /// Decides a formula without empty clauses, from a table without nodes: a model, or None where the empty clause was
@@ -52,7 +58,7 @@ impl<S: Sink + Drop> Terms<S> {
         requires settled { self.old.table.retired ≡ [] }
         requires fresh { self.old.table.inputs ≡ self.old.table.book.state.top }
         requires none_out { self.old.out.items ≡ [] }
-        requires no_trail { self.old.trail ≡ [] }
+        requires no_trail { self.old.trail ≡ empty_stack }
         requires none_left { self.old.left ≡ 0 }
         ensures found { IfOk result (λ found. MatchOption found ((id : ℕ) × (clause_at self.new.table.book.state.live id ≡ Some []))
             (λ model. IsRecovered formula.now self.old.table.graph.order plan.now model)) }
@@ -79,7 +85,7 @@ impl<S: Sink + Drop> Terms<S> {
         self.table.table_law();
         let alloc = *self.out.allocator();
         if are_tautologies(alloc, formula) {
-            let model = recover(alloc, &mut self.table, Node::True, &self.trail)?;
+            let model = recover(alloc, &self.table, Node::True, &Trail::new(alloc))?;
             return Ok(Some(model));
         }
         self.take_moves(formula, plan, capacity, progress)
@@ -103,7 +109,7 @@ impl<S: Sink + Drop> Terms<S> {
         requires settled { self.old.table.retired ≡ [] }
         requires fresh { self.old.table.inputs ≡ self.old.table.book.state.top }
         requires none_out { self.old.out.items ≡ [] }
-        requires no_trail { self.old.trail ≡ [] }
+        requires no_trail { self.old.trail ≡ empty_stack }
         requires none_left { self.old.left ≡ 0 }
         ensures found { IfOk result (λ found. MatchOption found ((id : ℕ) × (clause_at self.new.table.book.state.live id ≡ Some []))
             (λ model. IsRecovered formula.now self.old.table.graph.order plan.now model)) }
@@ -124,6 +130,7 @@ impl<S: Sink + Drop> Terms<S> {
         canonical_law();
         in_use_law();
         lean_law::<S>();
+        copies_law();
         formula.formula_law();
         'moves: for i in 0..plan.len() {
             self.caches.few_law();
@@ -138,9 +145,31 @@ impl<S: Sink + Drop> Terms<S> {
         self.caches.few_law();
         let alloc = *self.out.allocator();
         let node = top(self.out.as_slice());
-        let model = recover(alloc, &mut self.table, node, &self.trail)?;
+        let model = recover_all(alloc, &self.table, node, &mut self.trail)?;
         Ok(Some(model))
     }
+}
+
+// The least assignment that makes the node true, and then the variables of the trail, the last one first, whose terms are stored
+// before.
+fn recover_all<S: Sink + Drop>(
+    alloc: Global,
+    table: &Table<S>,
+    node: Node,
+    trail: &mut Reconstruction,
+) -> Result<Model, OutOfMemory>
+    requires node { IsTrue (is_node table.now.graph node) }
+    requires some { node ≢ False }
+    requires trail { (formula : Formula) × (quantified : List (ℕ × Term)) × IsTrail formula table.now.graph trail.old quantified
+        × AreVariables formula quantified × (formula.vars ≡ levels table.now.graph) }
+    ensures { IfOk result (λ model. (formula : Formula) (quantified : List (ℕ × Term))
+        → IsTrail formula table.now.graph trail.old quantified → IsRecoveredBy formula table.now.graph node quantified model) }
+{
+    table.table_law();
+    trail.store(table)?;
+    let mut model = recover(alloc, table, node, &Trail::new(alloc))?;
+    trail.set_back(&mut model);
+    Ok(model)
 }
 
 // The last term's node; True where there is no term.

@@ -1,7 +1,7 @@
 //! Runs a plan over a formula: pushes its clauses as terms, conjoins them, quantifies variables from them, and ends with a
 //! refutation on the proof, with an assignment that satisfies the formula, or at a limit. It stands on `clause_terms` for the
-//! clauses' terms and for the assignment, on `apply_and`, `quantify` and `imply`
-//! for the operations, and on `reclaim`.
+//! clauses' terms and for the assignment, on `apply_and`, `quantify` and `imply` for the operations, on `reclaim`, and on
+//! `reconstruction` for the terms of quantified variables.
 #![tactic(auto)]
 
 mod caches;

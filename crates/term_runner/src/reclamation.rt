@@ -1,28 +1,31 @@
 // Reclamation between moves. At the limit of nodes, those that neither stack nor trail reaches are given back, and the move
 // is tried once more. They are also given back after a move that leaves many: then each reclamation frees at least half of
-// the nodes that it looks at, or all were reached, so that its time is a fraction of that in which they were made.
+// the nodes that it looks at, or all were reached, so that its time is a fraction of that in which they were made. Where there are
+// many the trail's terms are copied out of the table first, so that it keeps those of the stack alone.
 // (McCarthy: Recursive Functions of Symbolic Expressions, 1960, section 4; Brace, Rudell, Bryant: Efficient Implementation of
 // a BDD Package, DAC 1990, section 3.4.)
-ghost use Rattle.std.specs.Prelude.{◌≡◌, ◌↔◌, ◌⊎◌, ◌+◌, [], Ok, Err, Some, IsTrue, OnOk, OnErr, IfOk, IfErr, false};
+ghost use Rattle.std.specs.Prelude.{◌≡◌, ◌↔◌, ◌⊎◌, ◌≤◌, ◌<◌, ◌+◌, ℕ, List, [], Ok, Err, Some, IsTrue, OnOk, OnErr, IfOk, IfErr, false};
 ghost use Rattle.node_table.specs.declared.error.TableError.TheVariants.{OutOfMemory, WriteFault};
 ghost use Rattle.node_table.specs.Progress.{Leaves, error_of};
 ghost use Rattle.node_table.specs.Table.{live_nodes};
-ghost use Rattle.schedule_plan.specs.Plan.{Stage, after_move};
+ghost use Rattle.cnf_base.specs.Formula.{Formula};
+ghost use Rattle.schedule_plan.specs.Plan.{Stage, Term, after_move};
 ghost use Rattle.term_runner.specs.Caches.{sizes};
 ghost use Rattle.term_runner.specs.Moves.{MayMove, Moved};
 ghost use Rattle.term_runner.specs.Terms.{HasOwnUnits, IsAtStage, IsOpen};
 ghost use Rattle.term_runner.specs.Tidy.{IsTidy, LeavesReached, held_nodes};
+ghost use Rattle.term_runner.specs.Trail.{IsTrail};
 
 use crate::held::HeldTerm;
 use crate::moves::is_node_limit;
 use crate::terms::Terms;
-use clause_terms::Trail;
 use cnf_base::{Cnf, OutOfMemory as NoMemory};
 use host_io::Sink;
 use node_table::{
-    Node, TableError, canonical_law, growth_law, reach_law, steps_law, subfunction_law,
+    Node, Table, TableError, canonical_law, growth_law, reach_law, steps_law, subfunction_law,
 };
 use reclaim::reclaim;
+use reconstruction::Reconstruction;
 use schedule_plan::Move;
 use std::alloc::Global;
 
@@ -73,7 +76,8 @@ impl<S: Sink + Drop> Terms<S> {
         }
     }
 
-    // Gives back the nodes that neither the stack nor the trail reaches, with their clauses, and says how many are left.
+    // Gives back the nodes that neither the stack nor the trail reaches, with their clauses, and says how many are left. Where there
+    // were many, the trail reaches none, for its terms are stored.
     fn give_back(&mut self, formula: &Cnf) -> Result<u32, TableError>
         requires ready { IsOpen formula.now self.old }
         requires possible { (stage : Stage) × IsAtStage formula.now self.old stage }
@@ -83,12 +87,15 @@ impl<S: Sink + Drop> Terms<S> {
         ensures ready { OnOk result (IsOpen formula.now self.new) }
         ensures settled { OnOk result (self.new.table.retired ≡ []) }
         ensures own { OnOk result (HasOwnUnits self.new) }
-        ensures reached { OnOk result (LeavesReached self.old.table.graph self.new.table.graph (held_nodes self.old.out.items self.old.trail)) }
+        ensures reached { OnOk result (LeavesReached self.old.table.graph self.new.table.graph
+            (held_nodes self.new.out.items self.new.trail.recent)) }
+        ensures alone { 1000 ≤ live_nodes self.old.table.graph → OnOk result (self.new.trail.recent ≡ []) }
+        ensures few { live_nodes self.old.table.graph < 1000 → OnOk result (self.new.trail.recent ≡ self.old.trail.recent) }
         ensures count { IfOk result (λ left. left ≡ live_nodes self.new.table.graph) }
         // A refusal leaves the nodes as they were.
         ensures kept { OnErr result (self.new.table.graph ≡ self.old.table.graph) }
         ensures top { self.new.table.book.state.top ≡ self.old.table.book.state.top }
-        ensures same { (self.new.out ≡ self.old.out) × (self.new.trail ≡ self.old.trail) × (self.new.left ≡ self.old.left) }
+        ensures same { (self.new.out ≡ self.old.out) × (self.new.left ≡ self.old.left) }
         ensures sizes { sizes self.new.caches ≡ sizes self.old.caches }
         ensures leaves { Leaves self.old.table self.new.table (error_of result) }
         ensures error { IfErr result (λ e. (e ≡ OutOfMemory) ⊎ (e ≡ WriteFault)) }
@@ -96,28 +103,43 @@ impl<S: Sink + Drop> Terms<S> {
         growth_law();
         reach_law();
         steps_law::<S>();
+        store_many(&self.table, &mut self.trail)?;
         let alloc = *self.out.allocator();
         let roots = roots_of(alloc, self.out.as_slice(), &self.trail)?;
         let _ = reclaim(&mut self.table, roots.as_slice(), &mut self.caches)?;
+        self.trail.forget_dead(&self.table);
         Ok(self.table.live())
     }
 }
 
-/// The nodes of the stack and of the trail.
+// Where there are many nodes the trail's terms are copied out of the table.
+fn store_many<S: Sink + Drop>(table: &Table<S>, trail: &mut Reconstruction) -> Result<(), NoMemory>
+    requires trail { (formula : Formula) × (quantified : List (ℕ × Term)) × IsTrail formula table.now.graph trail.old quantified }
+    ensures trail { (formula : Formula) (quantified : List (ℕ × Term)) → IsTrail formula table.now.graph trail.old quantified
+        → OnOk result (IsTrail formula table.now.graph trail.new quantified) }
+    ensures alone { 1000 ≤ live_nodes table.now.graph → OnOk result (trail.new.recent ≡ []) }
+    ensures few { live_nodes table.now.graph < 1000 → trail.new ≡ trail.old }
+{
+    if table.live() < RECLAIM_FROM {
+        return Ok(());
+    }
+    trail.store(table)
+}
+
+/// The nodes of the stack, and those of the trail that aren't stored.
 pub(crate) fn roots_of(
     alloc: Global,
     stack: &[HeldTerm],
-    trail: &Trail,
+    trail: &Reconstruction,
 ) -> Result<Vec<Node>, NoMemory>
-    ensures { IfOk result (λ roots. roots.items ≡ held_nodes stack.now trail.now) }
+    ensures { IfOk result (λ roots. roots.items ≡ held_nodes stack.now trail.now.recent) }
 {
     let mut roots: Vec<Node> = Vec::new(alloc);
     'stack: for held in stack {
         roots.push(held.node)?;
     }
-    'trail: for kept in trail.as_slice() {
-        roots.push(kept.1)?;
-    }
+    let kept = trail.nodes()?;
+    roots.extend_from_slice(kept.as_slice())?;
     Ok(roots)
 }
 

@@ -1,12 +1,13 @@
 // The terms of a run, over their table and caches, and the trail of a plan.
 ghost use Rattle.std.specs.Prelude.{◌≡◌, []};
+ghost use Rattle.reconstruction.specs.Stack.{empty_stack};
 
 use crate::caches::Caches;
 use crate::held::HeldTerm;
 use clause_ledger::Ledger;
-use clause_terms::Trail;
 use host_io::Sink;
 use node_table::Table;
+use reconstruction::Reconstruction;
 use std::alloc::Global;
 use std::mem::forget;
 
@@ -17,8 +18,8 @@ pub(crate) struct Terms<S: Sink + Drop> {
     pub caches: Caches,
     // Each with its unit. While a plan runs they are its stack.
     pub out: Vec<HeldTerm>,
-    // The variables that a plan quantified, each with the node that it was quantified from.
-    pub trail: Trail,
+    // The variables that a plan quantified, each with the term that it was quantified from.
+    pub trail: Reconstruction,
     // How many nodes the last reclamation left.
     pub left: u32,
 }
@@ -29,14 +30,14 @@ impl<S: Sink + Drop> Terms<S> {
         ensures table { result.table ≡ table }
         ensures caches { result.caches ≡ caches }
         ensures out { result.out.items ≡ [] }
-        ensures trail { result.trail ≡ [] }
+        ensures trail { result.trail ≡ empty_stack }
         ensures left { result.left ≡ 0 }
     {
         Terms {
             table,
             caches,
             out: Vec::new(alloc),
-            trail: Trail::new(alloc),
+            trail: Reconstruction::new(alloc),
             left: 0,
         }
     }

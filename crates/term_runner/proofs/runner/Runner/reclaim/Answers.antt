@@ -1,7 +1,8 @@
 -- The nodes of the terms that are out are the roots.
-use Rattle.std.proofs.Common.{◌≡◌, ◌∙◌, ℕ, List, [], Contains, sym, ap, subst}
+use Rattle.std.proofs.Common.{◌≡◌, ◌∙◌, List, Contains, sym, ap, subst}
 use Rattle.node_table.specs.declared.node.Node.{Node}
 use Rattle.reclaim.specs.Reclaimed.{MayReclaim, Reclaims}
+use Rattle.reconstruction.specs.Stack.{Stack, empty_stack}
 use Rattle.term_runner.specs.declared.held.HeldTerm.{HeldTerm}
 use Rattle.term_runner.specs.Caches.{all_entries}
 use Rattle.term_runner.specs.Runner.{nodes_of}
@@ -10,9 +11,9 @@ use Rattle.term_runner.proofs.Kept.{reached_terms, roots_of_terms, roots_stood, 
 use Rattle.term_runner.proofs.runner.Runner.reclaim.Goals as goal
 
 -- the roots are the nodes of the terms
-roots_are : (items slice : List HeldTerm) (trail : List (ℕ × Node)) (roots listed : List Node) → slice ≡ items → roots ≡ listed
-    → listed ≡ held_nodes slice trail → trail ≡ [] → roots ≡ nodes_of items
-roots_are items slice trail roots listed of_out of_roots is none = of_roots ∙ is ∙ ap (λ (held : List HeldTerm). held_nodes held trail) of_out
+roots_are : (items slice : List HeldTerm) (trail : Stack) (roots listed : List Node) → slice ≡ items → roots ≡ listed
+    → listed ≡ held_nodes slice trail.recent → trail ≡ empty_stack → roots ≡ nodes_of items
+roots_are items slice trail roots listed of_out of_roots is none = of_roots ∙ is ∙ ap (λ (held : List HeldTerm). held_nodes held trail.recent) of_out
     ∙ roots_of_terms items trail none
 
 pub reclaim-requires-clause-roots : goal.reclaim-requires-clause-roots

@@ -18,7 +18,8 @@ use Rattle.schedule_plan.specs.Plan.{Stage, Term, after_move, both, input, some_
 use Rattle.term_runner.specs.declared.held.HeldTerm.{HeldTerm}
 use Rattle.term_runner.specs.Caches.{all_entries}
 use Rattle.term_runner.specs.Finds.{AreFew, Finds}
-use Rattle.term_runner.specs.Held.{AreHeld, AreKept, HasUnits, IsAt, IsHeld}
+use Rattle.term_runner.specs.Held.{AreHeld, HasUnits, IsAt, IsHeld}
+use Rattle.term_runner.specs.Trail.{IsTrail}
 use Rattle.term_runner.specs.Terms.{HasOwnUnits, IsAtStage}
 use Rattle.term_runner.specs.Width.{HasAtMost, HoldsAtMost, IsInHand, term_function}
 use Rattle.term_runner.proofs.FewLeft.{in_front}
@@ -30,7 +31,7 @@ use Rattle.term_runner.proofs.Plans.{IsAfterExists}
 use Rattle.term_runner.proofs.Quantified.{quantified_function}
 use Rattle.term_runner.proofs.Stacks.{few_left, none_left, term_kept}
 use Rattle.term_runner.proofs.Taking.{IsConjoined, IsPushed, and_of, exists_of, push_of}
-use Rattle.term_runner.proofs.Trails.{kept_grown, kept_pushed}
+use Rattle.term_runner.proofs.Trails.{trail_grown, trail_pushed}
 use Rattle.term_runner.proofs.terms.Terms.carry_out.Given.{Over}
 use Rattle.term_runner.proofs.terms.Terms.carry_out.Goals as goal
 use Rattle.term_runner.proofs.terms.Terms.carry_out.Goals.{After-conjunction, After-input, After-weaken}
@@ -86,14 +87,14 @@ returns-in_ok-held-in-Push g c stage next at leads =
     let inside = (goal.at.returns-in_ok-held-in-Push g c).After-input in
     let move = pushed g inside stage next at leads in
     let found = c.in_ok-held-in-Push.ensures.finds old.caches c.requires.ready.over.fits in
-    let kept = kept_grown c.growth_law.ensures formula old.table.graph c.input.new.table.graph c.requires.ready.over.sound.tied.reduced
-    found.steps.extends.nodes (reverse old.trail) stage.trail at.kept in
+    let kept = trail_grown c.growth_law.ensures formula old.table.graph c.input.new.table.graph c.requires.ready.over.sound.tied.reduced
+    found.steps.extends.nodes old.trail stage.trail at.kept in
     with_room formula stage next old roomy_old _ _ c.reserve.ensures.items
     (put_done c.growth_law.ensures c.steps_law.ensures c.entry_law.ensures formula stage next roomy_old
     c.requires.ready (roomy g inside stage next at leads) (roomy_at g inside stage next at leads) (input c.in-Push.number) stage.stack
     move.stack [] (reverse c.reserve.new.self.items) refl (roomy_at g inside stage next at leads).held (λ width most. tt)
     c.input.new.table old.caches c.in_ok-held-in-Push.held found [] refl (λ last retires. retires) c.put.new.table (record old { out = c.put.new.out }) old.trail
-    (subst (λ (trail : List (ℕ × Term)). AreKept formula c.input.new.table.graph (reverse old.trail) trail) (sym move.trail) kept)
+    (subst (λ (trail : List (ℕ × Term)). IsTrail formula c.input.new.table.graph old.trail trail) (sym move.trail) kept)
     c.put.result c.put.ensures.refuted c.put.ensures.placed)
 
 pub unreachable-requires : goal.unreachable-requires
@@ -228,15 +229,15 @@ returns-in_ok-held-in-And g c stage next at leads =
     let inside = (goal.at.returns-in_ok-held-in-And g c).After-conjunction in
     let move = conjoined g inside stage next at leads in
     let found = found_two g inside stage next at leads (Ok c.in_ok-held-in-And.held) c.in_ok-held-in-And.ensures in
-    let kept = kept_grown c.growth_law.ensures formula old.table.graph c.conjunction.new.table.graph c.requires.ready.over.sound.tied.reduced
-    found.steps.extends.nodes (reverse old.trail) stage.trail at.kept in
+    let kept = trail_grown c.growth_law.ensures formula old.table.graph c.conjunction.new.table.graph c.requires.ready.over.sound.tied.reduced
+    found.steps.extends.nodes old.trail stage.trail at.kept in
     put_done c.growth_law.ensures c.steps_law.ensures c.entry_law.ensures formula stage next old c.requires.ready c.requires.own at
     (both move.one move.other) move.rest move.after (c.in-Some.v ∷ c.in-Some.u ∷ []) c.in-Some.ensures.0
     (items_two g inside stage next at leads) (two g inside stage next at leads).1.1 (few_two g inside stage next at leads)
     c.conjunction.new.table c.conjunction.new.caches c.in_ok-held-in-And.held found
     (c.in-Some.u ∷ c.in-Some.v ∷ []) refl (λ last. retires_swapped c.conjunction.new.table last c.in-Some.u c.in-Some.v c.in_ok-held-in-And.held.unit) c.put-in-And.new.table
     (record old { out = c.put-in-And.new.out }) old.trail
-    (subst (λ (trail : List (ℕ × Term)). AreKept formula c.conjunction.new.table.graph (reverse old.trail) trail) (sym move.trail) kept)
+    (subst (λ (trail : List (ℕ × Term)). IsTrail formula c.conjunction.new.table.graph old.trail trail) (sym move.trail) kept)
     c.put-in-And.result c.put-in-And.ensures.refuted c.put-in-And.ensures.placed
 
 pub unreachable-requires-in_default-level : goal.unreachable-requires-in_default-level
@@ -371,14 +372,14 @@ returns-in_ok-push-in-Exists g c stage next at leads =
     let up = term_kept c.growth_law.ensures old.table.graph new.graph reduced extends.nodes old.table.book.state.live new.book.state.live
     extends.clauses (λ a. term_holds formula a move.top) c.in-Some-last_term.u.node c.in-Some-last_term.u.unit
     (top g inside stage next at leads).0.is in
-    let kept = kept_pushed formula new.graph old.trail c.push.new.self (x, c.in-Some-last_term.u.node) (x, move.top) stage.trail
+    let kept = trail_pushed formula new.graph old.trail c.push.new.self (x, c.in-Some-last_term.u.node) (x, move.top) stage.trail
     c.in_ok-push-in-Exists.ensures.ok (record { variable = refl; stands = up.stands; value = up.value })
-    (kept_grown c.growth_law.ensures formula old.table.graph new.graph reduced extends.nodes (reverse old.trail) stage.trail at.kept) in
+    (trail_grown c.growth_law.ensures formula old.table.graph new.graph reduced extends.nodes old.trail stage.trail at.kept) in
     put_done c.growth_law.ensures c.steps_law.ensures c.entry_law.ensures formula stage next old c.requires.ready c.requires.own at
     (some_value x move.top) move.rest (result_one g inside stage next at leads) (c.in-Some-last_term.u ∷ [])
     c.in-Some-last_term.ensures.0 (items_one g inside stage next at leads) (top g inside stage next at leads).1
     (few_one g inside stage next at leads) new c.weaken.new.caches c.in_ok-held-in-Exists.held found (c.in-Some-last_term.u ∷ []) refl (λ last retires. retires)
     c.put-in-Exists.new.table (record old { out = c.put-in-Exists.new.out }) c.push.new.self
-    (subst (λ (trail : List (ℕ × Term)). AreKept formula new.graph (reverse c.push.new.self) trail)
+    (subst (λ (trail : List (ℕ × Term)). IsTrail formula new.graph c.push.new.self trail)
     (sym (ap (λ (s : Stage). s.trail) move.after)) kept)
     c.put-in-Exists.result c.put-in-Exists.ensures.refuted c.put-in-Exists.ensures.placed

@@ -26,7 +26,7 @@ returns-then-are_tautologies-clause-found g c =
     (sym c.are_tautologies.ensures ∙ c.if-are_tautologies.true)))
     c.in_ok-model.model
     (subst (λ (trail : List (ℕ × Node)). IsRecoveredFrom c.args.self.now.table.graph True
-    (reverse trail) c.in_ok-model.model) c.requires.no_trail c.in_ok-model.ensures.recovered)
+    (reverse trail) c.in_ok-model.model) c.new.ensures c.in_ok-model.ensures.recovered)
 
 pub returns-then-are_tautologies-clause-leaves : goal.returns-then-are_tautologies-clause-leaves
 returns-then-are_tautologies-clause-leaves g c = (c.steps_law.ensures.none c.args.self.now.table c.requires.ready.over.sound).leaves

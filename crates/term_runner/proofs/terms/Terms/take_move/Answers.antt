@@ -1,10 +1,9 @@
 -- Behind a move that succeeded the nodes are few, or those that its terms reach.
-use Rattle.std.proofs.Common.{◌≡◌, ℕ, Bool, List, Ok, Result, refl, sym, subst}
+use Rattle.std.proofs.Common.{◌≡◌, ℕ, Bool, Ok, Result, refl, sym, subst}
 use Rattle.node_table.specs.declared.error.TableError.{TableError}
-use Rattle.node_table.specs.declared.node.Node.{Node}
 use Rattle.node_table.specs.HandedOn.{handed_on}
 use Rattle.term_runner.specs.Moves.{Moved}
-use Rattle.term_runner.specs.Tidy.{IsTidy, LeavesReached, held_nodes}
+use Rattle.term_runner.specs.Tidy.{IsTidy}
 use Rattle.term_runner.proofs.Moved.{moved_back, moved_full}
 use Rattle.term_runner.proofs.Units.{not_both}
 use Rattle.term_runner.proofs.terms.Terms.take_move.Goals as goal
@@ -49,15 +48,13 @@ returns-in_err-self-clause-moved g c stage next at leads =
     c.try_twice.new.self c.give_back.new.self own
     (λ tidy. not_both c.is_tidy.result (c.is_tidy.ensures.1 (many _ c.live.ensures tidy)) c.if-is_tidy.false)
     c.give_back.ensures.top c.give_back.ensures.sizes _ came (handed_on _ came came c.from_residual-in_err-self.ensures.1 refl) back.error
-    back.leaves back.kept c.give_back.ensures.same.2
+    back.leaves back.kept c.give_back.ensures.same.1
 
 pub returns-clause-moved : goal.returns-clause-moved
 returns-clause-moved g c stage next at leads =
     let back = c.in_ok-self.ensures in
     let own = subst (λ (refuted : Bool). Moved c.args.formula.now stage next c.args.self.now c.try_twice.new.self (Ok refuted))
     c.if-refuted.false (c.in_ok-refuted.ensures stage next at leads) in
-    let reached = subst (λ (nodes : List Node). LeavesReached c.try_twice.new.self.table.graph c.give_back.new.self.table.graph nodes)
-    (λ i. held_nodes (sym c.give_back.ensures.same.0 i).items (sym c.give_back.ensures.same.1 i)) back.reached in
     subst (λ (refuted : Bool). Moved c.args.formula.now stage next c.args.self.now
     (record c.give_back.new.self { left = c.in_ok-self.field-0 }) (Ok refuted)) (sym c.if-refuted.false)
     (moved_back c.canonical_law.ensures c.steps_law.ensures c.args.formula.now stage next c.args.step leads c.args.self.now
@@ -65,4 +62,4 @@ returns-clause-moved g c stage next at leads =
     (λ tidy. not_both c.is_tidy.result (c.is_tidy.ensures.1 (many _ c.live.ensures tidy)) c.if-is_tidy.false)
     c.give_back.ensures.top c.give_back.ensures.sizes
     c.subfunction_law.ensures c.requires.ready.over.sound.tied.ordered back.leaves (back.at next (own.held refl)) back.ready back.settled
-    back.own reached back.count)
+    back.own back.reached back.count)

@@ -1,5 +1,5 @@
 -- What is left to show of `take_moves`.
-use Rattle.std.proofs.Common.{rules, ◌≡◌, ℕ, suc, ◌+◌, ◌*◌, ◌≤◌, Bool, true, List, Option, Result, length, take, reverse, None, Some, Ok, Err, ap}
+use Rattle.std.proofs.Common.{rules, ◌≡◌, ℕ, suc, ◌+◌, ◌*◌, ◌≤◌, Bool, true, List, [], Option, Result, length, take, reverse, None, Some, Ok, Err, ap}
 use Rattle.std.proofs.Common.{sym, ◌∙◌, subst, arith, inl, inr}
 use Rattle.std.proofs.Math.Nat.{mul-le-mul_right}
 use Rattle.std.specs.List.{slice_get}
@@ -28,7 +28,7 @@ use Rattle.term_runner.proofs.Between.{IsNext, at_first, at_last, next_at, some_
 use Rattle.term_runner.specs.Caches.{all_entries}
 use Rattle.term_runner.proofs.Giving.{units_none}
 use Rattle.term_runner.proofs.Least.{recovered}
-use Rattle.term_runner.proofs.Trails.{are_variables, kept_there}
+use Rattle.term_runner.proofs.Trails.{are_variables}
 use Rattle.term_runner.proofs.Leaving.{error_handed, memory_left}
 use Rattle.term_runner.proofs.NoEmpty.{further_empty, no_change, no_true}
 use Rattle.term_runner.proofs.InHand.{in_hand_before, short_at_limit}
@@ -57,7 +57,7 @@ moves-init g c =
       price = λ width price has is. omega arith;
       size = c.requires.size;
       between = at_first formula c.args.plan.now table.graph table.book.state.live c.args.self.now.out.items c.args.self.now.trail
-          c.requires.none_out c.requires.no_trail;
+          c.requires.none_out c.requires.no_trail (c.copies_law.ensures.none table.graph []);
       ready = subst (λ (kept : List Entry). IsReady formula table kept) (sym c.requires.no_entries) c.requires.ready;
       settled = c.requires.settled;
       own = units_none table (all_entries c.args.self.now.caches) c.args.self.now.out.items c.requires.ready.over.sound c.requires.fresh
@@ -199,40 +199,34 @@ moves-preserved g c =
           (own.no_empty no_error (no_true _ c.if-branch.false));
     }
 
-pub recover-requires-clause-node : goal.recover-requires-clause-node
-recover-requires-clause-node g c =
+pub recover_all-requires-clause-node : goal.recover_all-requires-clause-node
+recover_all-requires-clause-node g c =
     let table = c.moves.self.table in
     let held = at_last c.args.formula.now c.args.plan.now c.moves.i table.graph table.book.state.live c.moves.self.out.items c.moves.self.trail
     c.requires.plan.last (omega (arith, c.moves-test.false, c.len-i-end.ensures)) c.requires.plan.possible c.moves.invariant.between in
     subst (λ (n : Node). is_node table.graph n ≡ true) (sym (c.top-node.ensures ∙ (λ k. top_node (reverse (c.as_slice.ensures.value k)))))
     (top_stands c.args.formula.now table.graph table.book.state.live (reverse c.moves.self.out.items) c.requires.plan.last.stack held.held).0
 
-pub recover-requires-clause-some : goal.recover-requires-clause-some
-recover-requires-clause-some g c is =
+pub recover_all-requires-clause-some : goal.recover_all-requires-clause-some
+recover_all-requires-clause-some g c is =
     let table = c.moves.self.table in
     let held = at_last c.args.formula.now c.args.plan.now c.moves.i table.graph table.book.state.live c.moves.self.out.items c.moves.self.trail
     c.requires.plan.last (omega (arith, c.moves-test.false, c.len-i-end.ensures)) c.requires.plan.possible c.moves.invariant.between in
     (top_stands c.args.formula.now table.graph table.book.state.live (reverse c.moves.self.out.items) c.requires.plan.last.stack held.held).1
     (sym (c.top-node.ensures ∙ (λ k. top_node (reverse (c.as_slice.ensures.value k)))) ∙ is)
 
-pub recover-requires-clause-nodes : goal.recover-requires-clause-nodes
-recover-requires-clause-nodes g c kept there =
+pub recover_all-requires-clause-trail : goal.recover_all-requires-clause-trail
+recover_all-requires-clause-trail g c =
     let table = c.moves.self.table in
     let formula = c.args.formula.now in
     let held = at_last formula c.args.plan.now c.moves.i table.graph table.book.state.live c.moves.self.out.items c.moves.self.trail
-    c.requires.plan.last (omega (arith, c.moves-test.false, c.len-i-end.ensures)) c.requires.plan.possible c.moves.invariant.between in
-    (kept_there formula table.graph c.moves.self.trail c.requires.plan.last.trail held.kept
-    (are_variables formula c.args.plan.now no_stage c.requires.plan.last c.requires.plan.possible tt) kept there).stands
-
-pub recover-requires-clause-variables : goal.recover-requires-clause-variables
-recover-requires-clause-variables g c kept there =
-    let table = c.moves.self.table in
-    let formula = c.args.formula.now in
-    let held = at_last formula c.args.plan.now c.moves.i table.graph table.book.state.live c.moves.self.out.items c.moves.self.trail
-    c.requires.plan.last (omega (arith, c.moves-test.false, c.len-i-end.ensures)) c.requires.plan.possible c.moves.invariant.between in
-    let is = kept_there formula table.graph c.moves.self.trail c.requires.plan.last.trail held.kept
-    (are_variables formula c.args.plan.now no_stage c.requires.plan.last c.requires.plan.possible tt) kept there in
-    (is.above, omega (arith, is.within, c.moves.invariant.ready.over.vars))
+    c.requires.plan.last (omega (arith, c.moves-test.false, c.len-i-end.ensures)) c.requires.plan.possible c.moves.invariant.between in (
+      formula,
+      c.requires.plan.last.trail,
+      held.kept,
+      are_variables formula c.args.plan.now no_stage c.requires.plan.last c.requires.plan.possible tt,
+      sym c.moves.invariant.ready.over.vars,
+    )
 
 pub returns-clause-found : goal.returns-clause-found
 returns-clause-found g c =
@@ -246,7 +240,7 @@ returns-clause-found g c =
     ((c.top-node.ensures ∙ (λ m. top_node (reverse (c.as_slice.ensures.value m)))) k))
     ∙ top_value formula table.graph table.book.state.live (reverse c.moves.self.out.items) c.requires.plan.last.stack held.held
     c.requires.plan.one_term a)
-    (reverse c.moves.self.trail) held.kept c.in_ok-model.model c.in_ok-model.ensures.recovered)
+    c.in_ok-model.model (c.in_ok-model.ensures formula c.requires.plan.last.trail held.kept))
 
 pub returns-clause-leaves : goal.returns-clause-leaves
 returns-clause-leaves g c = c.moves.invariant.continues

@@ -1,11 +1,9 @@
 -- A move that was refused is tried once more over the nodes that its terms reach.
-use Rattle.std.proofs.Common.{◌∙◌, List, Err, refl, ap, sym, subst}
+use Rattle.std.proofs.Common.{◌∙◌, Err, refl, ap, sym, subst}
 use Rattle.node_table.specs.declared.error.TableError.{TableError}
-use Rattle.node_table.specs.declared.node.Node.{Node}
 use Rattle.node_table.specs.HandedOn.{handed_on, no_error, same_error}
 use Rattle.node_table.specs.Refused.{no_nodes_left}
 use Rattle.term_runner.specs.Moves.{Tried}
-use Rattle.term_runner.specs.Tidy.{LeavesReached, held_nodes}
 use Rattle.term_runner.proofs.Tried.{moved_again, moved_at_once, moved_refused}
 use Rattle.term_runner.proofs.Units.{not_both}
 use Rattle.term_runner.proofs.terms.Terms.try_twice.Goals as goal
@@ -65,7 +63,7 @@ returns-in_err-self-in-Err g c stage next at leads =
     (c.is_node_limit.ensures.0 c.if-is_node_limit.true) (c.in-Err.ensures.tried stage next at leads) in
     moved_refused c.growth_law.ensures c.canonical_law.ensures c.steps_law.ensures c.args.formula.now stage next c.args.step leads
     c.args.self.now c.try_move.new.self c.give_back.new.self first c.give_back.ensures.top c.give_back.ensures.sizes _ came
-    (handed_on _ came came c.from_residual.ensures.1 refl) back.error back.leaves back.kept (c.give_back.ensures.same.2)
+    (handed_on _ came came c.from_residual.ensures.1 refl) back.error back.leaves back.kept c.give_back.ensures.same.1
 
 pub returns-in_ok-self-in-Err : goal.returns-in_ok-self-in-Err
 returns-in_ok-self-in-Err g c stage next at leads =
@@ -74,10 +72,8 @@ returns-in_ok-self-in-Err g c stage next at leads =
     let first = subst (λ (e : TableError). Tried c.args.formula.now stage next c.args.self.now c.try_move.new.self (Err e)) limit
     (c.in-Err.ensures.tried stage next at leads) in
     let at_mid = back.at stage ((c.in-Err.ensures.tried stage next at leads).at_again (ap Err limit)) in
-    let reached = subst (λ (nodes : List Node). LeavesReached c.try_move.new.self.table.graph c.give_back.new.self.table.graph nodes)
-    (λ i. held_nodes (sym c.give_back.ensures.same.0 i).items (sym c.give_back.ensures.same.1 i)) back.reached in
     moved_again c.growth_law.ensures c.canonical_law.ensures c.steps_law.ensures c.args.formula.now stage next c.args.step leads
     c.args.self.now c.try_move.new.self (record c.give_back.new.self { left = c.in_ok-self-in-Err.field-0 }) first c.give_back.ensures.top
     c.give_back.ensures.sizes
-    c.subfunction_law.ensures c.requires.ready.over.sound.tied.ordered back.leaves at_mid reached back.count c.try_move-in-Err.new.self _
+    c.subfunction_law.ensures c.requires.ready.over.sound.tied.ordered back.leaves at_mid back.reached back.count c.try_move-in-Err.new.self _
     (c.try_move-in-Err.ensures.tried stage next at_mid leads) c.try_move-in-Err.ensures.settled
