@@ -1,5 +1,6 @@
 // The conjunction of two nodes, by their cofactors at the earlier of their variables. (Bryant: Graph-Based Algorithms
-// for Boolean Function Manipulation, 1986, section 4.3: apply.)
+// for Boolean Function Manipulation, 1986, section 4.3: apply.) Clauses are added side by side with the nodes: a node, then its high
+// clause, then the low one. A result is kept by both operands: its node, and the number of its clause or 0, in 16 bytes.
 ghost use Rattle.std.specs.Prelude.{◌≡◌, ◌≢◌, ◌↔◌, ◌⊎◌, ◌≤◌, ◌*◌, ◌++◌, ℕ, List, Ok, Err, Contains, IsTrue, IfOk, IfSome, MatchOption};
 ghost use Rattle.std.specs.Prelude.{None, Some, length};
 ghost use Rattle.lrat_rules.specs.State.{Live};
@@ -204,7 +205,8 @@ fn plain(u: Node, v: Node) -> Option<Node>
     }
 }
 
-// The conjunction from its two sides: the node of their results, and its clause.
+// The conjunction from its two sides: the node of their results, and its clause. Where the node is an operand the clause is true by
+// itself, and nothing is added.
 fn finish<S: Sink + Drop>(
     alloc: Global,
     table: &mut Table<S>,

@@ -174,8 +174,8 @@ impl<S: Sink + Drop> Ledger<S> {
         ensures id_limit { IsErrOf result LedgerError.IdLimit ↔ (self.old.limit ≤ self.old.state.top) }
         ensures unchanged { IfErr result (λ e. e ≢ LedgerError.WriteFault → self.new ≡ self.old) }
 
-        // Short clauses use up the room that `reserve` made one by one, and find memory while there is some. Where no clause
-        // is kept none is wanted.
+        // Short clauses use up the room that `reserve` made one by one, and find memory while there is some; a long one uses up
+        // all of it. Where no clause is kept none is wanted.
         ensures memory { IsErrOf result LedgerError.OutOfMemory → length clause.now ≤ 4 → self.old.spare ≡ 0 }
         ensures memory_to_keep { IsErrOf result LedgerError.OutOfMemory → IsTrue self.old.keeps }
         ensures spare { length clause.now ≤ 4 → self.old.spare ≤ self.new.spare + 1 }
@@ -229,7 +229,8 @@ impl<S: Sink + Drop> Ledger<S> {
     /// `WriteFault` may come.
     pub fn delete(&mut self, ids: &[Id]) -> Result<(), LedgerError>
         requires in_step { IsTrue self.old.in_step }
-        // distinct numbers of live clauses, above those of the formula
+        // Distinct numbers of live clauses, above those of the formula, which the book holds. A table has its own count (`inputs`),
+        // which is no less.
         requires live { IsTrue (are_added (length self.old.formula) self.old.state.live ids.now) }
         ensures told { AreTold (is_ok result) self.old self.new (deletion self.old.state ids.now) }
         ensures room { self.new.spare ≡ self.old.spare }

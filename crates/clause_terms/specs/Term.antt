@@ -28,7 +28,7 @@ pub record IsTerm (graph : Graph) (live : Live) (holds : Assignment → Bool) (n
 abbrev pub by_variable : List ℕ → Levels → Assignment
 by_variable order a variable = a (position_or_len (λ x. x == variable) order)
 
--- the function of a clause, by levels
+-- The function of a clause, by levels. What a refused call has made is stated by it: there is no node then whose function could be named.
 abbrev pub clause_function : List ℕ → List ℤ → Levels → Bool
 clause_function order clause a = clause_holds (by_variable order a) clause
 

@@ -1,4 +1,5 @@
-// A clause's literals in the order of the variables.
+// A clause's literals in the order of the variables. Both signs of one variable are found there as neighbours, before any node is
+// made, so that a tautology meets no limit; repetitions are skipped on the way up.
 ghost use Rattle.std.specs.Prelude.{◌≡◌, ◌<◌, IfOk, IsPermutation, IsTrue, map, true, false};
 ghost use Rattle.std.specs.List.{list_all, list_any};
 ghost use Rattle.std.specs.List.Sorted.{IsNonDecreasingBy};

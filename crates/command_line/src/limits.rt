@@ -67,7 +67,8 @@ fn number_given(text: Option<&str>, least: u64, default: u64, greatest: u64) -> 
     }
 }
 
-/// A number of 1 to 18 digits. `parse` alone would take a plus sign.
+/// A number of 1 to 18 digits. `parse` alone would take a plus sign, and digits without end where they are zeros, so both are
+/// tested first.
 pub fn number_within(text: &str, least: u64, greatest: u64) -> Option<u64>
     ensures given { result ≡ number_within least greatest text.now }
     ensures range { IfSome result (λ number. (least ≤ number) × (number ≤ greatest)) }

@@ -180,7 +180,7 @@ impl Body {
     fn finish(self, line: u64) -> Result<Cnf, CnfError>
         ensures answers { Answers result (text_end self.mode self.count self.draft line) }
         ensures unfailed { result ≢ Err ReadFault }
-        // memory is wanted only for a clause without its zero
+        // Memory is wanted only for a clause without its zero, whose numbers offended nothing.
         ensures memory { result ≡ Err OutOfMemory → (self.mode ≡ Lax) × (0 < length self.draft.begun) }
     {
         match self.mode {

@@ -1,4 +1,5 @@
--- What the answer of a conversion says of the text that was read, and of the bytes that were written.
+-- What the answer of a conversion says of the text that was read, and of the bytes that were written. What comes of a step is told
+-- by one definition over answers (`Takes`, `ConvertsSteps`), so that each end of the loop is one lemma over plain variables.
 use Rattle.std.specs.Prelude.{◌≡◌, ◌≢◌, ℕ, Bool, false, List, ◌++◌, length, Option, None, Some, Result, Ok, Err, IsTrue, ⊤}
 use Rattle.cnf_base.specs.declared.step.Step.{Step}
 use Rattle.host_io.specs.Channel.{Channel, Rose, WritesAll}

@@ -61,7 +61,8 @@ fn answer_by(written: Result<(), Failed>) -> Result<Option<Reason>, ConvertError
     }
 }
 
-// Takes out the clauses of these numbers that are live, each at its turn, and writes their deletions.
+// Takes out the clauses of these numbers that are live, each at its turn, and writes their deletions, the line before its clause goes.
+// So a number that is named twice is written once.
 fn delete_all<S: Sink>(judge: &mut Judge, ids: &[Id], sink: &mut S) -> Result<(), Failed>
     ensures writes { WritesAll S.tells (S.channel sink.old) (S.channel sink.new) (drat_text (deletions judge.old.live ids.now)) result }
     ensures removed { OnOk result (judge.new ≡ record judge.old { live = without_clauses judge.old.live ids.now }) }

@@ -6,7 +6,8 @@ use smallvec::SmallVec;
 use std::alloc::Global;
 use std::marker::Model;
 
-/// At most eight hints. They take no memory: the allocator is never asked.
+/// At most eight hints. They take no memory: the allocator is never asked, since the `SmallVec` has places for eight, and `push` lets
+/// no ninth in.
 #[derive(Drop)]
 pub struct Hints {
     ids: SmallVec<Id, 8>,

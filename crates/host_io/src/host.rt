@@ -19,7 +19,7 @@ pub trait Host {
     ghost files: { Self → Files };
 
     /// A law for a caller's proof; the call does nothing. A role without a name, the two standard streams
-    /// excepted, has taken, written and flushed nothing.
+    /// excepted, has taken, written and flushed nothing. So a client knows that the roles that it doesn't open have done nothing.
     fn unnamed_law(&self)
         ensures { (role : Role) → IsNamedFirst role → (channel self.now role).name ≡ None → IsIdle (channel self.now role) };
 

@@ -1,4 +1,4 @@
-// A reference to a source is a source, and one to a sink is a sink, with one lender more.
+// A reference to a source is a source, and one to a sink is a sink, with one lender more. So a ledger can work on a lent sink.
 ghost use Rattle.host_io.specs.Beside.{beside_lent};
 
 use crate::source::{Failed, Sink, Source};

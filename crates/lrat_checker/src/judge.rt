@@ -1,4 +1,5 @@
-// The judge of a proof's steps. It keeps the live clauses, the greatest number, and the memory of one chain of hints.
+// The judge of a proof's steps. It keeps the live clauses, the greatest number, and the memory of one chain of hints. It judges steps
+// and no texts: reading is a layer of its own.
 ghost use Rattle.std.specs.Prelude.{◌≡◌, IfOk, OnErr, IfNone, OnSome, IsTrue};
 ghost use Rattle.std.specs.FinMap as map;
 ghost use Rattle.std.specs.Option.{option_copied};

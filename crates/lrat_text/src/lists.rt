@@ -1,4 +1,6 @@
-// The lists of steps whose memory is used again, so that a line takes none once they are large enough.
+// The lists of steps whose memory is used again, so that a line takes none once they are large enough. Those of the kind of step
+// that doesn't stand there are kept, so that additions and deletions in turn take none either. The hints of a group are a list of
+// their own each time: few lines have groups.
 ghost use Rattle.std.specs.Prelude.{◌≡◌};
 ghost use Rattle.cnf_base.specs.declared.step.Step.TheVariants.{Add, Delete};
 

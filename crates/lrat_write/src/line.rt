@@ -123,7 +123,8 @@ fn write_long_line<S: Sink>(
     write_all(sink, held.as_slice())
 }
 
-// Looks at each literal, also where a write fails before its turn: the type of a literal gives its range.
+// Looks at each literal, also where a write fails before its turn: the type of a literal gives its range. It is the one loop that
+// runs for the prover alone; a line that fits the buffer shows the range where its literals are written.
 fn look_at(clause: &[Lit])
     ensures range { IsTrue (list_all (is_literal_of max_literal) clause.now) }
 {

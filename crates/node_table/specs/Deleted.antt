@@ -36,7 +36,8 @@ IsClear graph marks clause =
     (literal : ℤ) → IsTrue (list_any (int_eq literal) clause) → (key : ℕ) (branch : Branch) → branch_at graph key ≡ Some branch
     → is_marked marks (inner key) ≡ false → nat_abs literal ≢ branch.variable
 
--- all clauses that were added beside the definitions of nodes, over a formula of so many clauses, are clear of these
+-- All clauses that were added beside the definitions of nodes, over a formula of so many clauses, are clear of these. A sweep asks this
+-- of its caller: that the other clauses are clear is the table's own matter.
 abbrev pub AreClear : Graph → List Bool → Live → ℕ → Type 0
 AreClear graph marks live inputs = (id : ℕ) (clause : List ℤ) → clause_at live id ≡ Some clause → IsAdded graph live inputs id
     → IsClear graph marks clause

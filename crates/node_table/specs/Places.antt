@@ -7,7 +7,8 @@ use Rattle.node_table.specs.declared.node.Branch.{Branch}
 use Rattle.node_table.specs.Diagram.{Graph, branch_at}
 use Rattle.node_table.specs.Tied.{IsAdded}
 
--- The added clauses are all among these, and those are no more than there are places, for which there is room.
+-- The added clauses are all among these, and those are no more than there are places, for which there is room. So no proof counts
+-- clauses.
 pub record HavePlaces (graph : Graph) (live : Live) (inputs places capacity : ℕ) : Type 0 where
   pub added : List ℕ
   pub few : length added ≤ places

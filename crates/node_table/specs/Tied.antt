@@ -52,7 +52,7 @@ abbrev pub AreUpTo : ℕ → Graph → Type 0
 AreUpTo most graph = (key : ℕ) (branch : Branch) → branch_at graph key ≡ Some branch → branch.variable ≤ most
 
 -- A clause that was added beside the definitions of nodes, over a formula of so many clauses: it is live, its number is
--- above those of the formula, and it defines no node.
+-- above those of the formula, and it defines no node. Such a clause may be retired.
 pub record IsAdded (graph : Graph) (live : Live) (inputs id : ℕ) : Type 0 where
   pub stands : IsTrue (is_some (clause_at live id))
   pub above : inputs < id

@@ -1,6 +1,6 @@
 -- The function of a node: where its variable is true that of its high child, else that of its low one. An
--- assignment is given by levels; `by_level` is the way from one by variables. (Bryant: Graph-Based Algorithms for
--- Boolean Function Manipulation, 1986, section 2.)
+-- assignment is given by levels, so that laws on nodes never speak of variables; `by_level` is the way from one by variables.
+-- (Bryant: Graph-Based Algorithms for Boolean Function Manipulation, 1986, section 2.)
 use Rattle.std.specs.Prelude.{◌≡◌, ◌<◌, ◌-◌, ℕ, zero, suc, Bool, true, false, List, Option, None, Some, nat_lt, if◌then◌else◌}
 use Rattle.std.specs.Prelude.{slice_index_or}
 use Rattle.cnf_base.specs.Truth.{Assignment}

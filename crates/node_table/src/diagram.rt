@@ -1,5 +1,6 @@
 // The nodes of a table, each under a key of its own in a slab; an index finds a node by its level and children. A new
-// node's extension variable is the least that no node has: those of nodes that went are kept, the greatest first.
+// node's extension variable is the least that no node has: those of nodes that went are kept, the greatest first. A list that
+// falls has no more numbers than lie between its ends, so the least free variable is at most the number of levels, that of nodes, and one.
 ghost use Rattle.std.specs.Prelude.{◌≡◌, ◌≢◌, ◌↔◌, ◌+◌, ◌<◌, ◌≤◌, ◌^◌, ℕ, pos, [], None, Some, IfOk, IfSome, OnErr, MatchOption, length};
 ghost use Rattle.std.specs.Prelude.{vec_capacity, IsTrue};
 ghost use Rattle.std.specs.FinMap as map;

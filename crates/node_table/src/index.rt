@@ -1,5 +1,7 @@
 // Finds stored nodes by their level and children: open addressing over their keys, by the kit's default hash. A node that
-// is looked up is met at the first place in most cases, since at most half of the places are taken.
+// is looked up is met at the first place in most cases, since at most half of the places are taken. Nothing is ever taken out, and the
+// index is never walked: whoever takes nodes away makes it anew. The standard map would keep each triple, its key and its hash a
+// second time, 30 to 60 bytes a node.
 ghost use Rattle.std.specs.Prelude.{◌≡◌, ◌<◌, ◌≤◌, ◌+◌, ◌*◌, ◌^◌, ℕ, [], None, Some, OnOk, IfNone, IfSome, MatchOption, IsTrue, IsFalse};
 ghost use Rattle.std.specs.Prelude.{length, max, count_by, slice_index_or};
 ghost use Rattle.slab.specs.Slab.{Slab as Slots, get, slab_len, Updates};

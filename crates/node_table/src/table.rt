@@ -48,7 +48,7 @@ pub struct Table<S: Sink + Drop> {
     diagram: Diagram,
     ledger: Ledger<S>,
     max_nodes: u32,
-    // How many clauses the formula has: those are never deleted.
+    // How many clauses the formula has: those are never deleted, whichever formula the ledger's proof is of.
     inputs: u64,
     // To be deleted. Each added clause has a place here.
     retired: Vec<Id>,
@@ -249,7 +249,8 @@ impl<S: Sink + Drop> Table<S> {
         self.retired.push_reserved(id);
     }
 
-    /// Deletes the retired clauses by one line. Only `WriteFault` may come.
+    /// Deletes the retired clauses by one line. Only `WriteFault` may come. It keeps less than `Steps`, so it says of each clause whether
+    /// it is live afterwards, and what each exit leaves (`Leaves`).
     pub fn settle(&mut self) -> Result<(), TableError>
         requires sound { IsSound self.old }
         // exactly the step of this deletion is told

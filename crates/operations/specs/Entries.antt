@@ -53,7 +53,8 @@ pub record Fits {S : Type 0} (table : TableState S) (entries : List Entry) : Typ
   pub unretired : (id : ℕ) → IsNamed entries id → Contains table.retired id → ⊥
   pub apart : (one other : Entry) (id : ℕ) → Contains entries one → Contains entries other → Names one id → Names other id → one ≡ other
 
--- no clause is named by both
+-- No clause is named by both, which holds of entries of different operations. An operation retires clauses that its own cache named,
+-- so entries of others fit on where they are apart from these.
 abbrev pub AreApart : List Entry → List Entry → Type 0
 AreApart one other = (id : ℕ) → IsNamed one id → IsNamed other id → ⊥
 

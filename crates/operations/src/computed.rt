@@ -121,7 +121,7 @@ impl<C: Computed> Results<C> {
     }
 }
 
-// What stays is in the order that it had.
+// As many turns as there are entries: what stays is in the order that it had, also in a cache of one entry, and no memory is taken.
 impl<C: Computed> Purge for Results<C> {
     ghost entries = { λ cache. listed C.entry_of cache.results };
 

@@ -1,4 +1,5 @@
-// Two operands as the key of a cache: a word each, so that an entry takes little memory.
+// Two operands as the key of a cache: a word each, so that an entry takes little memory. The four bytes a node save 16 an entry in the
+// cache of conjunctions; in the other caches they save nothing, since `malloc` gives memory by 16 bytes.
 ghost use Rattle.std.specs.Prelude.{◌≡◌};
 ghost use Rattle.std.proofs.Common.{rules};
 ghost use Rattle.std.specs.Cmp.Rules.{comparing};

@@ -1,5 +1,6 @@
 // The existential quantification of a node by one variable: the disjunction of its cofactors there. (Bryant: Graph-Based
-// Algorithms for Boolean Function Manipulation, 1986, sections 4.3 and 4.4: apply and restrict.)
+// Algorithms for Boolean Function Manipulation, 1986, sections 4.3 and 4.4: apply and restrict.) Disjunctions are asked for with a
+// machine of their own, at the quantified level alone; each of their nodes is a part of the quantification too.
 ghost use Rattle.std.specs.Prelude.{◌≡◌, ◌⊎◌, ◌≤◌, ◌<◌, ◌++◌, List, Some, Ok, Err, Contains, IsTrue, IfOk, length, false};
 ghost use Rattle.node_table.specs.declared.error.TableError.TheVariants.{NodeLimit};
 ghost use Rattle.node_table.specs.declared.node.Node.{Node as NodeValue};

@@ -1,5 +1,6 @@
 -- What the program promises, over one run of it: its words, the host before and after, and how it ended. What it
--- says of bytes is said of hosts that tell their bytes.
+-- says of bytes is said of hosts that tell their bytes. What `solve` and `bench` are given is one sentence (`AreGiven`). Sentences that say
+-- more of other commands than of `drat` have a second case (`ConvertsAsItReads`).
 use Rattle.std.specs.Prelude.{◌≡◌, ◌≢◌, ◌⊎◌, ◌++◌, ◌<◌, ℕ, Bool, true, false, List, [], None, Some, length, IsTrue, IsFalse}
 use Rattle.std.specs.Prelude.{⊤}
 use Rattle.cnf_base.specs.Truth.{Satisfies, assignment_of}

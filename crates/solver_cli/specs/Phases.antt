@@ -261,7 +261,7 @@ pub record OnlyWritten (old new : Channel) : Type 0 where
 
 -- A formula was decided, and its proof written: exactly the lines of good steps, within the limits, flushed where the
 -- formula was decided; a line that is cut short only after a failed write. It keeps within what the plan's width needs.
--- The greatest identifier is that of the bytes.
+-- The greatest identifier, which `bench` prints, is the ledger's, and that to which the bytes lead (`Ends.last`): so no proof is read back.
 pub record WritesProof (tells : Bool) (old new : Channel) (problem : Formula) (order : List ℕ) (moves : List Move) (limits : Limits)
     (result : Result Ending RunError) : Type 0 where
   pub says : IfOk result (λ ending. Says problem order moves limits ending.outcome)

@@ -1,4 +1,5 @@
--- A runner between two calls that give, take or release terms, and what such a call promises.
+-- A runner between two calls that give, take or release terms, and what such a call promises. After a failed write nothing is asked
+-- of it but its sink.
 use Rattle.std.specs.Prelude.{◌≡◌, ◌≢◌, ◌⊎◌, ◌<◌, ◌+◌, ◌*◌, ◌++◌, ℕ, Bool, false, List, [], ◌∷◌, Contains, Some}
 use Rattle.std.specs.Prelude.{Result, Err, IfOk, IsErr, IsTrue, map}
 use Rattle.std.specs.Option.{option_to_list}

@@ -1,6 +1,6 @@
 // What a formula shows before any diagram: an empty clause, or that all clauses are tautologies. A long clause is asked for
 // opposite literals by a sorted set of its literals, so that a clause takes some n · log n comparisons while there is
-// memory in proportion to it.
+// memory in proportion to it. A hash set is hardly faster, and slow for literals that are chosen for its fixed seed.
 ghost use Rattle.std.specs.Prelude.{◌≡◌, ◌-◌, ◌≤◌, [], IsTrue, IsFalse, IfOk, MatchOption, length, slice_index_or};
 ghost use Rattle.std.specs.BTreeSet.{IsFromIterResult};
 ghost use Rattle.std.specs.List.{list_all};
@@ -28,7 +28,7 @@ pub fn first_empty(formula: &Cnf) -> Option<usize>
     None
 }
 
-/// Whether each clause has both signs of a variable.
+/// Whether each clause has both signs of a variable. It ends at the first that has not.
 pub fn are_tautologies(alloc: Global, formula: &Cnf) -> bool
     ensures { result ≡ list_all is_tautology formula.now.clauses }
 {

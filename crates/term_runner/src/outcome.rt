@@ -1,4 +1,4 @@
-// What a run of a plan comes to.
+// What a run of a plan comes to. A limit is an outcome, and what ends a run without one is a failure (`outcome_of`).
 ghost use Rattle.std.specs.Prelude.{◌≡◌};
 ghost use Rattle.term_runner.specs.Ends.{outcome_of};
 

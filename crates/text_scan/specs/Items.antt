@@ -4,7 +4,7 @@ use Rattle.std.specs.List.{list_any}
 use Rattle.cnf_base.specs.Text.{Word, is_blank, tokens, end_line}
 
 -- Each token, and in the end the line of the end, or, of a text that is too long, the line after its last line end
--- under the limit.
+-- under the limit. So items end by themselves, and one recursion over them is a whole grammar.
 pub data Items : Type 0 where
   the_end : ℕ → Items
   too_long : ℕ → Items

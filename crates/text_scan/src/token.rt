@@ -4,7 +4,7 @@ ghost use Rattle.cnf_base.specs.Number.{is_short};
 
 use std::marker::Model;
 
-/// How many bytes of a token are kept: enough to see that it is longer than 64.
+/// How many bytes of a token are kept: enough to see that it is longer than 64, and so no number and no word.
 pub const KEPT: usize = 65;
 
 /// The space for them, in whole words, so that a token is copied fast.

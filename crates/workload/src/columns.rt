@@ -1,4 +1,5 @@
-// The order and the moves of the board, column by column.
+// The order and the moves of the board, column by column, by walks of their own that take no list of commands. A test decides a board
+// by its texts too, and compares the proofs.
 ghost use Rattle.std.specs.Prelude.{◌≡◌, ◌+◌, ◌≤◌, ◌<◌, [], ◌∷◌, ◌++◌, map, replicate, ◌-◌, IfOk, OnOk, IsTrue};
 ghost use Rattle.std.specs.List.{flat_map};
 ghost use Rattle.cnf_base.specs.Limits.{max_clauses};

@@ -96,7 +96,7 @@ impl<W: Write + Drop> Output<W> {
         })
     }
 
-    /// One write. One that takes nothing of a piece that isn't empty has failed.
+    /// One write. One that takes nothing of a piece that isn't empty has failed, so that every loop over writes ends.
     pub(crate) fn write_once(
         &mut self,
         bytes: &[u8],
