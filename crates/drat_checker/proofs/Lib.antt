@@ -1,5 +1,6 @@
 pub mod FalseSets
 pub mod Propagated
+pub mod Resolvents
 pub mod Deleted
 pub mod Turns
 pub mod Wanted

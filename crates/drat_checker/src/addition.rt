@@ -6,6 +6,7 @@ ghost use Rattle.drat_rules.specs.Quiet.{has_quiet};
 ghost use Rattle.drat_rules.specs.Addition.{others_of, passes_candidate, drat_fault};
 ghost use Rattle.drat_checker.specs.Propagation.{Clashes, Extends, HasAlso, SameQuiet, candidates_fault, fault_under};
 
+use crate::blocked::is_blocked;
 use crate::clause::Clause;
 use crate::false_list::FalseList;
 use crate::propagation::propagate;
@@ -22,6 +23,10 @@ pub fn addition_fault(
     ensures { IfOk result (λ fault. fault ≡ drat_fault clauses.now clause.now) }
 {
     quiet_law();
+    let blocked = is_blocked(clauses, clause);
+    if blocked {
+        return Ok(None);
+    }
     trail.truncate(0);
     let refuted = is_refuted(clauses, trail, clause)?;
     if refuted {
@@ -111,7 +116,7 @@ fn passes(
     Ok(refuted)
 }
 
-fn holds_negated(clause: &[Lit], pivot: Lit) -> bool
+pub fn holds_negated(clause: &[Lit], pivot: Lit) -> bool
     ensures { result ≡ holds_negated pivot clause.now }
 {
     clause.contains(&pivot.negated())

@@ -6,6 +6,7 @@
 #![tactic(auto)]
 
 mod addition;
+mod blocked;
 mod clause;
 mod false_list;
 mod judge;

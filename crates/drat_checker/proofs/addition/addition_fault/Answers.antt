@@ -5,6 +5,9 @@ use Rattle.drat_checker.specs.Propagation.{SameQuiet}
 use Rattle.drat_checker.proofs.Propagated.{fault-open, fault-refuted, none-has, some-has}
 use Rattle.drat_checker.proofs.addition.addition_fault.Goals as goal
 
+pub returns-then-blocked : goal.returns-then-blocked
+returns-then-blocked c = sym (c.is_blocked-blocked.ensures c.if-blocked.true)
+
 pub returns-then-refuted : goal.returns-then-refuted
 returns-then-refuted c =
     let clauses = c.args.clauses.now in
