@@ -1,13 +1,12 @@
 -- Terms that are stored: their entries say what the nodes said, and give the quantified variables their values back.
 use Rattle.std.proofs.Common.{◌≡◌, ◌∙◌, ◌<◌, ◌≤◌, ◌++◌, ℕ, zero, suc, Bool, true, false, not, List, [], ◌∷◌, length, reverse, Contains}
 use Rattle.std.proofs.Common.{refl, sym, ap, subst, arith}
-use Rattle.std.proofs.lemmas.List.{append-nil, reverse-append, reverse-reverse}
-use Rattle.std.proofs.lemmas.List.Elements.{Contains-append_right}
+use Rattle.std.proofs.lemmas.List.{reverse-append, reverse-reverse}
 use Rattle.cnf_base.specs.Truth.{Assignment, assignment_of, with_value}
 use Rattle.cnf_base.specs.Formula.{Formula}
 use Rattle.node_table.specs.declared.node.Node.{Node}
 use Rattle.node_table.specs.Diagram.{Graph, IsOrder, IsReduced, is_node, levels}
-use Rattle.node_table.specs.Value.{by_level, value_of}
+use Rattle.node_table.specs.Value.{by_level}
 use Rattle.clause_terms.specs.Recovery.{IsRecoveredFrom}
 use Rattle.clause_terms.specs.Walk.{AreAlike}
 use Rattle.reconstruction.specs.declared.cells.Cell.{Cell}
@@ -17,7 +16,7 @@ use Rattle.reconstruction.specs.SetBack.{set_cell_back, set_cells_back}
 use Rattle.reconstruction.specs.Stack.{AreStored, IsStored, SayTheSame, Stack, Stores}
 use Rattle.schedule_plan.specs.Plan.{Term, term_holds}
 use Rattle.term_runner.specs.Recovered.{set_all_back, set_back}
-use Rattle.term_runner.specs.Trail.{AreCopied, AreKept, AreVariables, IsCopied, IsKept, IsRecoveredBy, IsTrail}
+use Rattle.term_runner.specs.Trail.{AreCopied, AreKept, AreVariables, IsCopied, IsRecoveredBy, IsTrail}
 use Rattle.term_runner.proofs.OwnUnits.{later}
 use Rattle.term_runner.proofs.Planned.{agree_within}
 use Rattle.term_runner.proofs.Trails.{in_reverse}

@@ -10,7 +10,7 @@ use Rattle.cnf_base.specs.Truth.{AreClausesOf, Assignment, with_value}
 use Rattle.cnf_base.specs.Formula.{Formula}
 use Rattle.node_table.specs.declared.node.Node.{Node}
 use Rattle.node_table.specs.declared.node.Node.TheVariants.{True}
-use Rattle.node_table.specs.Diagram.{Graph, IsOrder, IsReduced, KeepsNodes, is_node, levels}
+use Rattle.node_table.specs.Diagram.{Graph, IsOrder, IsReduced, KeepsNodes, levels}
 use Rattle.node_table.specs.Laws.{Growth}
 use Rattle.node_table.specs.Value.{Levels, by_level, value_of}
 use Rattle.clause_terms.specs.Recovery.{IsLeast, IsRecoveredFrom, set_nodes_back}

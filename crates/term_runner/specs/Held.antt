@@ -1,5 +1,5 @@
 -- A run between two moves: the table is ready, and its stack holds the plan's terms.
-use Rattle.std.specs.Prelude.{◌≡◌, ◌≢◌, ◌⊎◌, ◌<◌, ◌+◌, ℕ, Bool, true, List, [], ◌∷◌, length, Some, Result, Ok, Err, Contains, IsTrue}
+use Rattle.std.specs.Prelude.{◌≡◌, ◌≢◌, ◌⊎◌, ◌<◌, ◌+◌, ℕ, Bool, true, List, [], ◌∷◌, length, Some, Result, Ok, Err, Contains}
 use Rattle.std.specs.Prelude.{IsFalse}
 use Rattle.std.specs.Prelude.{reverse, slice_index_or, drop, None}
 use Rattle.cnf_base.specs.Formula.{Formula}
