@@ -1,5 +1,5 @@
 -- From the clauses of the parser to the meaning of the words.
-use Rattle.std.proofs.Common.{◌≡◌, ℕ, true, List, [], ◌∷◌, Some, None, refl, sym, ap, ◌∙◌, subst, inl, inr, codes, map}
+use Rattle.std.proofs.Common.{◌≡◌, ℕ, Bool, true, List, [], ◌∷◌, Some, None, refl, sym, ap, ◌∙◌, subst, inl, inr, codes, map}
 use Rattle.std.specs.Prelude.{Option, Result, Ok, Err, IfOk, IfErr, MatchResult, ◌⊎◌}
 use Rattle.std.specs.Result.{IsErrAnd}
 use Rattle.std.specs.Option.{option_and_then}
@@ -18,10 +18,11 @@ use Rattle.clap.proofs.WalkLemmas.{first_value-rows}
 use Rattle.dimacs_reader.specs.declared.mode.Mode.{Mode}
 use Rattle.schedule_plan.specs.declared.limits.Limits.{Limits}
 use Rattle.command_line.specs.Parser.{the_app}
-use Rattle.command_line.specs.Command.{Command, Meaning, Asks, Misuse, IsOneOf, MayMean, Planned, bench_means, check_means, command}
+use Rattle.command_line.specs.Command.{Command, Meaning, Asks, AsksHelp, Misuse, IsOneOf, MayMean, Planned, bench_means, check_means, command}
 use Rattle.command_line.specs.Command.{convert_means, format_given}
 use Rattle.command_line.specs.Command.{is_set, limits_among, make_means, means, meanings, method_named, mode_given, names_among}
-use Rattle.command_line.specs.Command.{only_command, order_means, part_named, plan_among, plan_given, refusal_means, size_among}
+use Rattle.command_line.specs.Command.{only_command, order_means, part_named, plan_among, plan_given, progress_among, refusal_means}
+use Rattle.command_line.specs.Command.{size_among}
 use Rattle.command_line.specs.Command.{solve_means, taken_means, to_bench, to_check, to_convert, to_make, to_order, to_solve, two_names}
 
 -- the parser is one whose meaning is known
@@ -90,16 +91,16 @@ pub ap₃ : {A B C D : Type 0} (f : A → B → C → D) {a d : A} {b e : B} {c 
 ap₃ f p q r = λ i. f (p i) (q i) (r i)
 
 pub solve_values : (values : ArgMatches) (names : Option (Text × Text)) (mode : Mode) (lax order : Option Text) (plan : Option Planned)
-    (limits : Option Limits)
+    (limits : Option Limits) (progress : Bool)
     → names_among (rows_of (found_of values)) ≡ names → mode ≡ mode_given lax → lax ≡ first_value (found_of values) (codes "lax") → order
     ≡ first_value (found_of values) (codes "order") → plan ≡ plan_among (rows_of (found_of values)) → limits
-    ≡ limits_among (rows_of (found_of values))
-    → solve_means (rows_of (found_of values)) ≡ to_solve names mode order plan limits
-solve_values values names mode lax order plan limits names_are mode_is lax_is order_is plan_is limits_are =
-    let read : solve_means (rows_of (found_of values)) ≡ to_solve names (mode_given lax) order plan limits = λ i.
+    ≡ limits_among (rows_of (found_of values)) → progress ≡ progress_among (rows_of (found_of values))
+    → solve_means (rows_of (found_of values)) ≡ to_solve names mode order plan limits progress
+solve_values values names mode lax order plan limits progress names_are mode_is lax_is order_is plan_is limits_are progress_is =
+    let read : solve_means (rows_of (found_of values)) ≡ to_solve names (mode_given lax) order plan limits progress = λ i.
     to_solve (names_are i) (mode_given (of_row values (codes "lax") lax lax_is i)) (of_row values (codes "order") order order_is i)
-    (sym plan_is i) (sym limits_are i) in
-    read ∙ ap (λ (m : Mode). to_solve names m order plan limits) (sym mode_is)
+    (sym plan_is i) (sym limits_are i) (sym progress_is i) in
+    read ∙ ap (λ (m : Mode). to_solve names m order plan limits progress) (sym mode_is)
 
 pub names_values : (values : ArgMatches) (file proof order schedule buckets : Option Text)
     → file ≡ first_value (found_of values) (codes "FILE") → proof ≡ first_value (found_of values) (codes "proof") → order
@@ -128,18 +129,18 @@ two_alone None (Some other) = refl
 two_alone (Some file) None = refl
 two_alone (Some file) (Some other) = refl
 
-pub check_values : (values : ArgMatches) (file proof format lax : Option Text)
+pub check_values : (values : ArgMatches) (file proof format lax : Option Text) (progress : Bool)
     → file ≡ first_value (found_of values) (codes "FILE") → proof ≡ first_value (found_of values) (codes "PROOF") → format
-    ≡ first_value (found_of values) (codes "format")
-    → lax ≡ first_value (found_of values) (codes "lax")
+    ≡ first_value (found_of values) (codes "format") → lax
+    ≡ first_value (found_of values) (codes "lax") → progress ≡ progress_among (rows_of (found_of values))
     → check_means (rows_of (found_of values))
-    ≡ to_check (two_names file proof (None ∷ None ∷ None ∷ [])) (format_given format) (mode_given lax)
-check_values values file proof format lax file_is proof_is format_is lax_is =
-    let read : check_means (rows_of (found_of values)) ≡ to_check (two_names file proof []) (format_given format) (mode_given lax) = λ i.
+    ≡ to_check (two_names file proof (None ∷ None ∷ None ∷ [])) (format_given format) (mode_given lax) progress
+check_values values file proof format lax progress file_is proof_is format_is lax_is progress_is =
+    let read : check_means (rows_of (found_of values)) ≡ to_check (two_names file proof []) (format_given format) (mode_given lax) progress = λ i.
     to_check (two_names (of_row values (codes "FILE") file file_is i) (of_row values (codes "PROOF") proof proof_is i) [])
     (format_given (of_row values (codes "format") format format_is i))
-    (mode_given (of_row values (codes "lax") lax lax_is i)) in
-    read ∙ ap (λ (names : Option (Text × Text)). to_check names (format_given format) (mode_given lax)) (two_alone file proof)
+    (mode_given (of_row values (codes "lax") lax lax_is i)) (sym progress_is i) in
+    read ∙ ap (λ (names : Option (Text × Text)). to_check names (format_given format) (mode_given lax) progress) (two_alone file proof)
 
 -- nor do they beside a third one
 three_alone : (file other third : Option Text) → two_names file other (third ∷ []) ≡ two_names file other (third ∷ None ∷ None ∷ [])
@@ -179,12 +180,12 @@ order_values values file out method lax file_is out_is method_is lax_is =
     (mode_given (of_row values (codes "lax") lax lax_is i)) in
     read ∙ ap (λ (names : Option (Text × Text)). to_order names found (mode_given lax)) (two_alone file out)
 
-pub bench_values : (values : ArgMatches) (size : Option ℕ) (proof : Option Text) (limits : Option Limits)
+pub bench_values : (values : ArgMatches) (size : Option ℕ) (proof : Option Text) (limits : Option Limits) (progress : Bool)
     → size ≡ size_among (rows_of (found_of values)) → proof ≡ first_value (found_of values) (codes "proof") → limits
-    ≡ limits_among (rows_of (found_of values))
-    → bench_means (rows_of (found_of values)) ≡ to_bench size proof limits
-bench_values values size proof limits size_is proof_is limits_are = ap₃ to_bench (sym size_is)
-    (of_row values (codes "proof") proof proof_is) (sym limits_are)
+    ≡ limits_among (rows_of (found_of values)) → progress ≡ progress_among (rows_of (found_of values))
+    → bench_means (rows_of (found_of values)) ≡ to_bench size proof limits progress
+bench_values values size proof limits progress size_is proof_is limits_are progress_is = λ i.
+    to_bench (sym size_is i) (of_row values (codes "proof") proof proof_is i) (sym limits_are i) (sym progress_is i)
 
 pub make_values : (values : ArgMatches) (size : Option ℕ) (part file : Option Text)
     → size ≡ size_among (rows_of (found_of values)) → part ≡ first_value (found_of values) (codes "part") → file
@@ -197,9 +198,9 @@ make_values values size part file size_is part_is file_is =
 -- what a refusal of the parser comes to is what the words may mean
 pub refusal_due : (words : List Text) (k : ErrorKind) (r : Refusal) → ((k ≡ kind.OutOfMemory → ⊥) → MayMean words (refusal_means k))
     → IsRefusalOf k r → IsRefusal words r
-refusal_due words k (refusal.Help text) may is = subst (λ (m : Meaning). MayMean words m) (ap refusal_means is)
-    (may (λ e. apart (sym is ∙ e))) where
-      apart : kind.DisplayHelp ≡ kind.OutOfMemory → ⊥
+refusal_due words k (refusal.Help text) may is = subst (λ (m : Meaning). MayMean words m) is
+    (may (λ e. apart (sym (ap refusal_means e) ∙ is))) where
+      apart : Misuse ≡ AsksHelp → ⊥
       apart e = cc
 refusal_due words k refusal.Usage may is = subst (λ (m : Meaning). MayMean words m) is.1 (may is.0)
 refusal_due words k refusal.OutOfMemory may is = tt

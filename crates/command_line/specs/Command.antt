@@ -21,7 +21,7 @@ use Rattle.command_line.specs.declared.method.OrderMethod.TheVariants.{Degree, C
 use Rattle.command_line.specs.declared.plan.PlanName.{PlanName}
 use Rattle.command_line.specs.declared.plan.PlanName.TheVariants.{Bucket, Conjoin}
 use Rattle.command_line.specs.declared.part.BoardText.{BoardText}
-use Rattle.command_line.specs.declared.part.BoardText.TheVariants.{Cnf, Order, Schedule}
+use Rattle.command_line.specs.declared.part.BoardText.TheVariants.{Cnf, Order, Schedule, Sets}
 use Rattle.command_line.specs.Parser.{the_app}
 
 -- what gives the plan of a run: its name, a schedule's file, the file of an order (the bucket plan by it), or trials (the bucket plan by an
@@ -33,7 +33,7 @@ pub data Planned : Type 0 where
   Found : Planned
 
 -- to decide the formula in a file, read in a mode, by a plan and within limits, and to write the proof to another one; the order of its
--- variables stands in the file of that name, if one is named
+-- variables stands in the file of that name, if one is named; and maybe to tell of the progress
 pub record ToSolve : Type 0 where
   pub file : Text
   pub proof : Text
@@ -41,13 +41,15 @@ pub record ToSolve : Type 0 where
   pub order : Option Text
   pub plan : Planned
   pub limits : Limits
+  pub progress : Bool
 
--- to judge the proof in a file, in a format, over the formula in another one, read in a mode
+-- to judge the proof in a file, in a format, over the formula in another one, read in a mode, and maybe to tell of the progress
 pub record ToCheck : Type 0 where
   pub file : Text
   pub proof : Text
   pub format : ProofFormat
   pub mode : Mode
+  pub progress : Bool
 
 -- to judge the LRAT proof in a file over the formula in another one, read in a mode, and to write the DRAT proof that it becomes to a third one
 pub record ToConvert : Type 0 where
@@ -63,11 +65,13 @@ pub record ToOrder : Type 0 where
   pub mode : Mode
   pub out : Text
 
--- to decide the board of so many squares a side by its column order and schedule, within limits, and to write the proof to a file
+-- to decide the board of so many squares a side by its column order and schedule, within limits, and to write the proof to a file; and
+-- maybe to tell of the progress
 pub record ToBench : Type 0 where
   pub size : ℕ
   pub proof : Text
   pub limits : Limits
+  pub progress : Bool
 
 -- to write one text of the board of so many squares a side to a file
 pub record ToMake : Type 0 where
@@ -123,6 +127,15 @@ limits_of (Make task) = default_limits
 limits_of (Arrange task) = default_limits
 limits_of (Convert task) = default_limits
 
+-- a command is to tell of its progress
+abbrev pub is_told : Command → Bool
+is_told (Solve task) = task.progress
+is_told (Check task) = task.progress
+is_told (Bench task) = task.progress
+is_told (Make task) = false
+is_told (Arrange task) = false
+is_told (Convert task) = false
+
 -- the sizes of boards
 abbrev pub IsSize : ℕ → Type 0
 IsSize n = (2 ≤ n) × (n ≤ 100)
@@ -140,15 +153,16 @@ size_of (Convert task) = None
 abbrev pub default_plan : PlanName
 default_plan = Bucket
 
--- what words may mean: a command, the wish for help, or nothing that the program does
+-- what words may mean: a command, the wish for help, or for the version, which is shown as help is, or nothing that the program does
 pub data Meaning : Type 0 where
   Asks : Command → Meaning
   AsksHelp : Meaning
   Misuse : Meaning
 
--- what a refusal of the parser means: one of them is its showing of help
+-- what a refusal of the parser means: two of them are its showing of help, and of the version
 abbrev pub refusal_means : ErrorKind → Meaning
 refusal_means kind.DisplayHelp = AsksHelp
+refusal_means kind.DisplayVersion = AsksHelp
 refusal_means _ = Misuse
 
 -- both files are named, and by the same name
@@ -240,18 +254,26 @@ size_given _ _ = None
 abbrev pub part_named : Text → Option BoardText
 part_named name =
     if bytes_eq name (codes "cnf") then Some Cnf else if bytes_eq name (codes "order") then Some Order else if bytes_eq name
-    (codes "schedule") then Some Schedule else None
+    (codes "schedule") then Some Schedule else if bytes_eq name (codes "sets") then Some Sets else None
 
--- two files, a mode, an order, what gives the plan, and limits to solve within
-abbrev pub to_solve : Option (Text × Text) → Mode → Option Text → Option Planned → Option Limits → Meaning
-to_solve (Some names) mode order (Some plan) (Some limits) =
-    Asks (Solve (record { file = names.0; proof = names.1; mode = mode; order = order; plan = plan; limits = limits }))
-to_solve _ _ _ _ _ = Misuse
+-- two files, a mode, an order, what gives the plan, limits to solve within, and whether progress is told
+abbrev pub to_solve : Option (Text × Text) → Mode → Option Text → Option Planned → Option Limits → Bool → Meaning
+to_solve (Some names) mode order (Some plan) (Some limits) progress = Asks (Solve (record {
+  file = names.0;
+  proof = names.1;
+  mode = mode;
+  order = order;
+  plan = plan;
+  limits = limits;
+  progress = progress;
+}))
+to_solve _ _ _ _ _ _ = Misuse
 
--- two files to check, a format, and a mode
-abbrev pub to_check : Option (Text × Text) → Option ProofFormat → Mode → Meaning
-to_check (Some names) (Some format) mode = Asks (Check (record { file = names.0; proof = names.1; format = format; mode = mode }))
-to_check _ _ _ = Misuse
+-- two files to check, a format, a mode, and whether progress is told
+abbrev pub to_check : Option (Text × Text) → Option ProofFormat → Mode → Bool → Meaning
+to_check (Some names) (Some format) mode progress =
+    Asks (Check (record { file = names.0; proof = names.1; format = format; mode = mode; progress = progress }))
+to_check _ _ _ _ = Misuse
 
 -- two files, one to write the DRAT proof to, and a mode
 abbrev pub to_convert : Option (Text × Text) → Option Text → Mode → Meaning
@@ -264,10 +286,11 @@ abbrev pub to_order : Option (Text × Text) → Option OrderMethod → Mode → 
 to_order (Some names) (Some method) mode = Asks (Arrange (record { file = names.0; method = method; mode = mode; out = names.1 }))
 to_order _ _ _ = Misuse
 
--- a size, a proof's file, and limits to decide the board of that size within
-abbrev pub to_bench : Option ℕ → Option Text → Option Limits → Meaning
-to_bench (Some size) (Some proof) (Some limits) = Asks (Bench (record { size = size; proof = proof; limits = limits }))
-to_bench _ _ _ = Misuse
+-- a size, a proof's file, limits to decide the board of that size within, and whether progress is told
+abbrev pub to_bench : Option ℕ → Option Text → Option Limits → Bool → Meaning
+to_bench (Some size) (Some proof) (Some limits) progress =
+    Asks (Bench (record { size = size; proof = proof; limits = limits; progress = progress }))
+to_bench _ _ _ _ = Misuse
 
 -- a size, a part of that board, and a file to write it to
 abbrev pub to_make : Option ℕ → Option BoardText → Option Text → Meaning
@@ -290,14 +313,18 @@ names_among rows =
     two_names (first_of (codes "FILE") rows) (first_of (codes "proof") rows)
     (first_of (codes "order") rows ∷ first_of (codes "schedule") rows ∷ first_of (codes "buckets") rows ∷ [])
 
+-- whether progress is told, among these values
+abbrev pub progress_among : List Row → Bool
+progress_among rows = is_set (first_of (codes "progress") rows)
+
 abbrev pub solve_means : List Row → Meaning
 solve_means rows =
     to_solve (names_among rows) (mode_given (first_of (codes "lax") rows)) (first_of (codes "order") rows) (plan_among rows)
-    (limits_among rows)
+    (limits_among rows) (progress_among rows)
 
 abbrev pub check_means : List Row → Meaning
 check_means rows = to_check (two_names (first_of (codes "FILE") rows) (first_of (codes "PROOF") rows) [])
-    (format_given (first_of (codes "format") rows)) (mode_given (first_of (codes "lax") rows))
+    (format_given (first_of (codes "format") rows)) (mode_given (first_of (codes "lax") rows)) (progress_among rows)
 
 abbrev pub convert_means : List Row → Meaning
 convert_means rows =
@@ -314,7 +341,7 @@ abbrev pub size_among : List Row → Option ℕ
 size_among rows = size_given (first_of (codes "KIND") rows) (first_of (codes "SIZE") rows)
 
 abbrev pub bench_means : List Row → Meaning
-bench_means rows = to_bench (size_among rows) (first_of (codes "proof") rows) (limits_among rows)
+bench_means rows = to_bench (size_among rows) (first_of (codes "proof") rows) (limits_among rows) (progress_among rows)
 
 abbrev pub make_means : List Row → Meaning
 make_means rows = to_make (size_among rows) (option_and_then part_named (first_of (codes "part") rows)) (first_of (codes "out") rows)
@@ -372,3 +399,8 @@ mode_asked (Some asked) = mode_of asked
 abbrev pub limits_asked : Option Command → Limits
 limits_asked None = default_limits
 limits_asked (Some asked) = limits_of asked
+
+-- whether it is to tell of its progress
+abbrev pub progress_asked : Option Command → Bool
+progress_asked None = false
+progress_asked (Some asked) = is_told asked

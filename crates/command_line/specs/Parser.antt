@@ -32,6 +32,10 @@ flag_rule name = record (new_rule name) { long = Some name; action = Some SetTru
 abbrev pub lax_rule : Rule
 lax_rule = flag_rule (codes "lax")
 
+-- `[--progress]`
+abbrev pub progress_rule : Rule
+progress_rule = flag_rule (codes "progress")
+
 -- `[--max-nodes N] [--max-ids N] [--cache N]`
 abbrev pub limit_rules : List Rule
 limit_rules = option_rule (codes "max-nodes") ∷ option_rule (codes "max-ids") ∷ option_rule (codes "cache") ∷ []
@@ -44,19 +48,20 @@ order_rules = flag_rule (codes "search") ∷ option_rule (codes "order") ∷ []
 abbrev pub plan_rules : List Rule
 plan_rules = option_rule (codes "buckets") ∷ option_rule (codes "schedule") ∷ option_rule (codes "plan") ∷ []
 
--- `solve FILE --proof P [--lax]`, and then the options of orders, of plans and of limits
+-- `solve FILE --proof P [--lax]`, and then the options of orders, of plans and of limits, and `[--progress]`
 abbrev pub solve_app : App
 solve_app =
-    with_rules (with_rules (with_rules (with_rules (new_app (codes "solve")) (file_rule ∷ proof_rule ∷ lax_rule ∷ [])) order_rules)
-    plan_rules) limit_rules
+    with_rule (with_rules (with_rules (with_rules (with_rules (new_app (codes "solve")) (file_rule ∷ proof_rule ∷ lax_rule ∷ [])) order_rules)
+    plan_rules) limit_rules) progress_rule
 
 -- a proof's file, behind the formula's
 abbrev pub proof_file_rule : Rule
 proof_file_rule = record (new_rule (codes "PROOF")) { required = true }
 
--- `check FILE PROOF [--format FORMAT] [--lax]`
+-- `check FILE PROOF [--format FORMAT] [--lax] [--progress]`
 abbrev pub check_app : App
-check_app = with_rules (new_app (codes "check")) (file_rule ∷ proof_file_rule ∷ option_rule (codes "format") ∷ lax_rule ∷ [])
+check_app = with_rules (new_app (codes "check"))
+    (file_rule ∷ proof_file_rule ∷ option_rule (codes "format") ∷ lax_rule ∷ progress_rule ∷ [])
 
 -- `drat FILE PROOF --out P [--lax]`
 abbrev pub drat_app : App
@@ -75,18 +80,25 @@ word_rule name = record (new_rule name) { value_names = 1; required = true }
 abbrev pub board_rules : List Rule
 board_rules = word_rule (codes "KIND") ∷ word_rule (codes "SIZE") ∷ []
 
--- `bench board N --proof P [--max-nodes N] [--max-ids N] [--cache N]`
+-- `bench board N --proof P [--max-nodes N] [--max-ids N] [--cache N] [--progress]`
 abbrev pub bench_app : App
-bench_app = with_rules (with_rules (new_app (codes "bench")) board_rules) (proof_rule ∷ limit_rules)
+bench_app = with_rule (with_rules (with_rules (new_app (codes "bench")) board_rules) (proof_rule ∷ limit_rules)) progress_rule
 
 -- `make board N --part PART --out F`
 abbrev pub make_app : App
 make_app = with_rules (with_rules (new_app (codes "make")) board_rules) (needed_rule (codes "part") ∷ needed_rule (codes "out") ∷ [])
 
+-- a command that shows its version, by `--version` or `-V`
+abbrev pub with_version : App → App
+with_version app = record app { top = record app.top { has_version = true } }
+
+-- the program's name, with the version
+abbrev pub program_app : App
+program_app = with_version (new_app (codes "bddsat"))
+
 -- the commands about a proof's file, `solve`, `check` and `drat`, after the program's name
 abbrev pub proof_commands : App
-proof_commands =
-    with_subcommand (with_subcommand (with_subcommand (new_app (codes "bddsat")) solve_app.top) check_app.top) drat_app.top
+proof_commands = with_subcommand (with_subcommand (with_subcommand program_app solve_app.top) check_app.top) drat_app.top
 
 -- those about a formula's file, with `order`
 abbrev pub file_commands : App

@@ -35,10 +35,18 @@ command_of (asked.Solve task) =
       order = text_of task.order;
       plan = planned_of task.plan;
       limits = task.limits;
+      progress = task.progress;
     })
 command_of (asked.Check task) =
-    Check (record { file = task.files.formula.now; proof = task.files.proof.now; format = task.format; mode = task.mode })
-command_of (asked.Bench task) = Bench (record { size = task.size; proof = task.proof.now; limits = task.limits })
+    Check (record {
+      file = task.files.formula.now;
+      proof = task.files.proof.now;
+      format = task.format;
+      mode = task.mode;
+      progress = task.progress;
+    })
+command_of (asked.Bench task) =
+    Bench (record { size = task.size; proof = task.proof.now; limits = task.limits; progress = task.progress })
 command_of (asked.Make task) = Make (record { size = task.size; part = task.part; file = task.file.now })
 command_of (asked.Order task) =
     Arrange (record { file = task.formula.now; method = task.method; mode = task.mode; out = task.out.now })
@@ -56,11 +64,11 @@ IsTaken rows (Err (refusal.Help text)) = ⊥
 IsTaken rows (Err refusal.Usage) = taken_means rows ≡ Misuse
 IsTaken rows (Err refusal.OutOfMemory) = ⊥
 
--- What a refusal of the parser is, by its kind. Memory may run out in the parser, or where the text of help is made.
+-- What a refusal of the parser is, by its kind. Memory may run out in the parser, or where the text of help, or of the version, is made.
 abbrev pub IsRefusalOf : ErrorKind → Refusal → Type 0
-IsRefusalOf k (refusal.Help text) = k ≡ kind.DisplayHelp
+IsRefusalOf k (refusal.Help text) = refusal_means k ≡ AsksHelp
 IsRefusalOf k refusal.Usage = (k ≢ kind.OutOfMemory) × (refusal_means k ≡ Misuse)
-IsRefusalOf k refusal.OutOfMemory = (k ≡ kind.OutOfMemory) ⊎ (k ≡ kind.DisplayHelp)
+IsRefusalOf k refusal.OutOfMemory = (k ≡ kind.OutOfMemory) ⊎ (refusal_means k ≡ AsksHelp)
 
 -- the words may mean this refusal; want of memory is free
 abbrev pub IsRefusal : List (List ℕ) → Refusal → Type 0

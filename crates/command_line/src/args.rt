@@ -1,9 +1,9 @@
 // The arguments that several commands have, with their texts of help.
 ghost use Rattle.std.specs.Prelude.{◌≡◌, IfOk, false};
-ghost use Rattle.clap.specs.Words.{app_of, new_app, rule_of};
+ghost use Rattle.clap.specs.Words.{app_of, new_app, rule_of, with_rule};
 ghost use Rattle.clap.specs.declared.Command.TheViews.{out-Command};
 ghost use Rattle.command_line.specs.Parser.{file_rule, flag_rule, lax_rule, limit_rules, needed_rule, option_rule, proof_file_rule};
-ghost use Rattle.command_line.specs.Parser.{proof_rule, with_rules, word_rule};
+ghost use Rattle.command_line.specs.Parser.{progress_rule, proof_rule, with_rules, word_rule};
 
 use clap::{Arg, ArgAction, Command};
 use std::alloc::{AllocError, Global};
@@ -11,6 +11,8 @@ use std::alloc::{AllocError, Global};
 const PROOF_HELP: &str = "The proof in LRAT, or its steps so far where a run stops";
 
 const LAX_HELP: &str = "The clause count may be wrong, and the last 0 missing";
+
+const PROGRESS_HELP: &str = "Tells on standard error how far it is";
 
 const MAX_NODES_HELP: &str = "Most nodes at once, 0 to 100000000 [default: 10000000]";
 
@@ -46,6 +48,14 @@ pub fn with_limits<'a>(alloc: Global, command: Command<'a>) -> Result<Command<'a
         .arg(option_arg(alloc, "max-nodes", "N", MAX_NODES_HELP))?
         .arg(option_arg(alloc, "max-ids", "N", MAX_IDS_HELP))?
         .arg(option_arg(alloc, "cache", "N", CACHE_HELP))
+}
+
+/// The command with the flag of progress behind its arguments.
+pub fn with_progress<'a>(alloc: Global, command: Command<'a>) -> Result<Command<'a>, AllocError>
+    ensures app { IfOk result (λ more. app_of more ≡ with_rule (app_of command.entry) progress_rule) }
+    ensures local { IfOk result (λ more. (out-Command more).has_globals ≡ (out-Command command.entry).has_globals) }
+{
+    command.arg(flag_arg(alloc, "progress", PROGRESS_HELP))
 }
 
 pub fn formula_arg<'a>(alloc: Global) -> Arg<'a>

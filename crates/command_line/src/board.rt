@@ -5,6 +5,7 @@ ghost use Rattle.command_line.specs.Command.{Asks, IsSize, Misuse, bench_means, 
 ghost use Rattle.command_line.specs.Reading.{IsWithin, command_of, text_of};
 
 use crate::limits::{limits_among, number_within};
+use crate::mode::progress_among;
 use crate::part::{BoardText, part_named};
 use crate::words::Asked;
 use clap::ArgMatches;
@@ -18,6 +19,8 @@ pub struct BenchTask<'a> {
     /// The file that the proof is written to.
     pub proof: &'a str,
     pub limits: Limits,
+    /// Whether progress is told.
+    pub progress: bool,
 }
 
 /// The board that a text is made of, and which.
@@ -42,10 +45,12 @@ pub fn bench_asked<'a>(values: &ArgMatches<'a>) -> Option<Asked<'a>>
     let size = size_among(values)?;
     let proof = values.get_str("proof")?;
     let limits = limits_among(values)?;
+    let progress = progress_among(values);
     Some(Asked::Bench(BenchTask {
         size,
         proof,
         limits,
+        progress,
     }))
 }
 

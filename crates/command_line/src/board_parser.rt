@@ -4,13 +4,15 @@ ghost use Rattle.clap.specs.Words.{app_of};
 ghost use Rattle.clap.specs.declared.Command.TheViews.{out-Command};
 ghost use Rattle.command_line.specs.Parser.{bench_app, board_rules, make_app, with_rules};
 
-use crate::args::{Texts, command, needed_arg, proof_arg, with_limits, word_arg};
+use crate::args::{Texts, command, needed_arg, proof_arg, with_limits, with_progress, word_arg};
 use clap::Command;
 use std::alloc::{AllocError, Global};
 
 const BENCH: Texts<'static> = Texts {
     about: "Decides the mutilated chessboard of N by N, and writes the proof to P",
-    usage: "bddsat bench board N --proof P [--max-nodes N] [--max-ids N] [--cache N]",
+    usage: "\
+bddsat bench board N --proof P [--max-nodes N] [--max-ids N] [--cache N]
+                    [--progress]",
     after: "\
 Example:
   bddsat bench board 8 --proof board.lrat",
@@ -28,7 +30,7 @@ const KIND_HELP: &str = "The word board, for the mutilated chessboard";
 
 const SIZE_HELP: &str = "The squares a side, 2 to 100";
 
-const PART_HELP: &str = "cnf, or order or schedule, which go by columns";
+const PART_HELP: &str = "cnf, or order, schedule or sets, which go by columns";
 
 const OUT_HELP: &str = "The file that the text is written to";
 
@@ -38,7 +40,8 @@ pub fn bench_parser<'a>(alloc: Global) -> Result<Command<'a>, AllocError>
 {
     let command = command(alloc, "bench", BENCH);
     let command = with_board(alloc, command)?.arg(proof_arg(alloc))?;
-    with_limits(alloc, command)
+    let command = with_limits(alloc, command)?;
+    with_progress(alloc, command)
 }
 
 pub fn make_parser<'a>(alloc: Global) -> Result<Command<'a>, AllocError>

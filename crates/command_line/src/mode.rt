@@ -1,8 +1,10 @@
 // The flags of the command line, and the mode in which a formula is read, by the flag `--lax`.
 ghost use Rattle.std.specs.Prelude.{◌≡◌};
-ghost use Rattle.command_line.specs.Command.{is_set, mode_given};
+ghost use Rattle.clap.specs.Words.{found_of, rows_of};
+ghost use Rattle.command_line.specs.Command.{is_set, mode_given, progress_among};
 ghost use Rattle.command_line.specs.Reading.{text_of};
 
+use clap::ArgMatches;
 use dimacs_reader::Mode;
 
 /// The mode, by the text that the parser gives the flag.
@@ -14,6 +16,13 @@ pub fn mode_given(flag: Option<&str>) -> Mode
     } else {
         Mode::Strict
     }
+}
+
+/// Whether progress is told, among these values.
+pub fn progress_among(values: &ArgMatches<'_>) -> bool
+    ensures { result ≡ progress_among (rows_of (found_of values.now)) }
+{
+    is_set(values.get_str("progress"))
 }
 
 /// Whether a flag is among the words, by the text that the parser gives it.

@@ -2,12 +2,12 @@
 ghost use Rattle.std.specs.Prelude.{◌≡◌, IfOk, MatchResult, false};
 ghost use Rattle.clap.specs.Words.{app_of, shape_of, with_subcommand};
 ghost use Rattle.clap.specs.declared.Command.TheViews.{out-Command};
-ghost use Rattle.command_line.specs.Parser.{check_app, file_commands, order_rules, plan_rules, proof_commands, solve_app, the_app};
-ghost use Rattle.command_line.specs.Parser.{with_rules};
+ghost use Rattle.command_line.specs.Parser.{check_app, file_commands, order_rules, plan_rules, program_app, proof_commands, solve_app};
+ghost use Rattle.command_line.specs.Parser.{the_app, with_rules};
 
 use crate::args::{
     Texts, command, flag_arg, formula_arg, lax_arg, option_arg, proof_arg, proof_file_arg,
-    with_limits,
+    with_limits, with_progress,
 };
 use crate::board_parser::{bench_parser, make_parser};
 use crate::drat_parser::drat_parser;
@@ -15,16 +15,20 @@ use crate::order_parser::order_parser;
 use clap::Command;
 use std::alloc::{AllocError, Global};
 
+// The version of the program.
+const VERSION: &str = "0.1.0";
+
 const ALL: Texts<'static> = Texts {
     about: "Decides a CNF formula and proves the answer, or checks a proof.",
     usage: "\
 bddsat solve FILE --proof P [--lax] [--order F]
                     [--search | --buckets F | --schedule F | --plan PLAN]
-                    [--max-nodes N] [--max-ids N] [--cache N]
-       bddsat check FILE PROOF [--format FORMAT] [--lax]
+                    [--max-nodes N] [--max-ids N] [--cache N] [--progress]
+       bddsat check FILE PROOF [--format FORMAT] [--lax] [--progress]
        bddsat drat FILE PROOF --out P [--lax]
        bddsat order FILE --by METHOD --out F [--lax]
        bddsat bench board N --proof P [--max-nodes N] [--max-ids N] [--cache N]
+                    [--progress]
        bddsat make board N --part PART --out F",
     after: "\
 Exit codes:
@@ -34,7 +38,7 @@ Exit codes:
    0  check, drat: the proof is verified
    1  check, drat: it is not verified; standard output has the line and why
    0  make, order: the text is in F
-   0  help was shown
+   0  help or the version was shown
    2  a file's text is not of its format, or too large
    3  a file couldn't be opened or read
    4  a file or standard output couldn't be written
@@ -55,7 +59,7 @@ const SOLVE: Texts<'static> = Texts {
     usage: "\
 bddsat solve FILE --proof P [--lax] [--order F]
                     [--search | --buckets F | --schedule F | --plan PLAN]
-                    [--max-nodes N] [--max-ids N] [--cache N]",
+                    [--max-nodes N] [--max-ids N] [--cache N] [--progress]",
     after: "\
 Example:
   bddsat solve formula.cnf --search --proof formula.lrat",
@@ -63,7 +67,7 @@ Example:
 
 const CHECK: Texts<'static> = Texts {
     about: "Judges the proof in PROOF that FILE is unsatisfiable",
-    usage: "bddsat check FILE PROOF [--format FORMAT] [--lax]",
+    usage: "bddsat check FILE PROOF [--format FORMAT] [--lax] [--progress]",
     after: "\
 Example:
   bddsat check formula.cnf formula.lrat
@@ -105,9 +109,16 @@ fn file_commands<'a>(alloc: Global) -> Result<Command<'a>, AllocError>
 fn proof_commands<'a>(alloc: Global) -> Result<Command<'a>, AllocError>
     ensures { IfOk result (λ command. app_of command ≡ proof_commands) }
 {
-    let solve = with_command(command(alloc, "bddsat", ALL), solve_parser(alloc))?;
+    let solve = with_command(program(alloc), solve_parser(alloc))?;
     let check = with_command(solve, check_parser(alloc))?;
     with_command(check, drat_parser(alloc))
+}
+
+// The program's name, with the version.
+fn program<'a>(alloc: Global) -> Command<'a>
+    ensures { app_of result ≡ program_app }
+{
+    command(alloc, "bddsat", ALL).version(VERSION)
 }
 
 // The command with this one behind its commands, where there was memory to make it.
@@ -132,7 +143,8 @@ fn solve_parser<'a>(alloc: Global) -> Result<Command<'a>, AllocError>
         .arg(lax_arg(alloc))?;
     let command = with_orders(alloc, command)?;
     let command = with_plans(alloc, command)?;
-    with_limits(alloc, command)
+    let command = with_limits(alloc, command)?;
+    with_progress(alloc, command)
 }
 
 // The command with the options of what gives its orders behind its arguments.
@@ -160,9 +172,10 @@ fn check_parser<'a>(alloc: Global) -> Result<Command<'a>, AllocError>
     ensures app { IfOk result (λ command. app_of command ≡ check_app) }
     ensures local { IfOk result (λ command. (out-Command command).has_globals ≡ false) }
 {
-    command(alloc, "check", CHECK)
+    let command = command(alloc, "check", CHECK)
         .arg(formula_arg(alloc))?
         .arg(proof_file_arg(alloc, PROOF_HELP))?
         .arg(option_arg(alloc, "format", "FORMAT", FORMAT_HELP))?
-        .arg(lax_arg(alloc))
+        .arg(lax_arg(alloc))?;
+    with_progress(alloc, command)
 }

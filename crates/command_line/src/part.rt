@@ -11,6 +11,8 @@ pub enum BoardText {
     Order,
     /// The column schedule.
     Schedule,
+    /// The column schedule that quantifies the variables of a column as one set.
+    Sets,
 }
 
 pub fn part_named(name: &str) -> Option<BoardText>
@@ -22,6 +24,8 @@ pub fn part_named(name: &str) -> Option<BoardText>
         Some(BoardText::Order)
     } else if name == "schedule" {
         Some(BoardText::Schedule)
+    } else if name == "sets" {
+        Some(BoardText::Sets)
     } else {
         None
     }

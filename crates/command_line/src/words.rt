@@ -14,7 +14,7 @@ use crate::board::{BenchTask, MakeTask, bench_asked, make_asked};
 use crate::drat::{ConvertTask, convert_asked};
 use crate::format::{ProofFormat, format_given};
 use crate::limits::limits_among;
-use crate::mode::mode_given;
+use crate::mode::{mode_given, progress_among};
 use crate::names::{FileNames, names_among, two_names};
 use crate::order::{OrderTask, order_asked};
 use crate::parser::parser;
@@ -53,6 +53,8 @@ pub struct SolveTask<'a> {
     pub order: Option<&'a str>,
     pub plan: PlanSource<'a>,
     pub limits: Limits,
+    /// Whether progress is told.
+    pub progress: bool,
 }
 
 /// What is to be judged.
@@ -63,12 +65,14 @@ pub struct CheckTask<'a> {
     pub format: ProofFormat,
     /// How the formula is read.
     pub mode: Mode,
+    /// Whether progress is told.
+    pub progress: bool,
 }
 
 /// Why the words ask for nothing that is to be done.
 #[derive(Drop)]
 pub enum Refusal {
-    /// They ask for help, which is this text.
+    /// They ask for help, or for the version, which is this text.
     Help(String),
     /// They are faulty.
     Usage,
@@ -88,7 +92,7 @@ pub fn read_words(alloc: Global, words: &[String]) -> Result<Asked<'_>, Refusal>
     }
 }
 
-// What the parser's answer to the words comes to. Want of memory is the parser's own, or comes where help is due.
+// What the parser's answer to the words comes to. Want of memory is the parser's own, or comes where a text is due.
 fn answer_to<'a>(
     alloc: Global,
     parsed: Result<ArgMatches<'a>, clap::Error>,
@@ -169,12 +173,14 @@ fn solve_asked<'a>(values: &ArgMatches<'a>) -> Option<Asked<'a>>
     let order = values.get_str("order");
     let plan = plan_among(values)?;
     let limits = limits_among(values)?;
+    let progress = progress_among(values);
     Some(Asked::Solve(SolveTask {
         files,
         mode,
         order,
         plan,
         limits,
+        progress,
     }))
 }
 
@@ -192,20 +198,22 @@ fn check_asked<'a>(values: &ArgMatches<'a>) -> Option<Asked<'a>>
     )?;
     let format = format_given(values.get_str("format"))?;
     let mode = mode_given(values.get_str("lax"));
+    let progress = progress_among(values);
     let files = FileNames { formula, proof };
     Some(Asked::Check(CheckTask {
         files,
         format,
         mode,
+        progress,
     }))
 }
 
-// What a refusal of the parser is; the text of help is made whole.
+// What a refusal of the parser is; the text of help, or of the version, is made whole.
 fn refusal_of(alloc: Global, error: &clap::Error) -> Refusal
     ensures { IsRefusalOf (kind_of error.now) result }
 {
     match error.kind() {
-        ErrorKind::DisplayHelp => match error.to_string(alloc) {
+        ErrorKind::DisplayHelp | ErrorKind::DisplayVersion => match error.to_string(alloc) {
             Ok(text) => Refusal::Help(text),
             Err(_) => Refusal::OutOfMemory,
         },

@@ -21,6 +21,8 @@ mod runner;
 #[cfg(test)]
 mod script;
 #[cfg(test)]
+mod sets;
+#[cfg(test)]
 mod support;
 #[cfg(test)]
 mod swept;

@@ -36,8 +36,8 @@ fn rows_of(pair: usize) -> (usize, usize) {
     }
 }
 
-// The row of a function in which the variable of this level may have each value.
-fn either_value(row: usize, level: u32) -> usize {
+/// The row of a function in which the variable of this level may have each value.
+pub fn either_value(row: usize, level: u32) -> usize {
     let (distance, low) = match level {
         0 => (4, 0b0000_1111),
         1 => (2, 0b0011_0011),

@@ -164,6 +164,11 @@ impl Diagram {
         self.nodes.len() as u32
     }
 
+    /// How many inner nodes there were at most at once: each takes the least extension variable that is free.
+    pub fn most(&self) -> u32 {
+        self.next.saturating_sub(self.levels().saturating_add(1))
+    }
+
     /// The keys of inner nodes are below this.
     pub fn key_end(&self) -> u32
         ensures { (key : ℕ) (branch : BranchValue) → branch_at self.now key ≡ Some branch → key < result }

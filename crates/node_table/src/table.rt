@@ -151,6 +151,11 @@ impl<S: Sink + Drop> Table<S> {
         self.diagram.key_end()
     }
 
+    /// How many inner nodes there were at most at once.
+    pub fn most(&self) -> u32 {
+        self.diagram.most()
+    }
+
     /// The node whose cofactors at this level are these children: the child where they are equal, else the node that
     /// is there already, or a new one with its defining clauses. A refusal, but for a failed write, changes nothing.
     pub fn node(&mut self, level: u32, high: Node, low: Node) -> Result<Node, TableError>

@@ -16,6 +16,9 @@ use std::num::NonZeroUsize;
 #[derive(Drop)]
 pub struct Bounded<K: Eq + Hash + Copy, V: Copy> {
     cache: LruCache<K, V>,
+    // How many look-ups found a value, and how many found none.
+    found: u64,
+    missed: u64,
 }
 
 impl<K: Eq + Hash + Copy, V: Copy> Model for Bounded<K, V> {
@@ -38,7 +41,11 @@ impl<K: Eq + Hash + Copy, V: Copy> Bounded<K, V> {
     {
         let most = NonZeroUsize::new(capacity as usize).unwrap();
         let cache = LruCache::sparse(alloc, most)?;
-        Ok(Bounded { cache })
+        Ok(Bounded {
+            cache,
+            found: 0,
+            missed: 0,
+        })
     }
 
     /// The value of a key. Its entry comes to the front.
@@ -46,7 +53,28 @@ impl<K: Eq + Hash + Copy, V: Copy> Bounded<K, V> {
         ensures value { result ≡ lookup (K.eq key.now) self.old.entries }
         ensures entries { self.new ≡ record self.old { entries = looked K.eq self.old.entries key.now } }
     {
-        self.cache.get(key).copied()
+        match self.cache.get(key) {
+            Some(value) => {
+                self.found = self.found.wrapping_add(1);
+                Some(*value)
+            }
+            None => {
+                self.missed = self.missed.wrapping_add(1);
+                None
+            }
+        }
+    }
+
+    /// How many look-ups found a value, and how many found none.
+    pub fn uses(&self) -> (u64, u64) {
+        (self.found, self.missed)
+    }
+
+    /// The entry of a key comes to the front, as it does where it is looked up. It counts for nothing.
+    pub fn touch(&mut self, key: &K)
+        ensures { self.new ≡ record self.old { entries = looked K.eq self.old.entries key.now } }
+    {
+        let _ = self.cache.get(key);
     }
 
     /// Keeps a value under a key, in front of all else, and hands back the pair that it replaces or pushes out. A key that is

@@ -68,6 +68,11 @@ impl<C: Computed> Results<C> {
         self.alloc
     }
 
+    /// How many look-ups found a result, and how many found none.
+    pub fn uses(&self) -> (u64, u64) {
+        self.results.uses()
+    }
+
     /// What was found for these operands, where it is kept. Its entry comes to the front.
     pub fn look(&mut self, key: C::Key) -> Option<C::Value>
         ensures looked { IsLookedUp C.entry_of C.Key.eq self.old.results self.new.results key result }
@@ -113,7 +118,7 @@ impl<C: Computed> Results<C> {
             return;
         };
         if C::are_marked(marks, last.0, last.1) {
-            let _ = self.results.look(&last.0);
+            self.results.touch(&last.0);
             return;
         }
         let _ = self.results.pop_last();

@@ -5,8 +5,9 @@ ghost use Rattle.plan_search.specs.Found.{IsBucketPlan, IsFound};
 
 use crate::candidates::{Candidates, NATURAL, Next, Pair};
 use crate::estimate::estimate;
+use crate::observer::{Attempt, Observer};
 use crate::orders::{Kind, Orders};
-use crate::trial::{Tried, attempt, planned};
+use crate::trial::{Tried, attempt, planned, trial_limits};
 use cnf_base::{Cnf, OutOfMemory};
 use schedule_plan::{Limits, Order, Plan};
 use std::alloc::Global;
@@ -26,19 +27,22 @@ pub struct FoundPlan {
 /// Looks for a plan that decides a formula soon. `natural` is the order of the variables that is tried beside those that are
 /// found. Where no trial decides the formula within the limits, the plan is the one that is estimated to need the fewest clause
 /// numbers. Where there is no memory for other orders or for trials, it is the one over `natural`; so want of memory is only
-/// answered where there is none for that.
-pub fn find_plan(
+/// answered where there is none for that. The observer is told of each trial that came to an end, and of the pair.
+pub fn find_plan<O: Observer>(
     alloc: Global,
     formula: &Cnf,
     natural: Order,
     limits: Limits,
+    observer: &mut O,
 ) -> Result<FoundPlan, OutOfMemory>
     requires order { length natural ≡ formula.now.vars }
     requires limits { AreLimits limits }
-    ensures { IfOk result (λ found. IsFound formula.now found.order found.plan) }
+    ensures found { IfOk result (λ found. IsFound formula.now found.order found.plan) }
+    ensures beside { O.beside observer.new ≡ O.beside observer.old }
 {
     let mut orders = Orders::new(formula.vars(), natural);
-    let answer = search(alloc, formula, limits, &mut orders);
+    let answer = search(alloc, formula, limits, &mut orders, observer);
+    observer.found(answer.pair);
     let (kind, plan) = settled(alloc, formula, &mut orders, answer)?;
     let order = orders.into_order(kind);
     Ok(FoundPlan { order, plan })
@@ -51,11 +55,18 @@ struct Answer {
     plan: Option<Plan>,
 }
 
-fn search(alloc: Global, formula: &Cnf, limits: Limits, orders: &mut Orders) -> Answer
+fn search<O: Observer>(
+    alloc: Global,
+    formula: &Cnf,
+    limits: Limits,
+    orders: &mut Orders,
+    observer: &mut O,
+) -> Answer
     requires limits { AreLimits limits }
     requires orders { orders.old ≡ formula.now.vars }
     ensures plan { IfSome result.plan (IsBucketPlan formula.now) }
     ensures same { orders.new ≡ orders.old }
+    ensures beside { O.beside observer.new ≡ O.beside observer.old }
 {
     // With no memory for the hypergraph no other order can be made.
     let Ok(size) = orders.size(alloc, formula) else {
@@ -70,7 +81,15 @@ fn search(alloc: Global, formula: &Cnf, limits: Limits, orders: &mut Orders) -> 
         let Some(next) = candidates.next() else {
             break;
         };
-        if let Some(plan) = tried(alloc, formula, limits, orders, &mut candidates, &next) {
+        if let Some(plan) = tried(
+            alloc,
+            formula,
+            limits,
+            orders,
+            &mut candidates,
+            &next,
+            observer,
+        ) {
             return Answer {
                 pair: next.pair,
                 plan: Some(plan),
@@ -84,24 +103,32 @@ fn search(alloc: Global, formula: &Cnf, limits: Limits, orders: &mut Orders) -> 
 }
 
 // Makes one trial, and notes what it told. The plan, where the trial decided the formula.
-fn tried(
+fn tried<O: Observer>(
     alloc: Global,
     formula: &Cnf,
     limits: Limits,
     orders: &mut Orders,
     candidates: &mut Candidates,
     next: &Next,
+    observer: &mut O,
 ) -> Option<Plan>
     requires limits { AreLimits limits }
     requires orders { orders.old ≡ formula.now.vars }
     ensures plan { IfSome result (IsBucketPlan formula.now) }
     ensures same { orders.new ≡ orders.old }
+    ensures beside { O.beside observer.new ≡ O.beside observer.old }
 {
     let Ok(tried) = attempt(alloc, formula, limits, orders, next) else {
         candidates.take_out(next, u64::MAX);
         return None;
     };
     let Tried { plan, trial } = tried;
+    observer.tried(Attempt {
+        pair: next.pair,
+        max_ids: trial_limits(formula, next.above, limits).max_ids,
+        moves: trial.moves,
+        all_moves: plan.len(),
+    });
     let estimate = estimate(next.above, plan.len(), &trial);
     match trial.end {
         TrialEnd::Decided => Some(plan),

@@ -6,7 +6,11 @@
 mod candidates;
 mod estimate;
 mod find;
+mod observer;
 mod orders;
 mod trial;
 
+pub use candidates::Pair;
 pub use find::{FoundPlan, find_plan};
+pub use observer::{Attempt, NoObserver, Observer};
+pub use orders::{Kind, Method};

@@ -5,5 +5,13 @@ pub mod Joined
 pub mod Disjunctions
 pub mod OpenedOr
 pub mod BothCaches
+pub mod Levels
 pub mod Quantifications
 pub mod OpenedExists
+pub mod SomeValues
+pub mod SetMeaning
+pub mod RunningFor
+pub mod Places
+pub mod SetQuantifications
+pub mod OpenedSet
+pub mod ClosedSet

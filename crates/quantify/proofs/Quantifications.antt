@@ -1,8 +1,7 @@
 -- The quantification by its cofactors, above its level and at it.
-use Rattle.std.proofs.Common.{◌≡◌, ◌+◌, ◌<◌, ◌≤◌, ◌||◌, ◌==◌, ℕ, Bool, true, false, refl, sym, ap, ◌∙◌, subst, arith, eqb-true, eq-eqb}
-use Rattle.std.proofs.Common.{nat_lt, length}
+use Rattle.std.proofs.Common.{◌≡◌, ◌+◌, ◌<◌, ◌≤◌, ◌||◌, ℕ, Bool, true, false, sym, ap, ◌∙◌, subst, arith}
+use Rattle.std.proofs.Common.{length}
 use Rattle.std.specs.Prelude.{if◌then◌else◌}
-use Rattle.std.proofs.lemmas.Bool.{ltb-true}
 use Rattle.node_table.specs.declared.node.Node.{Node}
 use Rattle.node_table.specs.Diagram.{Graph, IsBelow, IsReduced, KeepsNodes, high_at, is_node, level_of, levels, low_at}
 use Rattle.node_table.specs.Laws.{Canonical, Cofactors, Growth, Subfunctions}
@@ -15,35 +14,7 @@ use Rattle.quantify.specs.Disjunction.{disjunction_of}
 use Rattle.quantify.specs.Quantification.{IsAbove, quantification_of}
 use Rattle.quantify.specs.Runs.{HasSides}
 use Rattle.quantify.proofs.Disjunctions.{choose_either, disjunction_of-kept}
-
--- the value of the level that is set, and those of the others
-set_level : (a : Levels) (level : ℕ) (value : Bool) → with_level a level value level ≡ value
-set_level a level value = rw (eq-eqb level level refl) refl
-
-other_level : (a : Levels) (level : ℕ) (value : Bool) (i : ℕ) → (i ≡ level → ⊥) → with_level a level value i ≡ a i
-other_level a level value i differ = elim (i == level) as (λ b. (i == level) ≡ b → (if b then value else a i) ≡ a i) [
-  | true ↦ λ is. absurd (differ (eqb-true i level is))
-  | false ↦ λ is. refl
-] refl
-
--- a later level is set before or after the first ones are fixed
-set_fixed : (a fixed : Levels) (first level : ℕ) (value : Bool) → first ≤ level → fixed_to first fixed (with_level a level value)
-    ≡ with_level (fixed_to first fixed a) level value
-set_fixed a fixed first level value later = λ k i. at i k
-  where
-    at : (i : ℕ) → fixed_to first fixed (with_level a level value) i ≡ with_level (fixed_to first fixed a) level value i
-    at i = elim (i == level) as (λ b. (i == level) ≡ b → (if nat_lt i first then fixed i else (if b then value else a i))
-        ≡ (if b then value else (if nat_lt i first then fixed i else a i))) [
-          | false ↦ λ is. refl
-          | true ↦ λ is. elim (nat_lt i first) as (λ c. nat_lt i first ≡ c → (if c then fixed i else value) ≡ value) [
-            | false ↦ λ no. refl
-            | true ↦ λ yes. absurd (let small = ltb-true i first yes in let same = eqb-true i level is in omega (arith, small, same, later))
-          ] refl
-        ] refl
-
-either_same : (b : Bool) → b ≡ (b || b)
-either_same true = refl
-either_same false = refl
+use Rattle.quantify.proofs.Levels.{either_same, other_level, set_fixed, set_level}
 
 -- one quantification alone stands in a reduced graph
 pub only_quantification : Canonical → (graph : Graph) → IsReduced graph → (u : Node) (level : ℕ) (w other : Node)

@@ -3,3 +3,6 @@ pub mod OrCache
 pub mod Disjunction
 pub mod ExistsCache
 pub mod Quantification
+pub mod SomeValues
+pub mod RunsFor
+pub mod SetQuantification

@@ -1,23 +1,26 @@
 -- Copies of nodes: as the table grows, once nodes were given back, and with one more.
-use Rattle.std.proofs.Common.{◌≡◌, ◌⊎◌, ◌∙◌, ◌+◌, ◌<◌, ◌≤◌, ℕ, Bool, true, false, List, [], ◌∷◌, ◌++◌, length, reverse, None, Some, is_some, refl, sym}
-use Rattle.std.proofs.Common.{ap, subst, arith, inl, inr, eq-eqb}
+use Rattle.std.proofs.Common.{◌≡◌, ◌⊎◌, ◌∙◌, ◌+◌, ◌<◌, ◌≤◌, ℕ, zero, suc, Contains, Bool, true, false, List, [], ◌∷◌, ◌++◌, length, reverse, None, Some, is_some, refl, sym}
+use Rattle.std.proofs.Common.{ap, subst, arith, inl, inr, eq-eqb, ne_eqb}
 use Rattle.std.specs.Prelude.{◌==◌, ◌^◌, nat_lt, slice_index_or, slice_set, if◌then◌else◌}
 use Rattle.std.proofs.lemmas.Bool.{cases_Bool, cases_eq, cases_lt, ltb-true, lt-ltb}
 use Rattle.std.proofs.lemmas.List.{append_assoc, append-nil, get_or_past, get_or-set_other, get_or-set_same, length-append, length-set}
-use Rattle.cnf_base.specs.Truth.{Assignment}
+use Rattle.std.proofs.lemmas.List.Elements.{Contains-append_cases}
+use Rattle.cnf_base.specs.Truth.{Assignment, with_value}
 use Rattle.node_table.specs.declared.node.Node.{Node}
 use Rattle.node_table.specs.declared.node.Node.TheVariants.{False, True, Inner}
 use Rattle.node_table.specs.declared.node.Branch.{Branch}
-use Rattle.node_table.specs.Diagram.{Graph, IsOrder, IsReduced, KeepsNodes, branch_at, child_in, high_at, is_node, low_at, variable_at}
+use Rattle.node_table.specs.Diagram.{Graph, IsOrder, IsReduced, KeepsNodes, branch_at, child_in, high_at, is_node, level_of, low_at}
+use Rattle.node_table.specs.Diagram.{variable_at}
 use Rattle.node_table.specs.Laws.{Cofactors, Growth}
 use Rattle.node_table.specs.Made.{inner}
 use Rattle.node_table.specs.Value.{Levels, by_level, value_of}
 use Rattle.reconstruction.specs.declared.cells.Cell.{Cell}
-use Rattle.reconstruction.specs.Cells.{HasMore, cell_value, most_cells}
+use Rattle.reconstruction.specs.Cells.{AreOrdered, HasMore, cell_value, most_cells}
+use Rattle.reconstruction.specs.SetsBack.{AreFree, IsFreeOf}
 use Rattle.reconstruction.specs.Copies.{AreCopies, AreSound, Copies, Forgets, KeepsCopies, copy_of, has_copy}
 use Rattle.reconstruction.specs.Copying.{IsCopied, cell_of}
 use Rattle.reconstruction.specs.Laws.{Copying}
-use Rattle.reconstruction.proofs.CellValues.{ordered_pushed, value_false, value_more, value_pushed, value_true}
+use Rattle.reconstruction.proofs.CellValues.{IsCellAt, cell_at, ordered_pushed, value_false, value_more, value_pushed, value_true}
 
 no_copy : (node : Node) → has_copy [] node ≡ true → (node ≡ False) ⊎ (node ≡ True)
 no_copy False has = inl refl
@@ -74,6 +77,7 @@ pub none_copied : (graph : Graph) (cells : List Cell) (one two : List ℕ) → A
 none_copied graph cells one two sound are same places = record {
   sound = record {
     ordered = sound.ordered;
+    free = sound.free;
     few = sound.few;
     within = λ key. subst (λ n. n < length cells + 2) (sym (same key)) (sound.within key);
     places = places;
@@ -132,6 +136,7 @@ pub sound_left : (graph : Graph) (cells : List Cell) (one two : List ℕ) → Fo
     → AreSound cells two
 sound_left graph cells one two forgets long sound = record {
   ordered = sound.ordered;
+  free = sound.free;
   few = sound.few;
   within = λ key. elim (cases_Bool (is_node graph (inner key))) [
     | inl stands ↦
@@ -164,6 +169,24 @@ value_by_children cofactors graph reduced key b at a =
     ∙ at_own b.level b.low (inner key) in
     cofactors.value graph reduced a b.level (inner key) (ap is_some at)
     ∙ (λ i. if a b.level then value_of graph a (high i) else value_of graph a (low i))
+
+-- the children of a cell are earlier ones
+older : (cells : List Cell) → AreOrdered cells → (cell : Cell) → Contains cells cell → (cell.high < length cells + 2)
+    × (cell.low < length cells + 2)
+older cells ordered cell there =
+    let at = subst (IsCellAt (λ x. false) (reverse cells) there.0) there.2 (cell_at (λ x. false) cells ordered there.0 cell there.1) in
+    (omega (arith, at.high, there.1), omega (arith, at.low, there.1))
+
+-- the only one of a list
+only : (one cell : Cell) → Contains (one ∷ []) cell → one ≡ cell
+only one cell (zero, small, at) = at
+only one cell (suc place, small, at) = absurd (omega (arith, small))
+
+pub none_free : AreFree []
+none_free = record {
+  high = λ cell there. absurd (omega (arith, there.1));
+  low = λ cell there. absurd (omega (arith, there.1));
+}
 
 -- one node copied
 module _ (cofactors : Cofactors) (graph : Graph) (reduced : IsReduced graph) (ordered : IsOrder graph.order)
@@ -232,11 +255,57 @@ module _ (cofactors : Cofactors) (graph : Graph) (reduced : IsReduced graph) (or
     | inr differ ↦ omega (arith, there k differ, sound.within k, longer)
   ]
 
+  -- the variable of the node's level matters to nothing below it
+  other_variable : (i : ℕ) → b.level < i → (slice_index_or graph.order i 0 ≡ variable_at graph b.level → ⊥)
+  other_variable i below same = elim (cases_lt i (length graph.order)) [
+    | inl inside ↦
+        let level : i ≡ b.level = ordered.apart i b.level inside (reduced.level key b at) same in
+        omega (arith, level, below)
+    | inr past ↦
+        let none : slice_index_or graph.order i 0 ≡ 0 = get_or_past graph.order i 0 (omega (arith, past)) in
+        omega (arith, none, same, (ordered.within b.level (reduced.level key b at)).0)
+  ]
+
+  free_child : (node : Node) → has_copy copies node ≡ true → b.level < level_of graph node
+      → IsFreeOf (λ a. cell_value after a (copy_of copies node)) (variable_at graph b.level)
+  free_child node has below a t =
+      let says : (c : Assignment) → cell_value after c (copy_of copies node) ≡ value_of graph (by_level graph.order c) node =
+      λ c. value_more cells (cell_of graph copies b ∷ []) c (copy_of copies node) (key_within cells copies sound node)
+      ∙ are.value node has c in
+      says (with_value a (variable_at graph b.level) t)
+      ∙ cofactors.below graph reduced (by_level graph.order (with_value a (variable_at graph b.level) t)) (by_level graph.order a) node
+      (are.stand node has)
+      (λ i from. ap (λ s. if s then t else a (slice_index_or graph.order i 0)) (ne_eqb (slice_index_or graph.order i 0)
+      (variable_at graph b.level) (other_variable i (omega (arith, from, below)))))
+      ∙ sym (says a)
+
+  -- what was free before
+  free_before : (cell : Cell) → Contains cells cell → (child : ℕ) → child < length cells + 2
+      → IsFreeOf (λ a. cell_value cells a child) cell.variable → IsFreeOf (λ a. cell_value after a child) cell.variable
+  free_before cell there child small free a t =
+      value_more cells (cell_of graph copies b ∷ []) (with_value a cell.variable t) child small
+      ∙ free a t ∙ sym (value_more cells (cell_of graph copies b ∷ []) a child small)
+
+  free_after : AreFree after
+  free_after = record {
+    high = λ cell there. elim (Contains-append_cases cells (cell_of graph copies b ∷ []) cell there) [
+      | inl old ↦ free_before cell old cell.high (older cells sound.ordered cell old).0 (sound.free.high cell old)
+      | inr new ↦ subst (λ (c : Cell). IsFreeOf (λ a. cell_value after a c.high) c.variable) (only (cell_of graph copies b) cell new)
+          (free_child b.high high (reduced.high key b at).below)
+    ];
+    low = λ cell there. elim (Contains-append_cases cells (cell_of graph copies b ∷ []) cell there) [
+      | inl old ↦ free_before cell old cell.low (older cells sound.ordered cell old).1 (sound.free.low cell old)
+      | inr new ↦ subst (λ (c : Cell). IsFreeOf (λ a. cell_value after a c.low) c.variable) (only (cell_of graph copies b) cell new)
+          (free_child b.low low (reduced.low key b at).below)
+    ];
+  }
+
   copied_one : length after ≤ most_cells → Copies graph cells copies after now
   copied_one few = record {
     sound = record {
       ordered = ordered_pushed cells (cell_of graph copies b) sound.ordered (ordered.within b.level (reduced.level key b at)).0
           (key_within cells copies sound b.high) (key_within cells copies sound b.low);
+      free = free_after;
       few = few;
       within = within;
       places = subst (λ n. n < 2 ^ 32) (sym (length-set copies key (length cells + 2))) sound.places;

@@ -3,5 +3,9 @@ pub mod Alike
 pub mod Copied
 pub mod Wanted
 pub mod Each
-pub mod Entries
+pub mod TakenOver
 pub mod Restored
+pub mod HoldsBy
+pub mod SetBackAlike
+pub mod Among
+pub mod SetEntries

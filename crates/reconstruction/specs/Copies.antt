@@ -8,6 +8,7 @@ use Rattle.node_table.specs.Made.{inner}
 use Rattle.node_table.specs.Value.{by_level, value_of}
 use Rattle.reconstruction.specs.declared.cells.Cell.{Cell}
 use Rattle.reconstruction.specs.Cells.{AreOrdered, HasMore, cell_value, most_cells}
+use Rattle.reconstruction.specs.SetsBack.{AreFree}
 
 -- the key of a node's copy; the constants are their own
 abbrev pub copy_of : List ℕ → Node → ℕ
@@ -26,9 +27,10 @@ pub record AreCopies (graph : Graph) (cells : List Cell) (copies : List ℕ) : T
   pub value : (node : Node) → IsTrue (has_copy copies node) → (a : Assignment)
       → cell_value cells a (copy_of copies node) ≡ value_of graph (by_level graph.order a) node
 
--- The cells are ordered, and each copy is one of them.
+-- The cells are ordered, no cell's variable matters to its children, and each copy is one of them.
 pub record AreSound (cells : List Cell) (copies : List ℕ) : Type 0 where
   pub ordered : AreOrdered cells
+  pub free : AreFree cells
   pub few : length cells ≤ most_cells
   pub within : (key : ℕ) → slice_index_or copies key 0 < length cells + 2
   pub places : length copies < 2 ^ 32

@@ -1,4 +1,6 @@
 pub mod Cells
+pub mod SetsBack
+pub mod Entries
 pub mod Copies
 pub mod Copying
 pub mod Stack

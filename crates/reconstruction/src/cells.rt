@@ -48,8 +48,8 @@ pub fn value(cells: &[Cell], key: u32, values: &[bool]) -> bool
     key == 1
 }
 
-// The child that a cell's variable chooses.
-fn chosen(cell: &Cell, values: &[bool]) -> u32
+/// The child that a cell's variable chooses.
+pub fn chosen(cell: &Cell, values: &[bool]) -> u32
     requires { 0 < cell.now.variable }
     ensures { result ≡ (if assignment_of values.now cell.now.variable then cell.now.high else cell.now.low) }
 {

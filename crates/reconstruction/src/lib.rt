@@ -7,10 +7,13 @@
 
 mod cells;
 mod copying;
+mod entries;
 mod laws;
 mod restore;
+mod some_values;
 mod stack;
 
 pub use cells::Cell;
-pub use laws::{copies_law, restore_law};
+pub use entries::{Entry, Kept};
+pub use laws::{copies_law, restore_law, set_law};
 pub use stack::Reconstruction;

@@ -1,8 +1,11 @@
 // The stack of quantified variables.
-ghost use Rattle.std.specs.Prelude.{◌≡◌, ◌<◌, ◌≤◌, ◌++◌, ℕ, [], ◌∷◌, Contains, IsTrue, IfOk, OnOk, OnErr, length, map, reverse};
+ghost use Rattle.std.specs.Prelude.{◌≡◌, ◌<◌, ◌≤◌, ◌^◌, ◌++◌, ℕ, [], ◌∷◌, Contains, IsTrue, IfOk, OnOk, OnErr, length, map, reverse};
 ghost use Rattle.cnf_base.specs.Truth.{assignment_of};
 ghost use Rattle.clause_terms.specs.Walk.{AreAlike};
 ghost use Rattle.node_table.specs.declared.node.Node.{Node as NodeValue};
+ghost use Rattle.reconstruction.specs.declared.entries.Entry.{Entry as EntryValue};
+ghost use Rattle.reconstruction.specs.declared.entries.Kept.{Kept as KeptValue};
+ghost use Rattle.reconstruction.specs.Entries.{kept_set};
 ghost use Rattle.node_table.specs.Diagram.{Graph, KeepsNodes, is_node};
 ghost use Rattle.reconstruction.specs.Copies.{AreCopies, KeepsCopies, copy_of};
 ghost use Rattle.reconstruction.specs.SetBack.{set_cells_back};
@@ -10,6 +13,7 @@ ghost use Rattle.reconstruction.specs.Stack.{CopiesRecent, HaveCopies, SayTheSam
 
 use crate::cells::Cell;
 use crate::copying::{copy_nodes, copy_of, forget};
+use crate::entries::{Entry, Kept};
 use crate::restore::set_all_back;
 use clause_terms::Model;
 use cnf_base::OutOfMemory;
@@ -21,9 +25,8 @@ use std::alloc::Global;
 /// is stored a copy of it, in cells of 12 bytes that are never given back.
 #[derive(Debug, Drop)]
 pub struct Reconstruction {
-    recent: Vec<(u32, Node)>,
-    // Each with its cell's key.
-    stored: Vec<(u32, u32)>,
+    recent: Vec<Kept>,
+    stored: Vec<Entry>,
     cells: Vec<Cell>,
     // The key of each live node's copy, by the keys of nodes; 0 where there is none.
     copies: Vec<u32>,
@@ -54,10 +57,26 @@ impl Reconstruction {
 
     /// Appends a variable and the node that it is quantified from. A refusal changes nothing.
     pub fn push(&mut self, variable: u32, node: Node) -> Result<(), OutOfMemory>
-        ensures ok { OnOk result (self.new ≡ record self.old { recent = self.old.recent ++ (variable, node) ∷ [] }) }
+        ensures ok { OnOk result (self.new ≡ record self.old { recent = self.old.recent ++ kept_set 0 (variable ∷ []) node }) }
         ensures err { OnErr result (self.new ≡ self.old) }
     {
-        self.recent.push((variable, node))?;
+        self.recent.push(Kept {
+            variable,
+            later: 0,
+            node,
+        })?;
+        Ok(())
+    }
+
+    /// Appends the variables of a set, the last in the order first, and the node that they are quantified from at once. A refusal
+    /// changes nothing.
+    pub fn push_set(&mut self, set: &[u32], node: Node) -> Result<(), OutOfMemory>
+        requires { length set.now < 2 ^ 32 }
+        ensures ok { OnOk result (self.new ≡ record self.old { recent = self.old.recent ++ kept_set 0 set.now node }) }
+        ensures err { OnErr result (self.new ≡ self.old) }
+    {
+        let kept = kept_set(*self.recent.allocator(), set, node)?;
+        self.recent.extend_from_slice(kept.as_slice())?;
         Ok(())
     }
 
@@ -70,7 +89,7 @@ impl Reconstruction {
 
     /// The nodes that aren't stored yet, which a table must keep until they are.
     pub fn nodes(&self) -> Result<Vec<Node>, OutOfMemory>
-        ensures { IfOk result (λ nodes. nodes.items ≡ map (λ kept. kept.1) self.now.recent) }
+        ensures { IfOk result (λ nodes. nodes.items ≡ map (λ kept. kept.node) self.now.recent) }
     {
         nodes_of(*self.recent.allocator(), self.recent.as_slice())
     }
@@ -79,7 +98,7 @@ impl Reconstruction {
     /// terms that they had.
     pub fn store<S: Sink + Drop>(&mut self, table: &Table<S>) -> Result<(), OutOfMemory>
         requires copies { AreCopies table.now.graph self.old.cells self.old.copies }
-        requires nodes { (kept : ℕ × NodeValue) → Contains self.old.recent kept → IsTrue (is_node table.now.graph kept.1) }
+        requires nodes { (kept : KeptValue) → Contains self.old.recent kept → IsTrue (is_node table.now.graph kept.node) }
         ensures stores { OnOk result (Stores table.now.graph self.old self.new) }
         ensures refused { OnErr result ((self.new.recent ≡ self.old.recent) × (self.new.stored ≡ self.old.stored)) }
         // However it ends, what was stored says the same, and copies are copies.
@@ -95,7 +114,7 @@ impl Reconstruction {
     // Copies what the recent nodes reach.
     fn copy_recent<S: Sink + Drop>(&mut self, table: &Table<S>) -> Result<(), OutOfMemory>
         requires copies { AreCopies table.now.graph self.old.cells self.old.copies }
-        requires nodes { (kept : ℕ × NodeValue) → Contains self.old.recent kept → IsTrue (is_node table.now.graph kept.1) }
+        requires nodes { (kept : KeptValue) → Contains self.old.recent kept → IsTrue (is_node table.now.graph kept.node) }
         ensures copied { CopiesRecent table.now.graph self.old self.new }
         ensures all { OnOk result (HaveCopies self.new) }
     {
@@ -134,40 +153,62 @@ impl Reconstruction {
         forget(table, &mut self.copies);
     }
 
-    /// Sets the variables back in an assignment, the last one first: each becomes false where its term is true so, else true.
-    /// All have to be stored.
-    pub fn set_back(&self, values: &mut Model)
+    /// Sets the variables back in an assignment, the last one first: each becomes false where its term is true so, else true. That of
+    /// a set's variable is true where some values of those behind it make the set's term true. All have to be stored. A refusal gives
+    /// the values up.
+    pub fn set_back(&self, values: &mut Model) -> Result<(), OutOfMemory>
         requires none_recent { self.now.recent ≡ [] }
-        requires variables { (entry : ℕ × ℕ) → Contains self.now.stored entry → (0 < entry.0) × (entry.0 ≤ length values.old) }
+        requires variables { (entry : EntryValue) → Contains self.now.stored entry
+            → (0 < entry.variable) × (entry.variable ≤ length values.old) }
         ensures one_each { length values.new ≡ length values.old }
-        ensures set { AreAlike (assignment_of values.new) (set_cells_back self.now.cells (assignment_of values.old)
-            (reverse self.now.stored)) }
+        ensures set { OnOk result (AreAlike (assignment_of values.new) (set_cells_back self.now.cells (assignment_of values.old)
+            (reverse self.now.stored))) }
     {
-        set_all_back(self.cells.as_slice(), self.stored.as_slice(), values);
+        set_all_back(
+            *self.stored.allocator(),
+            self.cells.as_slice(),
+            self.stored.as_slice(),
+            values,
+        )
     }
 }
 
-fn nodes_of(alloc: Global, recent: &[(u32, Node)]) -> Result<Vec<Node>, OutOfMemory>
-    ensures { IfOk result (λ nodes. nodes.items ≡ map (λ kept. kept.1) recent.now) }
+fn kept_set(alloc: Global, set: &[u32], node: Node) -> Result<Vec<Kept>, OutOfMemory>
+    requires { length set.now < 2 ^ 32 }
+    ensures { IfOk result (λ kept. kept.items ≡ kept_set 0 set.now node) }
+{
+    let mut kept = Vec::new(alloc);
+    'set: for place in 0..set.len() {
+        kept.push(Kept {
+            variable: set[place],
+            later: place as u32,
+            node,
+        })?;
+    }
+    Ok(kept)
+}
+
+fn nodes_of(alloc: Global, recent: &[Kept]) -> Result<Vec<Node>, OutOfMemory>
+    ensures { IfOk result (λ nodes. nodes.items ≡ map (λ kept. kept.node) recent.now) }
 {
     let mut nodes = Vec::new(alloc);
     'recent: for kept in recent {
-        nodes.push(kept.1)?;
+        nodes.push(kept.node)?;
     }
     Ok(nodes)
 }
 
 // The variables with the copies of their nodes.
-fn entries_of(
-    alloc: Global,
-    recent: &[(u32, Node)],
-    copies: &[u32],
-) -> Result<Vec<(u32, u32)>, OutOfMemory>
+fn entries_of(alloc: Global, recent: &[Kept], copies: &[u32]) -> Result<Vec<Entry>, OutOfMemory>
     ensures { IfOk result (λ entries. entries.items ≡ map (entry_of copies.now) recent.now) }
 {
     let mut entries = Vec::new(alloc);
     'recent: for kept in recent {
-        entries.push((kept.0, copy_of(copies, kept.1)))?;
+        entries.push(Entry {
+            variable: kept.variable,
+            later: kept.later,
+            key: copy_of(copies, kept.node),
+        })?;
     }
     Ok(entries)
 }

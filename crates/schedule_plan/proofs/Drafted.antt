@@ -1,7 +1,7 @@
 -- The line as it is kept says what the line's words say.
 use Rattle.std.proofs.Common.{◌≡◌, ℕ, suc, ◌+◌, ◌-◌, ◌<◌, ◌≤◌, ◌==◌, Bool, true, false, ◌||◌, ◌&&◌, List, [], ◌∷◌, ◌++◌, length, map}
 use Rattle.std.proofs.Common.{Option, None, Some, Result, Ok, Err, refl, sym, ap, subst, ◌∙◌, arith, inl, inr}
-use Rattle.std.specs.Prelude.{nat_lt, nat_le, if◌then◌else◌, replicate, not}
+use Rattle.std.specs.Prelude.{◌⊎◌, nat_lt, nat_le, if◌then◌else◌, replicate, not}
 use Rattle.std.specs.List.{list_any}
 use Rattle.std.specs.Option.{option_map, option_and_then}
 use Rattle.std.proofs.lemmas.Bool.{cases_eq, le-leb}
@@ -13,15 +13,15 @@ use Rattle.cnf_base.specs.Text.{Word, Row}
 use Rattle.text_scan.specs.Capped.{capped}
 use Rattle.text_scan.specs.Items.{Items, the_end, too_long, next_word}
 use Rattle.schedule_plan.specs.declared.plan.Move.{Move}
-use Rattle.schedule_plan.specs.declared.plan.Move.TheVariants.{Push, And, Exists}
+use Rattle.schedule_plan.specs.declared.plan.Move.TheVariants.{Push, And, Exists, ExistsAll}
 use Rattle.schedule_plan.specs.declared.schedule.error.PlanKind.{PlanKind}
 use Rattle.schedule_plan.specs.declared.schedule.error.PlanKind.TheVariants.{ClauseRange, ClauseTwice, StackShort, VariableRange}
 use Rattle.schedule_plan.specs.declared.schedule.error.PlanKind.TheVariants.{VariableInUse}
 use Rattle.schedule_plan.specs.declared.schedule.line.Command.{Command}
-use Rattle.schedule_plan.specs.declared.schedule.line.Command.TheVariants.{Absent, Pushes, Conjoins, Quantifies, Unknown}
+use Rattle.schedule_plan.specs.declared.schedule.line.Command.TheVariants.{Absent, Pushes, Conjoins, Quantifies, QuantifiesAll, Unknown}
 use Rattle.schedule_plan.specs.Plan.{Term, Stage, is_pushed, holds_later, term_has}
 use Rattle.schedule_plan.specs.ScheduleText.{ScheduleText, overlong, is_letter, conjunctions, command_moves, moves_of_words, fault_of_move}
-use Rattle.schedule_plan.specs.ScheduleText.{fault_of_exists, taken, line_taken, behind, at_end, has_words, row_then, no_row, row_of_word}
+use Rattle.schedule_plan.specs.ScheduleText.{fault_of_all, fault_of_exists, is_in_use, is_out_of_range, taken, line_taken, behind, at_end, has_words, row_then, no_row, row_of_word}
 use Rattle.schedule_plan.specs.ScheduleText.{row_with, schedule_after}
 use Rattle.schedule_plan.specs.ScheduleState.{DraftLine, no_draft, command_of, draft_of_word, draft_with, with_given, is_command, is_open}
 use Rattle.schedule_plan.specs.ScheduleState.{moves_with, moves_of_draft, draft_taken, drafted}
@@ -114,6 +114,58 @@ numbers_cut formula move cut (x ∷ xs) done on = elim (cases_eq (capped x) x) [
       ∙ sym (refused formula done on.stage (move x) (map move xs) same.kind on.possible same.right)
 ]
 
+-- a set of which a number is cut
+later_any : (p : ℕ → Bool) (x : ℕ) (xs : List ℕ) → list_any p xs ≡ true → list_any p (x ∷ xs) ≡ true
+later_any p x xs any = elim (p x) as (λ b. (b || list_any p xs) ≡ true) [ true ↦ refl | false ↦ any ]
+
+record IsOutside (formula : Formula) (xs : List ℕ) : Type 0 where
+  cut : list_any (is_out_of_range formula) (map capped xs) ≡ true
+  whole : list_any (is_out_of_range formula) xs ≡ true
+
+cut_set : (formula : Formula) → formula.vars ≤ 1000000 → (xs : List ℕ) → (map capped xs ≡ xs) ⊎ IsOutside formula xs
+cut_set formula few [] = inl refl
+cut_set formula few (x ∷ xs) = elim (cases_eq (capped x) x) [
+  | inl same ↦ elim (cut_set formula few xs) [
+    | inl rest ↦ inl (ap (λ (y : ℕ). y ∷ map capped xs) same ∙ ap (λ (l : List ℕ). x ∷ l) rest)
+    | inr out ↦ inr (record {
+      cut = later_any (is_out_of_range formula) (capped x) (map capped xs) out.cut;
+      whole = later_any (is_out_of_range formula) x xs out.whole;
+    })
+  ]
+  | inr differ ↦
+      let large : 1000000000000000000 < x = cut_large x differ in
+      inr (record {
+        cut = ap (λ b. not b || list_any (is_out_of_range formula) (map capped xs)) (out_of_range (capped x) formula.vars
+            (omega (arith, few, large)));
+        whole = ap (λ b. not b || list_any (is_out_of_range formula) xs) (out_of_range x formula.vars (omega (arith, few, large)));
+      })
+]
+
+all_outside : (formula : Formula) (stage : Stage) (xs : List ℕ) (stack : List Term) → stage.stack ≡ stack → IsOutside formula xs
+    → SameFault formula stage (ExistsAll (map capped xs)) (ExistsAll xs)
+all_outside formula stage xs [] is out = record {
+  kind = StackShort;
+  left = ap (fault_of_all formula stage (map capped xs)) is;
+  right = ap (fault_of_all formula stage xs) is;
+}
+all_outside formula stage xs (top ∷ rest) is out = record {
+  kind = VariableRange;
+  left = ap (fault_of_all formula stage (map capped xs)) is ∙ ap (λ b. if b then Some VariableRange
+      else if list_any (is_in_use formula rest stage.pushed) (map capped xs) then Some VariableInUse else None) out.cut;
+  right = ap (fault_of_all formula stage xs) is ∙ ap (λ b. if b then Some VariableRange
+      else if list_any (is_in_use formula rest stage.pushed) xs then Some VariableInUse else None) out.whole;
+}
+
+set_cut : (formula : Formula) (xs : List ℕ) (done : List Move) → formula.vars ≤ 1000000 → Reached formula done
+    → taken formula done (ExistsAll (map capped xs) ∷ []) ≡ taken formula done (ExistsAll xs ∷ [])
+set_cut formula xs done few on = elim (cut_set formula few xs) [
+  | inl same ↦ ap (λ (l : List ℕ). taken formula done (ExistsAll l ∷ [])) same
+  | inr out ↦
+      let same = all_outside formula on.stage xs on.stage.stack refl out in
+      refused formula done on.stage (ExistsAll (map capped xs)) [] same.kind on.possible same.left
+      ∙ sym (refused formula done on.stage (ExistsAll xs) [] same.kind on.possible same.right)
+]
+
 -- more terms are conjoined than clauses are there
 many_terms : (formula : Formula) (n : ℕ) (done : List Move) → length formula.clauses + 1 ≤ n → 2 ≤ n → Reached formula done
     → line_taken formula done (conjunctions n []) ≡ Err StackShort
@@ -135,24 +187,26 @@ terms_cut formula n [] done few on = elim (cases_eq (capped n) n) [
       ∙ sym (many_terms formula n done (omega (arith, few, large)) (omega (arith, large)) on)
 ]
 
-command_cut : (formula : Formula) (a b c : Bool) (first : ℕ) (more : List ℕ) (done : List Move) → length formula.clauses ≤ 10000000
+command_cut : (formula : Formula) (a b c d : Bool) (first : ℕ) (more : List ℕ) (done : List Move) → length formula.clauses ≤ 10000000
     → formula.vars ≤ 1000000 → Reached formula done
-    → line_taken formula done (moves_with (if a then Pushes else if b then Conjoins else if c then Quantifies else Unknown)
-    (map capped (first ∷ more)))
+    → line_taken formula done (moves_with (if a then Pushes else if b then Conjoins else if c then Quantifies else if d then QuantifiesAll
+    else Unknown) (map capped (first ∷ more)))
     ≡ line_taken formula done (if a then Some (map Push (first ∷ more)) else if b then conjunctions first more else if c then Some
-    (map Exists (first ∷ more)) else None)
-command_cut formula true b c first more done few small on = numbers_cut formula Push (λ stage i cut. push_cut formula stage i few cut)
+    (map Exists (first ∷ more)) else if d then Some (ExistsAll (first ∷ more) ∷ []) else None)
+command_cut formula true b c d first more done few small on = numbers_cut formula Push (λ stage i cut. push_cut formula stage i few cut)
     (first ∷ more) done on
-command_cut formula false true c first more done few small on = terms_cut formula first more done few on
-command_cut formula false false true first more done few small on =
+command_cut formula false true c d first more done few small on = terms_cut formula first more done few on
+command_cut formula false false true d first more done few small on =
     numbers_cut formula Exists (λ stage x cut. exists_cut_at formula stage x stage.stack refl small cut) (first ∷ more) done on
-command_cut formula false false false first more done few small on = refl
+command_cut formula false false false true first more done few small on = set_cut formula (first ∷ more) done small on
+command_cut formula false false false false first more done few small on = refl
 
 no_numbers_moves : (command : Command) → moves_with command [] ≡ None
 no_numbers_moves Absent = refl
 no_numbers_moves Pushes = refl
 no_numbers_moves Conjoins = refl
 no_numbers_moves Quantifies = refl
+no_numbers_moves QuantifiesAll = refl
 no_numbers_moves Unknown = refl
 
 -- the numbers as they are kept
@@ -179,22 +233,24 @@ moves_cut : (formula : Formula) (word : List ℕ) (numbers : Option (List ℕ)) 
 moves_cut formula word None done few small on = refl
 moves_cut formula word (Some []) done few small on = ap (line_taken formula done) (no_numbers_moves (command_of word))
 moves_cut formula word (Some (first ∷ more)) done few small on = command_cut formula (is_letter 99 word) (is_letter 97 word)
-    (is_letter 113 word) first more done few small on
+    (is_letter 113 word) (is_letter 101 word) first more done few small on
 
 -- The line that is kept of a row.
 abbrev draft_of_words : ℕ → List (List ℕ) → DraftLine
 draft_of_words line [] = record { line = line; command = Absent; numbers = Some [] }
 draft_of_words line (word ∷ words) = record { line = line; command = command_of word; numbers = all_given (map number_of_word words) }
 
-open_if : (a b c : Bool) → is_command (if a then Pushes else if b then Conjoins else if c then Quantifies else Unknown) ≡ true
-open_if true b c = refl
-open_if false true c = refl
-open_if false false true = refl
-open_if false false false = refl
+open_if : (a b c d : Bool) → is_command (if a then Pushes else if b then Conjoins else if c then Quantifies else if d then QuantifiesAll
+    else Unknown) ≡ true
+open_if true b c d = refl
+open_if false true c d = refl
+open_if false false true d = refl
+open_if false false false true = refl
+open_if false false false false = refl
 
 open_same : (line : ℕ) (words : List (List ℕ)) → is_open (draft_of_words line words) ≡ has_words words
 open_same line [] = refl
-open_same line (word ∷ words) = open_if (is_letter 99 word) (is_letter 97 word) (is_letter 113 word)
+open_same line (word ∷ words) = open_if (is_letter 99 word) (is_letter 97 word) (is_letter 113 word) (is_letter 101 word)
 
 one_more_word : (line : ℕ) (words : List (List ℕ)) (word : Word) → has_words words ≡ true → draft_of_words line (words ++ word.bytes ∷ [])
     ≡ draft_with (draft_of_words line words) word

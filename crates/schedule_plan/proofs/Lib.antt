@@ -11,9 +11,12 @@ pub mod ItemFacts
 pub mod Linked
 pub mod Uses
 pub mod ToCome
+pub mod SetMoves
+pub mod SetsAlike
 pub mod Starts
 pub mod Standing
 pub mod Steps
+pub mod SetJudged
 pub mod Reached
 pub mod TakesError
 pub mod ScheduleWants

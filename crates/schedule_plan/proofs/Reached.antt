@@ -7,14 +7,16 @@ use Rattle.std.specs.Option.{option_and_then}
 use Rattle.std.proofs.lemmas.Bool.Decides.{nat_tests}
 use Rattle.cnf_base.specs.Formula.{Formula}
 use Rattle.schedule_plan.specs.declared.plan.Move.{Move}
-use Rattle.schedule_plan.specs.declared.plan.Move.TheVariants.{Push, And, Exists}
+use Rattle.schedule_plan.specs.declared.plan.Move.TheVariants.{Push, And, Exists, ExistsAll}
 use Rattle.schedule_plan.specs.declared.schedule.error.PlanKind.{PlanKind}
 use Rattle.schedule_plan.specs.declared.schedule.error.PlanKind.TheVariants.{ClauseRange, ClauseTwice, StackShort, VariableRange}
 use Rattle.schedule_plan.specs.declared.schedule.error.PlanKind.TheVariants.{VariableInUse}
 use Rattle.schedule_plan.specs.Plan.{Term, input, both, some_value, Stage, no_stage, is_pushed, holds_later, term_has, after_move}
-use Rattle.schedule_plan.specs.Plan.{after_moves, after_and, after_exists}
-use Rattle.schedule_plan.specs.ScheduleText.{fault_of_move, fault_of_exists, taken}
+use Rattle.schedule_plan.specs.Plan.{after_moves, after_all, after_and, after_exists}
+use Rattle.schedule_plan.specs.ScheduleText.{fault_of_move, fault_of_all, fault_of_exists, taken}
+use Rattle.schedule_plan.specs.SetMove.{quantified_by, staged, trail_by}
 use Rattle.schedule_plan.specs.ScheduleState.{to_come, any_clause}
+use Rattle.schedule_plan.proofs.SetMoves.{possible_set}
 use Rattle.schedule_plan.proofs.Standing.{possible_behind, refused, accepted}
 use Rattle.schedule_plan.proofs.ToCome.{to_come_push, none_pushed}
 
@@ -53,6 +55,15 @@ exists_possible formula stage x (top ∷ rest) e =
           (holds_later formula stage.pushed x (length formula.clauses)) later e,
     )
 
+all_possible : (formula : Formula) (stack : List Term) (pushed : List ℕ) (trail : List (ℕ × Term)) (xs : List ℕ)
+    → fault_of_all formula (staged stack pushed trail) xs stack ≡ None → (later : Stage)
+    × (after_all formula (staged stack pushed trail) xs ≡ Some later)
+all_possible formula [] pushed trail xs e = absurd (let no : ◌≡◌ {A = Option PlanKind} (Some StackShort) None = e in cc)
+all_possible formula (top ∷ rest) pushed trail xs e = (
+  staged (quantified_by xs top ∷ rest) pushed (trail_by xs top trail),
+  possible_set formula top rest pushed trail xs e,
+)
+
 push_shape : (a b c : Bool) (later : Stage) → (if (a && b) && not c then Some later else None) ≡ Some later
     → (if a && b && not c then Some later else None) ≡ Some later
 push_shape true b c later e = e
@@ -67,6 +78,7 @@ fault_free formula stage (Push i) e =
     )
 fault_free formula stage And e = and_possible stage stage.stack e
 fault_free formula stage (Exists x) e = exists_possible formula stage x stage.stack e
+fault_free formula stage (ExistsAll xs) e = all_possible formula stage.stack stage.pushed stage.trail xs e
 
 -- the moves so far are possible
 pub record Reached (formula : Formula) (done : List Move) : Type 0 where
@@ -149,12 +161,23 @@ few_exists formula stage later x (top ∷ rest) is e few =
     (record { stack = some_value x top ∷ rest; pushed = stage.pushed; trail = (x, top) ∷ stage.trail }) later e
     (omega (arith, ap length is, few))
 
+few_all : (formula : Formula) (xs : List ℕ) (stage later : Stage) → after_all formula stage xs ≡ Some later → Few formula stage
+    → Few formula later
+few_all formula [] stage later e few = subst (Few formula) (some_is e) few
+few_all formula (x ∷ xs) stage later e few =
+    elim (after_exists formula stage x stage.stack) as (λ o. after_exists formula stage x stage.stack ≡ o
+    → option_and_then (λ s. after_all formula s xs) o ≡ Some later → Few formula later) [
+      | None ↦ λ is ends. absurd (none_is_some ends)
+      | Some next ↦ λ is ends. few_all formula xs next later ends (few_exists formula stage next x stage.stack refl is few)
+    ] refl e
+
 few_move : (formula : Formula) (stage later : Stage) (move : Move) → after_move formula stage move ≡ Some later → Few formula stage
     → Few formula later
 few_move formula stage later (Push i) e few =
     few_push formula stage later i (nat_lt 0 i) (nat_le i (length formula.clauses)) (is_pushed stage.pushed i) refl refl refl e few
 few_move formula stage later And e few = few_and formula stage later stage.stack refl e few
 few_move formula stage later (Exists x) e few = few_exists formula stage later x stage.stack refl e few
+few_move formula stage later (ExistsAll xs) e few = few_all formula xs stage later e few
 
 few_moves : (formula : Formula) (moves : List Move) (stage later : Stage) → after_moves formula stage moves ≡ Some later → Few formula stage
     → Few formula later

@@ -8,7 +8,7 @@ use Rattle.std.proofs.lemmas.List.{take_more, get_or-set_same, get_or-set_other}
 use Rattle.std.proofs.lemmas.List.Folds.{list_any-append}
 use Rattle.schedule_plan.specs.declared.schedule.uses.Use.{Use}
 use Rattle.schedule_plan.specs.Plan.{clause_has}
-use Rattle.schedule_plan.specs.ScheduleState.{no_use, use_at, counted, with_push, changed}
+use Rattle.schedule_plan.specs.ScheduleState.{no_use, use_at, counted, with_push, changed, is_among, use_behind, when_quantified}
 
 -- what marks a use that isn't marked yet does nothing the second time
 marked_twice : (mark : ℕ) (next : Use → Use) (u : Use) → (next u).seen ≡ mark
@@ -87,3 +87,30 @@ counted_small mark true u few =
       | false ↦ omega (arith, few)
     ]
 counted_small mark false u few = omega (arith, few)
+
+-- one more variable of a set
+pub quantified_more : (xs : List ℕ) (k d : ℕ) (old now : List Use) → k < length xs → slice_index_or xs k d < length now
+    → ((x : ℕ) → use_at now x ≡ use_behind (take k xs) old x)
+    → (x : ℕ) → use_at (set now (slice_index_or xs k d) (when_quantified (use_at now (slice_index_or xs k d)))) x
+    ≡ use_behind (take (k + 1) xs) old x
+quantified_more xs k d old now small within before x =
+    let v = slice_index_or xs k d in
+    let had = is_among (take k xs) x in
+    let has : is_among (take (k + 1) xs) x ≡ (had || list_any (λ y. x == y) (v ∷ [])) =
+    ap (λ (l : List ℕ). is_among l x) (take_more xs k d small) ∙ list_any-append (λ y. x == y) (take k xs) (v ∷ []) in
+    elim (cases_eq x v) [
+      | inl same ↦
+          let one : list_any (λ y. x == y) (v ∷ []) ≡ true = ap (λ b. b || false) (eq-eqb x v same) in
+          let all : (had || list_any (λ y. x == y) (v ∷ [])) ≡ true = ap (λ b. had || b) one ∙ or_true had in
+          let here : use_at (set now v (when_quantified (use_at now v))) x ≡ when_quantified (use_at now x) =
+          ap (λ y. use_at (set now v (when_quantified (use_at now v))) y) same
+          ∙ get_or-set_same now v (when_quantified (use_at now v)) no_use within
+          ∙ ap (λ y. when_quantified (use_at now y)) (sym same) in
+          here ∙ ap when_quantified (before x) ∙ again when_quantified (λ u. refl) had (use_at old x)
+          ∙ sym (ap (λ b. if b then when_quantified (use_at old x) else use_at old x) (has ∙ all))
+      | inr differ ↦
+          let one : list_any (λ y. x == y) (v ∷ []) ≡ false = ap (λ b. b || false) (ne_eqb x v differ) in
+          let all : (had || list_any (λ y. x == y) (v ∷ [])) ≡ had = ap (λ b. had || b) one ∙ or_false had in
+          get_or-set_other now v x (when_quantified (use_at now v)) no_use differ ∙ before x
+          ∙ sym (ap (λ b. if b then when_quantified (use_at old x) else use_at old x) (has ∙ all))
+    ]

@@ -5,5 +5,6 @@ pub mod Plan
 pub mod Bucket
 pub mod Forest
 pub mod ScheduleText
+pub mod SetMove
 pub mod ScheduleState
 pub mod ScheduleMemory

@@ -8,7 +8,7 @@ use Rattle.std.specs.Option.{option_and_then}
 use Rattle.cnf_base.specs.Truth.{Assignment, clause_holds, with_value}
 use Rattle.cnf_base.specs.Formula.{Formula}
 use Rattle.schedule_plan.specs.declared.plan.Move.{Move}
-use Rattle.schedule_plan.specs.declared.plan.Move.TheVariants.{Push, And, Exists}
+use Rattle.schedule_plan.specs.declared.plan.Move.TheVariants.{Push, And, Exists, ExistsAll}
 
 pub data Term : Type 0 where
   input : ℕ → Term
@@ -67,12 +67,18 @@ after_exists formula stage x (top ∷ rest) =
     && not (holds_later formula stage.pushed x (length formula.clauses))
     then Some (record { stack = some_value x top ∷ rest; pushed = stage.pushed; trail = (x, top) ∷ stage.trail }) else None
 
+-- each variable of a set in turn
+abbrev pub after_all : Formula → Stage → List ℕ → Option Stage
+after_all formula stage [] = Some stage
+after_all formula stage (x ∷ xs) = option_and_then (λ later. after_all formula later xs) (after_exists formula stage x stage.stack)
+
 -- A move is possible, or not: a clause is one of the formula's and is pushed once, there are terms enough, and a
 -- variable is quantified only where no other stacked term and no clause to come holds it.
 abbrev pub after_move : Formula → Stage → Move → Option Stage
 after_move formula stage (Push i) = after_push formula stage i
 after_move formula stage And = after_and stage stage.stack
 after_move formula stage (Exists x) = after_exists formula stage x stage.stack
+after_move formula stage (ExistsAll xs) = after_all formula stage xs
 
 abbrev pub after_moves : Formula → Stage → List Move → Option Stage
 after_moves formula stage [] = Some stage

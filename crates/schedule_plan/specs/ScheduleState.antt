@@ -1,5 +1,5 @@
 -- A schedule as it is read: the line that isn't ended, and what is known of the clauses, the variables and the terms.
-use Rattle.std.specs.Prelude.{◌≡◌, ℕ, zero, suc, ◌+◌, ◌-◌, ◌<◌, ◌≤◌, min, Bool, true, false, not, ◌&&◌, List, [], ◌∷◌, ◌++◌, length, map}
+use Rattle.std.specs.Prelude.{◌≡◌, ℕ, zero, suc, ◌+◌, ◌-◌, ◌<◌, ◌≤◌, min, Bool, true, false, not, ◌&&◌, ◌||◌, List, [], ◌∷◌, ◌++◌, length, map}
 use Rattle.std.specs.Prelude.{reverse, Option, None, Some, Result, Ok, Err, nat_lt, ◌==◌, if◌then◌else◌, slice_index_or, ⊤, ℤ}
 use Rattle.std.specs.List.{list_any}
 use Rattle.std.specs.Option.{option_map, option_and_then}
@@ -9,14 +9,14 @@ use Rattle.cnf_base.specs.Text.{Word}
 use Rattle.text_scan.specs.Capped.{capped}
 use Rattle.text_scan.specs.Items.{Items, the_end, too_long, next_word}
 use Rattle.schedule_plan.specs.declared.plan.Move.{Move}
-use Rattle.schedule_plan.specs.declared.plan.Move.TheVariants.{Push, Exists}
+use Rattle.schedule_plan.specs.declared.plan.Move.TheVariants.{Push, Exists, ExistsAll}
 use Rattle.schedule_plan.specs.declared.schedule.error.PlanKind.{PlanKind}
 use Rattle.schedule_plan.specs.declared.schedule.error.PlanKind.TheVariants.{Syntax, ClauseRange, ClauseTwice, StackShort, VariableRange}
 use Rattle.schedule_plan.specs.declared.schedule.error.PlanKind.TheVariants.{VariableInUse, ClauseUnused, TermsLeft}
 use Rattle.schedule_plan.specs.declared.schedule.error.PlanError.{PlanError}
 use Rattle.schedule_plan.specs.declared.schedule.error.PlanError.TheVariants.{Refused, ReadFault, TooLong, OutOfMemory}
 use Rattle.schedule_plan.specs.declared.schedule.line.Command.{Command}
-use Rattle.schedule_plan.specs.declared.schedule.line.Command.TheVariants.{Absent, Pushes, Conjoins, Quantifies, Unknown}
+use Rattle.schedule_plan.specs.declared.schedule.line.Command.TheVariants.{Absent, Pushes, Conjoins, Quantifies, QuantifiesAll, Unknown}
 use Rattle.schedule_plan.specs.declared.schedule.uses.Use.{Use}
 use Rattle.schedule_plan.specs.declared.schedule.judge.ScheduleJudge.{ScheduleJudge}
 use Rattle.schedule_plan.specs.Plan.{Term, Stage, no_stage, term_has, clause_has, clause_of_number, is_pushed, after_moves}
@@ -44,7 +44,8 @@ no_draft = record { line = 0; command = Absent; numbers = Some [] }
 
 abbrev pub command_of : List ℕ → Command
 command_of word =
-    if is_letter 99 word then Pushes else if is_letter 97 word then Conjoins else if is_letter 113 word then Quantifies else Unknown
+    if is_letter 99 word then Pushes else if is_letter 97 word then Conjoins else if is_letter 113 word then Quantifies
+    else if is_letter 101 word then QuantifiesAll else Unknown
 
 abbrev pub draft_of_word : Word → DraftLine
 draft_of_word word = record { line = word.line; command = command_of word.bytes; numbers = Some [] }
@@ -67,6 +68,7 @@ is_command Absent = false
 is_command Pushes = true
 is_command Conjoins = true
 is_command Quantifies = true
+is_command QuantifiesAll = true
 is_command Unknown = true
 
 abbrev pub is_open : DraftLine → Bool
@@ -79,6 +81,7 @@ moves_with Absent (first ∷ more) = None
 moves_with Pushes (first ∷ more) = Some (map Push (first ∷ more))
 moves_with Conjoins (first ∷ more) = conjunctions first more
 moves_with Quantifies (first ∷ more) = Some (map Exists (first ∷ more))
+moves_with QuantifiesAll (first ∷ more) = Some (ExistsAll (first ∷ more) ∷ [])
 moves_with Unknown (first ∷ more) = None
 
 abbrev pub moves_of_draft : DraftLine → Option (List Move)
@@ -142,9 +145,24 @@ abbrev pub with_push : ℕ → ℕ → Use → Use
 with_push mark place one =
     if one.seen == mark then one else record { to_come = one.to_come - 1; earliest = min one.earliest place; seen = mark }
 
+-- it is quantified
+abbrev pub when_quantified : Use → Use
+when_quantified one = record { to_come = 0; earliest = never; seen = one.seen }
+
 -- the variables of a clause are changed so
 abbrev pub changed : (Use → Use) → List ℤ → List Use → ℕ → Use
 changed change clause uses x = if clause_has x clause then change (use_at uses x) else use_at uses x
+
+-- the variables of a set are quantified
+abbrev pub is_among : List ℕ → ℕ → Bool
+is_among xs x = list_any (λ y. x == y) xs
+
+abbrev pub use_behind : List ℕ → List Use → ℕ → Use
+use_behind xs uses x = if is_among xs x then when_quantified (use_at uses x) else use_at uses x
+
+-- a clause to come holds the variable, or one that was pushed before the first of the top term's
+abbrev pub is_used : List Use → ℕ → ℕ → Bool
+is_used uses start x = nat_lt (use_at uses x).earliest start || nat_lt 0 (use_at uses x).to_come
 
 -- how many of the clauses up to a number pass the test and aren't pushed yet
 abbrev pub to_come : (ℕ → Bool) → List ℕ → ℕ → ℕ

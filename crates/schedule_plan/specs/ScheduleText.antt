@@ -1,7 +1,7 @@
 -- Schedule texts: a plan typed out, one command a line. `c` pushes the clauses of some numbers in turn, `a` conjoins as
--- many top terms as its number says, `q` quantifies some variables in turn. Comment lines begin with `#`. (The format is
--- this project's own, after the schedules of Bryant and Heule: Generating Extended Resolution Proofs with a BDD-Based SAT
--- Solver, 2021, section 5.)
+-- many top terms as its number says, `q` quantifies some variables in turn, `e` a set of variables at once. Comment lines
+-- begin with `#`. (The format is this project's own, after the schedules of Bryant and Heule: Generating Extended
+-- Resolution Proofs with a BDD-Based SAT Solver, 2021, section 5.)
 use Rattle.std.specs.Prelude.{ℕ, zero, suc, ◌-◌, Bool, true, false, not, ◌&&◌, ◌||◌, List, [], ◌∷◌, ◌++◌, length, map, replicate, Option}
 use Rattle.std.specs.Prelude.{None, Some, Result, Ok, Err, nat_lt, nat_le, ◌==◌, if◌then◌else◌}
 use Rattle.std.specs.List.{list_any}
@@ -12,7 +12,7 @@ use Rattle.cnf_base.specs.ProofText.{all_given}
 use Rattle.cnf_base.specs.Text.{Word, Row}
 use Rattle.text_scan.specs.Items.{Items, the_end, too_long, next_word, items_of_front, items}
 use Rattle.schedule_plan.specs.declared.plan.Move.{Move}
-use Rattle.schedule_plan.specs.declared.plan.Move.TheVariants.{Push, And, Exists}
+use Rattle.schedule_plan.specs.declared.plan.Move.TheVariants.{Push, And, Exists, ExistsAll}
 use Rattle.schedule_plan.specs.declared.schedule.error.PlanKind.{PlanKind}
 use Rattle.schedule_plan.specs.declared.schedule.error.PlanKind.TheVariants.{Syntax, ClauseRange, ClauseTwice, StackShort, VariableRange}
 use Rattle.schedule_plan.specs.declared.schedule.error.PlanKind.TheVariants.{VariableInUse, ClauseUnused, TermsLeft}
@@ -39,13 +39,14 @@ abbrev pub conjunctions : ℕ → List ℕ → Option (List Move)
 conjunctions terms [] = if nat_le 2 terms then Some (replicate (terms - 1) And) else None
 conjunctions terms (next ∷ more) = None
 
--- the moves of a command with these numbers, of which it has at least one: `c` (99), `a` (97), `q` (113)
+-- the moves of a command with these numbers, of which it has at least one: `c` (99), `a` (97), `q` (113), `e` (101)
 abbrev pub command_moves : List ℕ → List ℕ → Option (List Move)
 command_moves word [] = None
 command_moves word (first ∷ more) =
     if is_letter 99 word then Some (map Push (first ∷ more))
     else if is_letter 97 word then conjunctions first more
     else if is_letter 113 word then Some (map Exists (first ∷ more))
+    else if is_letter 101 word then Some (ExistsAll (first ∷ more) ∷ [])
     else None
 
 -- the moves that a line's tokens spell, if they spell a command
@@ -71,10 +72,27 @@ fault_of_exists formula stage x (top ∷ rest) =
     else if list_any (term_has formula x) rest || holds_later formula stage.pushed x (length formula.clauses) then Some VariableInUse
     else None
 
+-- a number of no variable
+abbrev pub is_out_of_range : Formula → ℕ → Bool
+is_out_of_range formula x = not (nat_lt 0 x && nat_le x formula.vars)
+
+-- another stacked term or a clause to come holds the variable
+abbrev pub is_in_use : Formula → List Term → List ℕ → ℕ → Bool
+is_in_use formula rest pushed x = list_any (term_has formula x) rest || holds_later formula pushed x (length formula.clauses)
+
+-- each test is made of all variables of the set before the next one
+abbrev pub fault_of_all : Formula → Stage → List ℕ → List Term → Option PlanKind
+fault_of_all formula stage xs [] = Some StackShort
+fault_of_all formula stage xs (top ∷ rest) =
+    if list_any (is_out_of_range formula) xs then Some VariableRange
+    else if list_any (is_in_use formula rest stage.pushed) xs then Some VariableInUse
+    else None
+
 abbrev pub fault_of_move : Formula → Stage → Move → Option PlanKind
 fault_of_move formula stage (Push i) = fault_of_push formula stage i
 fault_of_move formula stage And = fault_of_and stage
 fault_of_move formula stage (Exists x) = fault_of_exists formula stage x stage.stack
+fault_of_move formula stage (ExistsAll xs) = fault_of_all formula stage xs stage.stack
 
 -- those at the end
 abbrev pub all_pushed : List ℕ → ℕ → Bool

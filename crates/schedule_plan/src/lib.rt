@@ -14,6 +14,8 @@ mod order_error;
 mod order_text;
 mod plan;
 mod schedule;
+mod set_move;
+mod variables;
 
 pub use limits::Limits;
 pub use order::Order;
@@ -22,3 +24,5 @@ pub use order_text::order_text_law;
 pub use plan::{Move, Plan};
 pub use schedule::error::{PlanError, PlanKind};
 pub use schedule::read::schedule_text_law;
+pub use set_move::set_move_law;
+pub use variables::Variables;

@@ -1,6 +1,6 @@
 // Plans: which clauses are pushed, conjoined and quantified in turn. (Bryant, Heule: Generating Extended Resolution
 // Proofs with a BDD-Based SAT Solver, 2021, section 5.)
-ghost use Rattle.std.specs.Prelude.{◌≡◌, ◌≢◌, ◌⊎◌, Err, IsTrue, IfOk, length};
+ghost use Rattle.std.specs.Prelude.{◌≡◌, ◌≢◌, ◌⊎◌, Err, IsTrue, IfOk, IfNone, IfSome, None, Some, length};
 ghost use Rattle.std.specs.List.{slice_get};
 ghost use Rattle.schedule_plan.specs.Plan.{IsAdmissible, conjoin};
 ghost use Rattle.schedule_plan.specs.Bucket.{bucket};
@@ -18,13 +18,14 @@ use crate::occurrence::occurrences;
 use crate::order::Order;
 use crate::schedule::error::PlanError;
 use crate::schedule::read::read_schedule;
+use crate::variables::Variables;
 use cnf_base::{Cnf, OutOfMemory};
 use host_io::Source;
 use std::alloc::Global;
 use std::marker::Model;
 
 /// One step of a plan.
-#[derive(Clone, Copy, Debug, PartialEq, Eq)]
+#[derive(Debug, Drop)]
 pub enum Move {
     /// Pushes the term of the clause of this number, from 1.
     Push(u32),
@@ -32,6 +33,8 @@ pub enum Move {
     And,
     /// Quantifies this variable from the top term.
     Exists(u32),
+    /// Quantifies all variables of this set from the top term.
+    ExistsAll(Variables),
 }
 
 /// A list of moves.
@@ -88,8 +91,9 @@ impl Plan {
     }
 
     /// Reads a schedule: one command a line, `c` with the clauses that are pushed, `a` with how many top terms are
-    /// conjoined, `q` with the variables that are quantified. Lines that begin with `#` are skipped. A text has at most
-    /// 4,000,000,000 bytes. No read follows once the answer is decided.
+    /// conjoined, `q` with the variables that are quantified in turn, `e` with those of a set that is quantified at once.
+    /// Lines that begin with `#` are skipped. A text has at most 4,000,000,000 bytes. No read follows once the answer is
+    /// decided.
     pub fn read<S: Source>(alloc: Global, formula: &Cnf, source: &mut S) -> Result<Plan, PlanError>
         // The answer is the format's of the bytes that were taken and whatever may follow them, so of the whole text.
         ensures decides { IsTrue S.tells → Decides (S.channel source.old) (S.channel source.new)
@@ -119,9 +123,10 @@ impl Plan {
     }
 
     /// The move of a place, from 0; None exactly where there is none.
-    pub fn get(&self, i: usize) -> Option<Move>
-        ensures { result ≡ slice_get self.now i }
+    pub fn get(&self, i: usize) -> Option<&Move>
+        ensures some { IfSome result (λ step. slice_get self.now i ≡ Some step.now) }
+        ensures none { IfNone result (slice_get self.now i ≡ None) }
     {
-        self.moves.get(i).copied()
+        self.moves.get(i)
     }
 }

@@ -3,4 +3,5 @@ pub(crate) mod error;
 pub(crate) mod judge;
 pub(crate) mod line;
 pub(crate) mod read;
+pub(crate) mod set;
 pub(crate) mod uses;

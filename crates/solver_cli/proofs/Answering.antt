@@ -3,7 +3,7 @@ use Rattle.std.proofs.Common.{◌≡◌, ℕ, Bool, List, refl, sym, ap, ◌∙�
 use Rattle.std.specs.Prelude.{Result, Option, ⊤, IsErr}
 use Rattle.cnf_base.specs.Formula.{Formula}
 use Rattle.host_io.specs.declared.role.Role.{Role}
-use Rattle.host_io.specs.declared.role.Role.TheVariants.{Cnf, Order, Buckets, Schedule, ProofIn, ProofOut, Made, Out, Err as ErrRole}
+use Rattle.host_io.specs.declared.role.Role.TheVariants.{Cnf, Order, Buckets, Schedule, ProofIn, ProofOut, Made, Out}
 use Rattle.host_io.specs.declared.source.Failed.{Failed}
 use Rattle.host_io.specs.Channel.{Channel}
 use Rattle.host_io.specs.Files.{Files, FilesBut, Opens, Others, Kept}
@@ -29,7 +29,6 @@ by_proof beside = record {
   schedule = beside Schedule refl;
   judged = beside ProofIn refl;
   made = beside Made refl;
-  error = beside ErrRole refl;
 }
 
 by_out : {old new : Role → Channel} → Others Out old new → LeavesInputs old new
@@ -40,7 +39,6 @@ by_out beside = record {
   schedule = beside Schedule refl;
   judged = beside ProofIn refl;
   made = beside Made refl;
-  error = beside ErrRole refl;
 }
 
 then : {a b c : Role → Channel} → LeavesInputs a b → LeavesInputs b c → LeavesInputs a c
@@ -52,7 +50,6 @@ then p q = record {
   judged = q.judged
       ∙ p.judged;
   made = q.made ∙ p.made;
-  error = q.error ∙ p.error;
 }
 
 pub leaves_created : {old created : Role → Channel} → Others ProofOut old created → LeavesInputs old created

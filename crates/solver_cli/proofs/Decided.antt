@@ -1,8 +1,10 @@
 -- From the end of a run of the plan to the proof that was written.
-use Rattle.std.proofs.Common.{◌≡◌, ℕ, ℤ, zero, suc, Bool, List, [], ◌∷◌, length, length-append, refl, sym, ap, ◌∙◌, arith, Ok, Err}
+use Rattle.std.proofs.Common.{◌≡◌, ℕ, ℤ, zero, suc, Bool, List, [], ◌∷◌, length, length-append, refl, sym, ap, ◌∙◌, subst, arith, Ok, Err}
 use Rattle.std.specs.Prelude.{Result}
 use Rattle.cnf_base.specs.Formula.{Formula}
 use Rattle.host_io.specs.Channel.{Channel}
+use Rattle.host_io.specs.declared.role.Role.{Role}
+use Rattle.host_io.specs.declared.role.Role.TheVariants.{ProofOut}
 use Rattle.lrat_rules.specs.State.{State}
 use Rattle.lrat_rules.specs.Run.{Spells}
 use Rattle.lrat_rules.specs.Derivation.{IsWritten}
@@ -57,3 +59,14 @@ written spells (Err error) ends = record {
   unfailed = ends.unfailed;
   only = record { name = ends.name; faults = ends.faults };
 }
+
+-- the proof's channel in a host that was lent
+pub written_between : {H : Type 0} (channel : H → Role → Channel) {tells : Bool} {start lent new end : H} {seen : Channel}
+    {problem : Formula} {order : List ℕ} {moves : List Move} {limits : Limits} {result : Result Run RunError} → lent ≡ start → new ≡ end
+    → channel end ProofOut ≡ seen → WritesProof tells (channel lent ProofOut) seen problem order moves limits result
+    → WritesProof tells (channel start ProofOut) (channel new ProofOut) problem order moves limits result
+written_between {H} channel {tells = tells} {start = start} {lent = lent} {new = new} {seen = seen} {problem = problem} {order = order} {moves = moves}
+    {limits = limits} {result = result} from to told writes =
+    subst (λ (o : H). WritesProof tells (channel o ProofOut) (channel new ProofOut) problem order moves limits result) from
+    (subst (λ (n : Channel). WritesProof tells (channel lent ProofOut) n problem order moves limits result) (sym (ap (λ (h : H). channel h ProofOut) to ∙ told))
+    writes)

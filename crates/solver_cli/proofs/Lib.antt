@@ -29,3 +29,6 @@ pub mod CheckEnds
 pub mod SolveThenCheck
 pub mod DratThenCheck
 pub mod OrderLine
+pub mod Commented
+pub mod Muted
+pub mod Reported

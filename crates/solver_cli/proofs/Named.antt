@@ -1,14 +1,15 @@
 -- The names of a run's roles, its files and its standard error.
-use Rattle.std.proofs.Common.{◌≡◌, ℕ, ℤ, Bool, true, false, List, ◌++◌, refl, sym, ap, ◌∙◌, Some, None, Ok, Err, IsTrue, inl, inr, true≢false}
+use Rattle.std.proofs.Common.{◌≡◌, ◌≤◌, ℕ, ℤ, Bool, true, false, List, [], ◌++◌, refl, sym, ap, ◌∙◌, Some, None, Ok, Err, IsTrue, inl, inr}
+use Rattle.std.proofs.Common.{true≢false, append-nil, append_assoc, arith}
 use Rattle.std.specs.Prelude.{Option, Result, ⊤, ◌⊎◌, ◌≢◌}
-use Rattle.host_io.specs.Channel.{Channel}
+use Rattle.host_io.specs.Channel.{Channel, Rose}
 use Rattle.host_io.specs.declared.role.Role.{Role}
 use Rattle.host_io.specs.declared.role.Role.TheVariants.{Cnf, Order, Buckets, Schedule, ProofIn, ProofOut, Made, Out, Err as ErrRole}
 use Rattle.host_io.specs.declared.source.Failed.{Failed}
 use Rattle.cnf_base.specs.Formula.{Formula}
 use Rattle.command_line.specs.Command.{Command, ToSolve, ToCheck, ToBench, ToMake, ToOrder, ToConvert, Solve, Check, Bench, Make, Arrange}
 use Rattle.command_line.specs.Command.{Convert, formula_file, mode_of}
-use Rattle.command_line.specs.Command.{command}
+use Rattle.command_line.specs.Command.{command, progress_asked}
 use Rattle.term_runner.specs.declared.outcome.Outcome.{Outcome}
 use Rattle.term_runner.specs.declared.outcome.Outcome.TheVariants as outcome
 use Rattle.term_runner.specs.declared.outcome.Run.{Run as Ending}
@@ -33,6 +34,9 @@ use Rattle.solver_cli.specs.Phases.{HasOrder, HasBuckets, HasPlan, Complains, bu
 use Rattle.solver_cli.specs.Stages.{Streams, FilesBeside, Helped, Job, NoneRead, Untaken, streams_of, Came, CameToAnswer, CameToArrange}
 use Rattle.solver_cli.specs.Stages.{CameToBench, CameToCheck, CameToConvert, CameToMake, CameToWrite, Stages, status_after}
 use Rattle.solver_cli.specs.Stages.{status_of_printed, status_of_written}
+use Rattle.drat_proof.specs.TwoRoles.{added}
+use Rattle.solver_cli.specs.Comments.{are_comments, are_comments_so_far}
+use Rattle.solver_cli.specs.Progress.{Comments, IsTold}
 use Rattle.solver_cli.specs.Headline.{ErrorStands, NamesAreGiven, ends_before_proof}
 use Rattle.solver_cli.specs.Run.{Run, GivesConversion, GivesDecision, AsksFor, AsksToConvert, name_given}
 use Rattle.solver_cli.specs.Faults.{ConvertsAsItReads, ends_in_proof}
@@ -538,10 +542,84 @@ names run streams error files = record {
   each Out = streams.out
   each ErrRole = inl error
 
-pub error_stands : (run : Run) → Complains run.tells (run.before ErrRole) (run.after ErrRole) run.status → ErrorStands run
-error_stands run complains = record {
-  grows = λ t. let put = complains.written t in grown_by (run.before ErrRole) (run.after ErrRole) put.0 put.2;
-  front = λ t. let put = complains.written t in
-      (put.1, put.3 ∙ ap (λ (l : List ℕ). l ++ put.1) (sym (behind (run.before ErrRole) (run.after ErrRole) put.0 put.2)), put.4);
-  flushed = complains.flushed;
-}
+-- what was noted before the text
+record Noted (asked : Bool) (old mid : Channel) (notes : List ℕ) : Type 0 where
+  pub written : mid.written ≡ old.written ++ notes
+  pub comments : are_comments_so_far notes ≡ true
+  pub whole : (Rose old.faults mid.faults → ⊥) → are_comments notes ≡ true
+  pub unasked : asked ≡ false → notes ≡ []
+  pub faults : old.faults ≤ mid.faults
+
+noted : (asked tells : Bool) (old mid : Channel) → IsTold asked tells old mid → IsTrue tells → (notes : List ℕ) × Noted asked old mid notes
+noted true tells old mid told t = by told.0 (told.1.told refl) where
+  by : (after : Bool) → Comments after tells old mid → (notes : List ℕ) × Noted true old mid notes
+  by true c = (
+    added old mid,
+    record {
+      written = c.written t;
+      comments = c.so_far t;
+      whole = λ _. c.whole t refl;
+      unasked = λ e. cc;
+      faults = c.faults;
+    },
+  )
+  by false c = (
+    added old mid,
+    record {
+      written = c.written t;
+      comments = c.so_far t;
+      whole = λ none. absurd (none (c.broken refl));
+      unasked = λ e. cc;
+      faults = c.faults;
+    },
+  )
+noted false tells old mid told t =
+    let same = (told.1.silent refl).0 in (
+      [],
+      record {
+        written = ap (λ (c : Channel). c.written) same ∙ sym (append-nil old.written);
+        comments = refl;
+        whole = λ _. refl;
+        unasked = λ _. refl;
+        faults = let is = ap (λ (c : Channel). c.faults) same in omega (arith, is);
+      },
+    )
+
+pub error_stands : (run : Run) (middle : Channel) → IsTold (progress_asked (command run.words)) run.tells (run.before ErrRole) middle
+    → Complains run.tells middle (run.after ErrRole) run.status → ErrorStands run
+error_stands run middle told complains = record {
+  grows = λ t. grown_by before after (notes t ++ put t) (grown t);
+  said = λ t. (
+    notes t,
+    put t,
+    record {
+      written = behind before after (notes t ++ put t) (grown t);
+      unasked = (at t).unasked;
+      comments = (at t).comments;
+      rest = (complains.written t).1;
+      front = (complains.written t).3;
+      whole = λ none. (
+        (at t).whole (λ rose. none (let later = complains.only.faults in omega (arith, rose, later))),
+        (complains.written t).4 (λ rose. none (let earlier = (at t).faults in omega (arith, rose, earlier))),
+      );
+    },
+  );
+  flushed = λ t none. complains.flushed t (λ rose. none (let earlier = (at t).faults in omega (arith, rose, earlier)));
+} where
+  before : Channel
+  before = run.before ErrRole
+
+  after : Channel
+  after = run.after ErrRole
+
+  notes : IsTrue run.tells → List ℕ
+  notes t = (noted (progress_asked (command run.words)) run.tells before middle told t).0
+
+  at : (t : IsTrue run.tells) → Noted (progress_asked (command run.words)) before middle (notes t)
+  at t = (noted (progress_asked (command run.words)) run.tells before middle told t).1
+
+  put : IsTrue run.tells → List ℕ
+  put t = (complains.written t).0
+
+  grown : (t : IsTrue run.tells) → after.written ≡ before.written ++ (notes t ++ put t)
+  grown t = (complains.written t).2 ∙ ap (λ (l : List ℕ). l ++ put t) (at t).written ∙ append_assoc before.written (notes t) (put t)

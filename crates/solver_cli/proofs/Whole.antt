@@ -8,12 +8,14 @@ use Rattle.host_io.specs.declared.role.Role.TheVariants.{Cnf, Order, Buckets, Sc
 use Rattle.cnf_base.specs.Formula.{Formula}
 use Rattle.schedule_plan.specs.declared.plan.Move.{Move}
 use Rattle.solver_cli.specs.Phases.{Complains}
-use Rattle.command_line.specs.Command.{ToConvert, Solve, Check, Bench, Make, Arrange, Convert}
+use Rattle.command_line.specs.Command.{ToConvert, Solve, Check, Bench, Make, Arrange, Convert, command, progress_asked}
 use Rattle.solver_cli.specs.Stages.{Streams, FilesBeside, Job, streams_of, Came, CameToAnswer, CameToArrange, CameToBench, CameToCheck}
 use Rattle.solver_cli.specs.Stages.{CameToConvert, CameToMake, Stages}
-use Rattle.solver_cli.specs.Headline.{Promises}
+use Rattle.solver_cli.specs.Headline.{ErrorStands, Promises}
+use Rattle.solver_cli.specs.Progress.{IsTold}
 use Rattle.solver_cli.specs.Run.{Run}
 use Rattle.solver_cli.specs.Faults.{ConvertsAsItReads}
+use Rattle.solver_cli.proofs.Commented.{told_name}
 use Rattle.solver_cli.proofs.Facts.{same_command}
 use Rattle.solver_cli.proofs.Promised.{Core, misused}
 use Rattle.solver_cli.proofs.Helped.{helped}
@@ -79,8 +81,8 @@ core law run (inr (inr (inr (inr (inr (inr (inr d))))))) = came d.came where
 whole : Laws → (run : Run) → ((role : Role) → (run.before role).name ≡ None)
     → Stages run.tells run.words (streams_of run.before) (streams_of run.after) run.files run.status
     → (run.after ErrRole).name ≡ None → FilesBeside (run.after ProofOut).name (run.after Made).name run.files run.files_after
-    → Complains run.tells (run.before ErrRole) (run.after ErrRole) run.status → Promises run
-whole law run unnamed stages error files complains =
+    → ErrorStands run → Promises run
+whole law run unnamed stages error files stands =
     let c : Core run = core law run stages in
     let counts : Told (ConvertsAsItReads run) (streams_of run.before) (streams_of run.after) run.status = told stages in
     record {
@@ -94,7 +96,7 @@ whole law run unnamed stages error files complains =
       faults = c.faults (quiet run counts);
       failures = failures run counts;
       output = c.output;
-      error = error_stands run complains;
+      error = stands;
       proof = c.proof;
       names = names run (stream_names run unnamed stages) error files;
       complete = c.complete;
@@ -115,19 +117,19 @@ streams_kept old new beside = λ i. record {
 
 pub promises : Laws → (run : Run) (middle : Role → Channel) (files : Files) → ((role : Role) → (run.before role).name ≡ None)
     → Stages run.tells run.words (streams_of run.before) (streams_of middle) run.files run.status
-    → middle ErrRole ≡ run.before ErrRole → FilesBeside (middle ProofOut).name (middle Made).name run.files files
+    → IsTold (progress_asked (command run.words)) run.tells (run.before ErrRole) (middle ErrRole) → FilesBeside (middle ProofOut).name (middle Made).name run.files files
     → Complains run.tells (middle ErrRole) (run.after ErrRole) run.status
     → Kept ErrRole (middle ErrRole).name middle run.after files run.files_after → Promises run
-promises law run middle files unnamed stages error beside complains kept = whole law run unnamed
+promises law run middle files unnamed stages told beside complains kept = whole law run unnamed
     (subst (λ (s : Streams). Stages run.tells run.words (streams_of run.before) s run.files run.status)
     (sym (streams_kept middle run.after kept.others)) stages)
     (complains.only.name ∙ err_none)
     (λ file proof made. kept.files file (λ same. none_some (sym err_none ∙ same))
     ∙ beside file (λ same. proof (ap (λ (c : Channel). c.name) (kept.others ProofOut refl) ∙ same))
     (λ same. made (ap (λ (c : Channel). c.name) (kept.others Made refl) ∙ same)))
-    (subst (λ (c : Channel). Complains run.tells c (run.after ErrRole) run.status) error complains) where
+    (error_stands run (middle ErrRole) told complains) where
       err_none : (middle ErrRole).name ≡ None
-      err_none = ap (λ (c : Channel). c.name) error ∙ unnamed ErrRole
+      err_none = told_name told ∙ unnamed ErrRole
 
       none_some : {file : List ℕ} → ◌≡◌ {A = Option (List ℕ)} None (Some file) → ⊥
       none_some e = cc

@@ -30,11 +30,13 @@ use Rattle.term_runner.specs.Recovered.{IsRecovered}
 use Rattle.answer_text.specs.Status.{verified_line, refused_text}
 use Rattle.command_line.specs.Command.{Command, ToSolve, ToMake, ToOrder, Solve, Make}
 use Rattle.command_line.specs.Command.{Arrange, ByFile, ByBuckets, format_of, formula_file, mode_of, AsksHelp, Misuse, MayMean, CanOnlyMean, command}
+use Rattle.command_line.specs.Command.{progress_asked}
 use Rattle.solver_cli.specs.declared.status.Why.{Why}
 use Rattle.solver_cli.specs.declared.status.Status.{Status}
 use Rattle.solver_cli.specs.declared.status.Status.TheVariants.{Sat, Unsat, Unknown, Verified, NotVerified, Done, Help, Usage, CnfRefused}
 use Rattle.solver_cli.specs.declared.status.Status.TheVariants.{OrderRefused, BucketsRefused, PlanRefused, TooLong, ReadFault, WriteFault}
 use Rattle.solver_cli.specs.declared.status.Status.TheVariants.{OutOfMemory}
+use Rattle.solver_cli.specs.Comments.{are_comments, are_comments_so_far}
 use Rattle.solver_cli.specs.ErrorText.{error_text, is_answer}
 use Rattle.solver_cli.specs.Answer.{IsRead, IsOrdered, IsOrderOf, Holds, outcome_at, status_of}
 use Rattle.solver_cli.specs.Format.{verdict_in, RefutesIn, IsRefusedIn}
@@ -365,7 +367,7 @@ pub record IsTrueAnswer (run : Run) (finding : Finding) : Type 0 where
   pub rest : List ℕ
   pub front : text_found run finding ≡ written_in run Out ++ rest
 
--- a text of help, as far as it was written, for words that may ask for it
+-- a text of help, or of the version, as far as it was written, for words that may ask for it
 pub record IsHelp (run : Run) : Type 0 where
   pub due : MayMean run.words AsksHelp
   pub text : List ℕ
@@ -385,12 +387,21 @@ pub record OutputStands (run : Run) : Type 0 where
       ≡ length (run.after Out).written
   pub silent : IsFalse (is_answer run.status) → run.status ≢ Help → run.status ≢ WriteFault → IsTrue run.tells → written_in run Out ≡ []
 
--- Standard error: a front of the status's text, the whole of it and flushed where no call of it failed; nothing for an
+-- What was said on standard error: notes, which are lines of comment, none where the words ask for none, and behind them a front of
+-- the status's text. Only where a call of it failed the last note may be cut short, and a rest of the text missing.
+pub record IsSaid (run : Run) (notes said : List ℕ) : Type 0 where
+  pub written : written_in run Err ≡ notes ++ said
+  pub unasked : IsFalse (progress_asked (command run.words)) → notes ≡ []
+  pub comments : IsTrue (are_comments_so_far notes)
+  pub rest : List ℕ
+  pub front : error_text run.status ≡ said ++ rest
+  pub whole : (HasFault run Err → ⊥) → IsTrue (are_comments notes) × (rest ≡ [])
+
+-- Standard error: notes, and a front of the status's text, the whole of it and flushed where no call of it failed; no text for an
 -- answer and for help.
 pub record ErrorStands (run : Run) : Type 0 where
   pub grows : IsTrue run.tells → (run.after Err).written ≡ (run.before Err).written ++ written_in run Err
-  pub front : IsTrue run.tells → (rest : List ℕ) × (error_text run.status ≡ written_in run Err ++ rest)
-      × ((HasFault run Err → ⊥) → rest ≡ [])
+  pub said : IsTrue run.tells → (notes : List ℕ) × (said : List ℕ) × IsSaid run notes said
   pub flushed : IsTrue run.tells → (HasFault run Err → ⊥) → (run.after Err).flushed ≡ length (run.after Err).written
 
 -- The proof: nothing, or exactly the lines of good steps from the clauses of the formula that is asked for, whose deletions

@@ -13,3 +13,5 @@ pub mod Stages
 pub mod Start
 pub mod SolveThenCheck
 pub mod DratThenCheck
+pub mod Comments
+pub mod Progress

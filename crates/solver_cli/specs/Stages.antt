@@ -2,7 +2,7 @@
 use Rattle.std.specs.Prelude.{◌≡◌, ◌≢◌, ◌⊎◌, ℕ, Bool, List, Option, None, Some, Result, Ok, Err, IsOk, IsErr, ⊤}
 use Rattle.cnf_base.specs.Formula.{Formula}
 use Rattle.host_io.specs.declared.role.Role.{Role}
-use Rattle.host_io.specs.declared.role.Role.TheVariants.{Cnf, Order, Buckets, Schedule, ProofIn, ProofOut, Made, Out, Err as ErrRole}
+use Rattle.host_io.specs.declared.role.Role.TheVariants.{Cnf, Order, Buckets, Schedule, ProofIn, ProofOut, Made, Out}
 use Rattle.host_io.specs.declared.source.Failed.{Failed}
 use Rattle.host_io.specs.Channel.{Channel}
 use Rattle.host_io.specs.Files.{Files, Opens}
@@ -242,7 +242,7 @@ pub record Solved (tells : Bool) (old new : Streams) (files : Files) (task : ToS
 abbrev pub job_of : HeldJob → Job
 job_of job = record { proof = job.proof.now; limits = job.limits; shape = job.shape }
 
--- what a call left alone that answers: files that are read, the text that is made, and standard error
+-- what a call left alone that answers: files that are read, and the text that is made
 pub record LeavesInputs (old new : Role → Channel) : Type 0 where
   pub cnf : new Cnf ≡ old Cnf
   pub order : new Order ≡ old Order
@@ -250,7 +250,6 @@ pub record LeavesInputs (old new : Role → Channel) : Type 0 where
   pub schedule : new Schedule ≡ old Schedule
   pub judged : new ProofIn ≡ old ProofIn
   pub made : new Made ≡ old Made
-  pub error : new ErrRole ≡ old ErrRole
 
 -- no file but those of these two names changed
 abbrev pub FilesBeside : Option (List ℕ) → Option (List ℕ) → Files → Files → Type 0
@@ -265,10 +264,17 @@ task_of task = record {
   order = text_of task.order;
   plan = planned_of task.plan;
   limits = task.limits;
+  progress = task.progress;
 }
 
 abbrev pub check_of : CheckTask → ToCheck
-check_of task = record { file = task.files.formula.now; proof = task.files.proof.now; format = task.format; mode = task.mode }
+check_of task = record {
+  file = task.files.formula.now;
+  proof = task.files.proof.now;
+  format = task.format;
+  mode = task.mode;
+  progress = task.progress;
+}
 
 abbrev pub arrange_of : OrderTask → ToOrder
 arrange_of task = record { file = task.formula.now; method = task.method; mode = task.mode; out = task.out.now }
@@ -362,7 +368,7 @@ pub record Unmade (old new : Streams) (status : Status) : Type 0 where
 
 -- what `bench` is asked to do, and what `make` is
 abbrev pub bench_of : BenchTask → ToBench
-bench_of task = record { size = task.size; proof = task.proof.now; limits = task.limits }
+bench_of task = record { size = task.size; proof = task.proof.now; limits = task.limits; progress = task.progress }
 
 abbrev pub make_of : MakeTask → ToMake
 make_of task = record { size = task.size; part = task.part; file = task.file.now }

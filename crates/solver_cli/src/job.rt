@@ -2,10 +2,11 @@
 use crate::answer::Shape;
 use schedule_plan::Limits;
 
-/// The name of the proof's file, how far deciding may go, and how large the board is, where the formula is one.
+/// The name of the proof's file, how far deciding may go, how large the board is, where the formula is one, and whether progress is told.
 #[derive(Drop)]
 pub struct Job<'a> {
     pub proof: &'a str,
     pub limits: Limits,
     pub shape: Option<Shape>,
+    pub progress: bool,
 }

@@ -1,12 +1,14 @@
 //! The program as a library. `run` does all that it does, over any host: it reads the words, decides a formula and writes the
-//! proof, or judges a proof, and prints the answer, and may write that proof in DRAT; or it makes a workload's texts, or an order of a formula's variables. Its contract,
-//! `Promises` of `specs/Headline.antt`, is what the program is worth; `run_with` is that over the words as the system gives them. It
-//! stands on `command_line`, `term_runner`, `plan_search`, `variable_order`, `lrat_checker`, `drat_checker`, `drat_proof`, `dimacs_reader` and `answer_text`.
+//! proof, or judges a proof, and prints the answer, and may write that proof in DRAT; or it makes a workload's texts, or an order of
+//! a formula's variables. Its contract, `Promises` of `specs/Headline.antt`, is what the program is worth; `run_with` is that over the
+//! words as the system gives them. It stands on `command_line`, `term_runner`, `plan_search`, `variable_order`, `lrat_checker`,
+//! `drat_checker`, `drat_proof`, `dimacs_reader` and `answer_text`.
 #![tactic(auto)]
 
 mod answer;
 mod arrangement;
 mod basis;
+mod comment;
 mod complaint;
 mod conversion;
 mod formula;
@@ -14,12 +16,18 @@ mod job;
 mod judgement;
 mod laws;
 mod made;
+mod notes;
+mod numbers;
 mod order;
 mod output;
 mod plan;
 mod program;
 mod proof;
+mod reporting_search;
+mod reporting_sink;
+mod reporting_source;
 mod status;
+mod telling;
 mod verdict;
 
 pub use answer::Shape;

@@ -9,7 +9,7 @@ ghost use Rattle.solver_cli.specs.Phases.{PutsText};
 
 use command_line::BoardText;
 use host_io::{Failed, Host, HostSink, Role, Sink, beside_kept};
-use workload::{Board, write_cnf, write_columns, write_order};
+use workload::{Board, write_cnf, write_columns, write_order, write_sets};
 
 /// Writes this text of the board of so many squares a side in the role that was created for it, and flushes it.
 pub fn put_part<H: Host>(
@@ -66,5 +66,6 @@ fn write_part<S: Sink>(
         BoardText::Cnf => write_cnf(sink, &board.cnf),
         BoardText::Order => write_order(sink, &board.order),
         BoardText::Schedule => write_columns(sink, size),
+        BoardText::Sets => write_sets(sink, size),
     }
 }

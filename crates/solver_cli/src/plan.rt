@@ -1,21 +1,24 @@
 // Taking the plan: the one of a name over the order, the schedule in the file that is named, the bucket plan by another order,
 // or what trials find.
 ghost use Rattle.std.specs.Prelude.{◌≡◌, ◌≢◌, None, length, IfErr, IfOk, IfSome};
-ghost use Rattle.host_io.specs.declared.role.Role.TheVariants.{Schedule as ScheduleRole};
+ghost use Rattle.host_io.specs.declared.role.Role.TheVariants.{Schedule as ScheduleRole, Err as ErrRole};
 ghost use Rattle.host_io.specs.Files.{Kept};
+ghost use Rattle.drat_proof.specs.TwoRoles.{KeptButTwo};
 ghost use Rattle.schedule_plan.specs.Bucket.{bucket};
 ghost use Rattle.schedule_plan.specs.Limits.{AreLimits};
 ghost use Rattle.schedule_plan.specs.Plan.{IsAdmissible};
 ghost use Rattle.schedule_plan.specs.declared.schedule.error.PlanError.TheVariants.{OutOfMemory};
 ghost use Rattle.command_line.specs.Reading.{planned_of, text_of};
 ghost use Rattle.solver_cli.specs.Answer.{AreFound, moves_of_plan};
-ghost use Rattle.solver_cli.specs.Phases.{HasPlan, ReadsSchedule, Schedules, TakesSchedule, basis_of, buckets_file};
+ghost use Rattle.solver_cli.specs.Phases.{Finds, HasPlan, ReadsSchedule, Schedules, TakesSchedule, basis_of, buckets_file};
+ghost use Rattle.solver_cli.specs.Progress.{Comments, Notes};
 
 use crate::basis::Basis;
+use crate::reporting_search::ReportingSearch;
 use cnf_base::Cnf;
 use command_line::{PlanName, PlanSource};
 use host_io::{Host, HostSource, Role, beside_kept};
-use plan_search::{FoundPlan, find_plan};
+use plan_search::{FoundPlan, NoObserver, Observer, find_plan};
 use schedule_plan::{Limits, Order, Plan, PlanError};
 use std::alloc::Global;
 
@@ -30,8 +33,64 @@ pub fn buckets_name<'a>(asked: &PlanSource<'a>) -> Option<&'a str>
 }
 
 /// The plan that is asked for, over the formula, with the order of the diagrams: the given one, or where both are to be found,
-/// the one that is found. The buckets' order is there where its file is named.
+/// the one that is found. The buckets' order is there where its file is named. A search is told, if progress is.
 pub fn take_plan<H: Host>(
+    alloc: Global,
+    host: &mut H,
+    formula: &Cnf,
+    given: Order,
+    buckets: Option<Order>,
+    asked: &PlanSource<'_>,
+    limits: Limits,
+    is_telling: &mut bool,
+) -> Result<Basis, PlanError>
+    requires unnamed { (H.channel host.old ScheduleRole).name ≡ None }
+    requires unnamed_error { (H.channel host.old ErrRole).name ≡ None }
+    requires one_each { length given ≡ formula.now.vars }
+    requires bucketed { IfSome buckets (λ order. length order ≡ formula.now.vars) }
+    requires limits { AreLimits limits }
+    ensures takes { HasPlan formula.now given buckets (planned_of asked.now) H.tells (H.channel host.old ScheduleRole)
+        (H.channel host.new ScheduleRole) (H.files host.old) result }
+    ensures one_each { IfOk result (λ basis. length basis.order ≡ formula.now.vars) }
+    ensures admissible { IfOk result (λ basis. IsAdmissible formula.now basis.plan) }
+    ensures notes { Notes is_telling.old is_telling.new H.tells (H.channel host.old ErrRole) (H.channel host.new ErrRole) }
+    ensures kept { KeptButTwo ScheduleRole ErrRole None (H.channel host.old) (H.channel host.new) (H.files host.old) (H.files host.new) }
+{
+    match asked {
+        PlanSource::Search if *is_telling => {
+            search_telling(alloc, host, formula, given, limits, is_telling)
+        }
+        _ => take_silently(alloc, host, formula, given, buckets, asked, limits),
+    }
+}
+
+// The order and the plan that trials find, each of which is told.
+fn search_telling<H: Host>(
+    alloc: Global,
+    host: &mut H,
+    formula: &Cnf,
+    given: Order,
+    limits: Limits,
+    is_telling: &mut bool,
+) -> Result<Basis, PlanError>
+    requires unnamed_error { (H.channel host.old ErrRole).name ≡ None }
+    requires one_each { length given ≡ formula.now.vars }
+    requires limits { AreLimits limits }
+    ensures finds { Finds formula.now (H.channel host.old ScheduleRole) (H.channel host.new ScheduleRole) result }
+    ensures one_each { IfOk result (λ basis. length basis.order ≡ formula.now.vars) }
+    ensures admissible { IfOk result (λ basis. IsAdmissible formula.now basis.plan) }
+    ensures told { Comments is_telling.new H.tells (H.channel host.old ErrRole) (H.channel host.new ErrRole) }
+    ensures kept { KeptButTwo ScheduleRole ErrRole None (H.channel host.old) (H.channel host.new) (H.files host.old) (H.files host.new) }
+{
+    let mut search = ReportingSearch::new(host);
+    let result = plan_found(alloc, formula, given, limits, &mut search);
+    *is_telling = search.is_telling;
+    let _host = search.close();
+    result
+}
+
+// The same without progress.
+fn take_silently<H: Host>(
     alloc: Global,
     host: &mut H,
     formula: &Cnf,
@@ -57,7 +116,7 @@ pub fn take_plan<H: Host>(
             Some(order) => plan_by(alloc, formula, given, &order),
             None => plan_named(alloc, PlanName::Bucket, formula, given),
         },
-        PlanSource::Search => plan_found(alloc, formula, given, limits),
+        PlanSource::Search => plan_found(alloc, formula, given, limits, &mut NoObserver),
     }
 }
 
@@ -92,19 +151,21 @@ fn plan_by(alloc: Global, formula: &Cnf, given: Order, buckets: &Order) -> Resul
 }
 
 // The order and the plan that trials find. The given order is one of those that are tried.
-fn plan_found(
+fn plan_found<O: Observer>(
     alloc: Global,
     formula: &Cnf,
     given: Order,
     limits: Limits,
+    observer: &mut O,
 ) -> Result<Basis, PlanError>
     requires one_each { length given ≡ formula.now.vars }
     requires limits { AreLimits limits }
     ensures found { IfOk result (λ basis. AreFound formula.now basis.order basis.plan) }
     ensures admissible { IfOk result (λ basis. IsAdmissible formula.now basis.plan) }
     ensures refused { IfErr result (λ error. error ≡ OutOfMemory) }
+    ensures beside { O.beside observer.new ≡ O.beside observer.old }
 {
-    let FoundPlan { order, plan } = find_plan(alloc, formula, given, limits)?;
+    let FoundPlan { order, plan } = find_plan(alloc, formula, given, limits, observer)?;
     let _variables = order.as_slice();
     Ok(Basis { order, plan })
 }

@@ -9,8 +9,9 @@ ghost use Rattle.host_io.specs.Files.{FilesBut, Kept};
 ghost use Rattle.host_io.specs.Memory.{channel_of, files_of};
 ghost use Rattle.schedule_plan.specs.Limits.{AreLimits};
 ghost use Rattle.schedule_plan.specs.Plan.{IsAdmissible};
-ghost use Rattle.command_line.specs.Command.{IsSize};
+ghost use Rattle.command_line.specs.Command.{IsSize, command, progress_asked};
 ghost use Rattle.solver_cli.specs.Headline.{Promises};
+ghost use Rattle.solver_cli.specs.Progress.{IsTold};
 ghost use Rattle.solver_cli.specs.ExitCode.{exit_code};
 ghost use Rattle.solver_cli.specs.Start.{OnlyTold, status_of_kind};
 ghost use Rattle.solver_cli.specs.declared.status.Status.{Status};
@@ -51,7 +52,8 @@ fn work<H: Host>(alloc: Global, words: &[String], host: &mut H) -> Status
     requires unnamed { (role : Role) → (H.channel host.old role).name ≡ None }
     ensures stages { Stages H.tells (map string_bytes words.now) (streams_of (H.channel host.old)) (streams_of (H.channel host.new))
         (H.files host.old) result }
-    ensures error { H.channel host.new ErrRole ≡ H.channel host.old ErrRole }
+    ensures told { IsTold (progress_asked (command (map string_bytes words.now))) H.tells (H.channel host.old ErrRole)
+        (H.channel host.new ErrRole) }
     ensures files { FilesBeside (H.channel host.new ProofOut).name (H.channel host.new Made).name (H.files host.old) (H.files host.new) }
 {
     match read_words(alloc, words) {
@@ -67,7 +69,7 @@ fn work<H: Host>(alloc: Global, words: &[String], host: &mut H) -> Status
     }
 }
 
-// Shows the help on standard output.
+// Shows the text of help, or of the version, on standard output.
 fn show_help<H: Host>(text: &str, host: &mut H) -> Status
     ensures helped { ShowsHelp H.tells (H.channel host.old Out) (H.channel host.new Out) result }
     ensures kept { Kept Out (H.channel host.old Out).name (H.channel host.old) (H.channel host.new) (H.files host.old) (H.files host.new) }
@@ -85,7 +87,7 @@ fn solve<H: Host>(alloc: Global, asked: &SolveTask<'_>, host: &mut H) -> Status
     requires limits { AreLimits asked.now.limits }
     ensures came { Came H.tells (streams_of (H.channel host.old)) (streams_of (H.channel host.new)) (H.files host.old)
         (task_of asked.now) result }
-    ensures error { H.channel host.new ErrRole ≡ H.channel host.old ErrRole }
+    ensures told { IsTold asked.now.progress H.tells (H.channel host.old ErrRole) (H.channel host.new ErrRole) }
     ensures files { FilesBut (H.channel host.new ProofOut).name (H.files host.old) (H.files host.new) }
 {
     let formula = match take_formula(alloc, host, asked.files.formula, asked.mode) {
@@ -100,6 +102,7 @@ fn solve<H: Host>(alloc: Global, asked: &SolveTask<'_>, host: &mut H) -> Status
         Ok(buckets) => buckets,
         Err(error) => return buckets_status(error),
     };
+    let mut is_telling = asked.progress;
     let basis = match take_plan(
         alloc,
         host,
@@ -108,6 +111,7 @@ fn solve<H: Host>(alloc: Global, asked: &SolveTask<'_>, host: &mut H) -> Status
         buckets,
         &asked.plan,
         asked.limits,
+        &mut is_telling,
     ) {
         Ok(basis) => basis,
         Err(error) => return Status::from(error),
@@ -116,6 +120,7 @@ fn solve<H: Host>(alloc: Global, asked: &SolveTask<'_>, host: &mut H) -> Status
         proof: asked.files.proof,
         limits: asked.limits,
         shape: None,
+        progress: is_telling,
     };
     answer(alloc, host, &formula, &basis.order, &basis.plan, &job)
 }
@@ -126,7 +131,7 @@ fn bench<H: Host>(alloc: Global, asked: &BenchTask<'_>, host: &mut H) -> Status
     requires size { IsSize asked.now.size }
     requires limits { AreLimits asked.now.limits }
     ensures came { CameToBench H.tells (streams_of (H.channel host.old)) (streams_of (H.channel host.new)) (bench_of asked.now) result }
-    ensures error { H.channel host.new ErrRole ≡ H.channel host.old ErrRole }
+    ensures told { IsTold asked.now.progress H.tells (H.channel host.old ErrRole) (H.channel host.new ErrRole) }
     ensures files { FilesBut (H.channel host.new ProofOut).name (H.files host.old) (H.files host.new) }
 {
     let board = match board(alloc, asked.size) {
@@ -141,6 +146,7 @@ fn bench<H: Host>(alloc: Global, asked: &BenchTask<'_>, host: &mut H) -> Status
             vars: board.cnf.vars(),
             clauses: board.cnf.len(),
         }),
+        progress: asked.progress,
     };
     answer(alloc, host, &board.cnf, &board.order, &board.plan, &job)
 }
@@ -156,18 +162,29 @@ fn answer<H: Host>(
 ) -> Status
     requires unnamed_proof { (H.channel host.old ProofOut).name ≡ None }
     requires unnamed_out { (H.channel host.old Out).name ≡ None }
+    requires unnamed_error { (H.channel host.old ErrRole).name ≡ None }
     requires order { length order.now ≡ formula.now.vars }
     requires plan { IsAdmissible formula.now plan.now }
     requires limits { AreLimits job.now.limits }
     ensures came { CameToAnswer H.tells (H.channel host.old ProofOut) (H.channel host.new ProofOut) (H.channel host.old Out)
         (H.channel host.new Out) formula.now order.now plan.now (job_of job.now) result }
+    ensures told { IsTold job.now.progress H.tells (H.channel host.old ErrRole) (H.channel host.new ErrRole) }
     ensures inputs { LeavesInputs (H.channel host.old) (H.channel host.new) }
     ensures files { FilesBut (H.channel host.new ProofOut).name (H.files host.old) (H.files host.new) }
 {
     if host.create(HostRole::ProofOut, job.proof).is_err() {
         return Status::WriteFault;
     }
-    let ending = match prove(alloc, host, formula, order, plan, job.limits) {
+    let mut is_telling = job.progress;
+    let ending = match prove(
+        alloc,
+        host,
+        formula,
+        order,
+        plan,
+        job.limits,
+        &mut is_telling,
+    ) {
         Ok(ending) => ending,
         Err(error) => return Status::from(error),
     };
@@ -228,14 +245,21 @@ fn check<H: Host>(alloc: Global, asked: &CheckTask<'_>, host: &mut H) -> Status
     requires unnamed { (role : Role) → (H.channel host.old role).name ≡ None }
     ensures came { CameToCheck H.tells (streams_of (H.channel host.old)) (streams_of (H.channel host.new)) (H.files host.old)
         (check_of asked.now) result }
-    ensures error { H.channel host.new ErrRole ≡ H.channel host.old ErrRole }
+    ensures told { IsTold asked.now.progress H.tells (H.channel host.old ErrRole) (H.channel host.new ErrRole) }
     ensures files { FilesBut None (H.files host.old) (H.files host.new) }
 {
     let problem = match take_formula(alloc, host, asked.files.formula, asked.mode) {
         Ok(problem) => problem,
         Err(error) => return Status::from(error),
     };
-    let verdict = match judge(alloc, host, &problem, asked.files.proof, asked.format) {
+    let verdict = match judge(
+        alloc,
+        host,
+        &problem,
+        asked.files.proof,
+        asked.format,
+        asked.progress,
+    ) {
         Ok(verdict) => verdict,
         Err(error) => return Status::from(error),
     };

@@ -35,7 +35,7 @@ pub enum Status {
     NotVerified(u64, Reason),
     /// The text that was asked for was written.
     Done,
-    /// The words ask for help, which was shown.
+    /// The words ask for help, or for the version, which was shown.
     Help,
     /// The words ask for nothing that the program does.
     Usage,

@@ -229,6 +229,38 @@ module _ {S : Type 0} (fitting : Fitting S) (table : TableState S) (ands one res
   quantifications_fit = fitting.fewer table rest (ands ++ (one ++ rest))
       (λ entry there. Contains-append_right ands (one ++ rest) entry (Contains-append_right one rest entry there)) fits
 
+-- those of disjunctions, which stand behind those of quantifications
+pub disjunctions_fit : {S : Type 0} (fitting : Fitting S) (table : TableState S) (ands one first second : List Entry)
+    → Fits table (ands ++ (one ++ (first ++ second))) → Fits table second
+disjunctions_fit fitting table ands one first second fits =
+    fitting.fewer table second (first ++ second) (λ entry there. Contains-append_right first second entry there)
+    (quantifications_fit fitting table ands one (first ++ second) fits)
+
+pub others_beside : {S : Type 0} (fitting : Fitting S) (old new : TableState S) (first second after others : List Entry)
+    → Fits old ((first ++ second) ++ others) → (Fits old (second ++ (first ++ others)) → Fits new (after ++ (first ++ others)))
+    → Fits new ((first ++ after) ++ others)
+others_beside fitting old new first second after others fits further =
+    fitting.fewer new ((first ++ after) ++ others) (after ++ (first ++ others)) (apart_from after)
+    (further (fitting.fewer old (second ++ (first ++ others)) ((first ++ second) ++ others) (together second) fits))
+  where
+    apart_from : (mid : List Entry) → AreIn ((first ++ mid) ++ others) (mid ++ (first ++ others))
+    apart_from mid entry there = elim (Contains-append_cases (first ++ mid) others entry there) [
+      | inl own ↦ elim (Contains-append_cases first mid entry own) [
+        | inl one ↦ Contains-append_right mid (first ++ others) entry (Contains-append_left first others entry one)
+        | inr two ↦ Contains-append_left mid (first ++ others) entry two
+      ]
+      | inr last ↦ Contains-append_right mid (first ++ others) entry (Contains-append_right first others entry last)
+    ]
+
+    together : (mid : List Entry) → AreIn (mid ++ (first ++ others)) ((first ++ mid) ++ others)
+    together mid entry there = elim (Contains-append_cases mid (first ++ others) entry there) [
+      | inl two ↦ Contains-append_left (first ++ mid) others entry (Contains-append_right first mid entry two)
+      | inr other ↦ elim (Contains-append_cases first others entry other) [
+        | inl one ↦ Contains-append_left (first ++ mid) others entry (Contains-append_left first mid entry one)
+        | inr last ↦ Contains-append_right (first ++ mid) others entry last
+      ]
+    ]
+
 module _ {S T : Type 0} (fitting : Fitting S) (old new : TableState S) (ands one rest : List Entry) (parts : AreParts ands one rest)
     (fits : Fits old (ands ++ (one ++ rest))) (result : Result T TableError) where
   pub and_keeps : (after : List Entry) → ((others : List Entry) → Fits old (ands ++ others) → AreApart ands others

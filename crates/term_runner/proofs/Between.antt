@@ -9,6 +9,7 @@ use Rattle.node_table.specs.Diagram.{Graph}
 use Rattle.reconstruction.specs.Copies.{AreCopies}
 use Rattle.reconstruction.specs.Stack.{Stack, empty_stack}
 use Rattle.schedule_plan.specs.declared.plan.Move.{Move}
+use Rattle.schedule_plan.specs.SetMove.{in_order, move_in_order}
 use Rattle.schedule_plan.specs.Plan.{Stage, after_move, after_moves, no_stage}
 use Rattle.term_runner.specs.declared.held.HeldTerm.{HeldTerm}
 use Rattle.term_runner.specs.Held.{AreHeld, IsAt}
@@ -46,6 +47,22 @@ move_at (move ∷ moves) (suc i) step at = move_at moves i step at ∙ (λ k. st
   where
     shift : suc (i + 1) ≡ suc i + 1
     shift = omega arith
+
+-- the move in order, at its place
+pub step_at : (order : List ℕ) (moves : List Move) (i : ℕ) (step : Move) → slice_get moves i ≡ Some step
+    → slice_get (in_order order moves) i ≡ Some (move_in_order order step)
+step_at order [] zero step at = cc
+step_at order [] (suc i) step at = cc
+step_at order (move ∷ moves) zero step at = ap (λ (m : Move). Some (move_in_order order m)) (inside move step at)
+  where
+    inside : (x y : Move) → Some x ≡ Some y → x ≡ y
+    inside x y e = cc
+step_at order (move ∷ moves) (suc i) step at = step_at order moves i step at
+
+pub leads_here : (formula : Formula) (one other : List ℕ) (stage next : Stage) (step : Move) → one ≡ other
+    → after_move formula stage (move_in_order one step) ≡ Some next → after_move formula stage (move_in_order other step) ≡ Some next
+leads_here formula one other stage next step same leads =
+    subst (λ (order : List ℕ). after_move formula stage (move_in_order order step) ≡ Some next) same leads
 
 pub some_at : (moves : List Move) (i : ℕ) → i < length moves → slice_get moves i ≡ None → ⊥
 some_at [] i small none = omega (arith, small)

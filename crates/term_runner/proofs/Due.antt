@@ -1,18 +1,18 @@
 -- When a reclamation is due: at the limit of nodes, or where a move left many.
-use Rattle.std.proofs.Common.{◌≡◌, ◌≤◌, ℕ, Bool, Some, inl, inr, sym, subst}
+use Rattle.std.proofs.Common.{◌≡◌, ◌≤◌, ℕ, Some, inl, inr, sym, subst}
 use Rattle.node_table.specs.declared.error.TableError.{TableError}
 use Rattle.node_table.specs.declared.error.TableError.TheVariants.{NodeLimit}
 use Rattle.node_table.specs.Diagram.{Graph, IsReduced}
 use Rattle.node_table.specs.Progress.{Leaves}
 use Rattle.node_table.specs.Table.{TableState, live_nodes}
-use Rattle.node_table.specs.Value.{Levels}
+use Rattle.quantify.specs.RunsFor.{Kind}
 use Rattle.term_runner.specs.Nodes.{KeepsOrMakes}
 use Rattle.term_runner.specs.Tidy.{IsByRule, IsTidy, WasDue}
 
-pub due_at_limit : {S : Type 0} (old one : TableState S) (function : Levels → Bool) (left : ℕ)
-    (came : TableError) → came ≡ NodeLimit → Leaves old one (Some came) → KeepsOrMakes old.graph one.graph function
-    → WasDue old.graph function old.max_nodes left
-due_at_limit old one function left came is leaves made =
+pub due_at_limit : {S : Type 0} (old one : TableState S) (kind : Kind) (left : ℕ)
+    (came : TableError) → came ≡ NodeLimit → Leaves old one (Some came) → KeepsOrMakes old.graph one.graph kind
+    → WasDue old.graph kind old.max_nodes left
+due_at_limit old one kind left came is leaves made =
     let met = subst (λ (e : TableError). Leaves old one (Some e)) is leaves in
     record {
       graph = one.graph;
@@ -22,13 +22,13 @@ due_at_limit old one function left came is leaves made =
     }
 
 -- behind a move that left many
-pub due_behind : (old one new : Graph) (function : Levels → Bool) (max_nodes before between after : ℕ) → IsReduced one
-    → KeepsOrMakes old one function → (IsTidy (live_nodes one) between → ⊥) → IsByRule old one function max_nodes before between
-    → IsByRule old new function max_nodes before after
-due_behind old one new function max_nodes before between after reduced made many (inl kept) = inr (record {
+pub due_behind : (old one new : Graph) (kind : Kind) (max_nodes before between after : ℕ) → IsReduced one
+    → KeepsOrMakes old one kind → (IsTidy (live_nodes one) between → ⊥) → IsByRule old one kind max_nodes before between
+    → IsByRule old new kind max_nodes before after
+due_behind old one new kind max_nodes before between after reduced made many (inl kept) = inr (record {
   graph = one;
   reduced = reduced;
   made = made;
   many = inr (λ tidy. many (subst (IsTidy (live_nodes one)) (sym kept.1) tidy));
 })
-due_behind old one new function max_nodes before between after reduced made many (inr due) = inr due
+due_behind old one new kind max_nodes before between after reduced made many (inr due) = inr due

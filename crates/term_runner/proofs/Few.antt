@@ -19,13 +19,13 @@ use Rattle.node_table.specs.Table.{TableState}
 use Rattle.operations.specs.Entries.{Entry, IsNamed, just_of}
 use Rattle.reconstruction.specs.Stack.{Stack}
 use Rattle.schedule_plan.specs.declared.plan.Move.{Move}
-use Rattle.schedule_plan.specs.declared.plan.Move.TheVariants.{Push, And, Exists}
-use Rattle.schedule_plan.specs.Plan.{Stage, Term, after_and, after_move, after_moves, after_push, input, is_pushed, no_stage}
+use Rattle.schedule_plan.specs.declared.plan.Move.TheVariants.{Push, And, Exists, ExistsAll}
+use Rattle.schedule_plan.specs.Plan.{Stage, Term, after_and, after_exists, after_move, after_moves, after_push, input, is_pushed, no_stage}
 use Rattle.term_runner.specs.declared.held.HeldTerm.{HeldTerm}
 use Rattle.term_runner.specs.Held.{AreHeld, HasUnits}
 use Rattle.term_runner.proofs.AllCaches.{AreUnnamed, names_none}
 use Rattle.term_runner.proofs.Between.{IsBetween}
-use Rattle.term_runner.proofs.Plans.{first_of_moves, inside, pushed_of}
+use Rattle.term_runner.proofs.Plans.{first_of_moves, inside, pushed_of, through_set}
 use Rattle.term_runner.proofs.Taking.{and_of, exists_of}
 
 -- the clause that a justification names, before others
@@ -136,6 +136,17 @@ was_new formula stage next i is = go (nat_lt 0 i && nat_le i (length formula.cla
     go true true e = cc
     go false was e = cc
 
+counted_one : (formula : Formula) (stage next : Stage) (x : ℕ) → after_exists formula stage x stage.stack ≡ Some next
+    → IsCounted formula stage → IsCounted formula next
+counted_one formula stage next x is before =
+    let quantified = exists_of formula stage next (Exists x) x refl is in
+    let pushed : next.pushed ≡ stage.pushed = ap (λ (s : Stage). s.pushed) quantified.after in
+    record {
+      few = omega (arith, ap length quantified.stacked, ap (λ (s : Stage). length s.stack) quantified.after, ap length pushed, before.few);
+      distinct = subst (λ (ids : List ℕ). IsDistinct nat_eq ids) (sym pushed) before.distinct;
+      within = λ i there. before.within i (sym (ap (list_any (nat_eq i)) pushed) ∙ there);
+    }
+
 counted : (formula : Formula) (stage next : Stage) (move : Move) → after_move formula stage move ≡ Some next → IsCounted formula stage
     → IsCounted formula next
 counted formula stage next (Push i) is before =
@@ -165,14 +176,8 @@ counted formula stage next And is before =
     conjoined_pushed formula stage next [] e = cc
     conjoined_pushed formula stage next (top ∷ []) e = cc
     conjoined_pushed formula stage next (top ∷ below ∷ rest) e = sym (ap (λ (s : Stage). s.pushed) (inside _ next e))
-counted formula stage next (Exists x) is before =
-    let quantified = exists_of formula stage next (Exists x) x refl is in
-    let pushed : next.pushed ≡ stage.pushed = ap (λ (s : Stage). s.pushed) quantified.after in
-    record {
-      few = omega (arith, ap length quantified.stacked, ap (λ (s : Stage). length s.stack) quantified.after, ap length pushed, before.few);
-      distinct = subst (λ (ids : List ℕ). IsDistinct nat_eq ids) (sym pushed) before.distinct;
-      within = λ i there. before.within i (sym (ap (list_any (nat_eq i)) pushed) ∙ there);
-    }
+counted formula stage next (Exists x) is before = counted_one formula stage next x is before
+counted formula stage next (ExistsAll xs) is before = through_set (IsCounted formula) formula (counted_one formula) xs stage next is before
 
 counted_all : (formula : Formula) (moves : List Move) (stage last : Stage) → after_moves formula stage moves ≡ Some last
     → IsCounted formula stage → IsCounted formula last

@@ -1,19 +1,26 @@
 -- A reclamation leaves no more nodes than there are parts in hand at the move before it, or behind it.
-use Rattle.std.proofs.Common.{◌≡◌, ◌≤◌, ◌<◌, ◌⊎◌, ℕ, true, zero, suc, List, ◌∷◌, map, length, Some, Contains, is_some, refl, sym, ap, ◌∙◌}
+use Rattle.std.proofs.Common.{◌≡◌, ◌≤◌, ◌<◌, ◌⊎◌, ◌-◌, ◌++◌, ℕ, Bool, true, zero, suc, List, [], ◌∷◌, map, take, length, Some, Contains}
+use Rattle.std.proofs.Common.{is_some, refl, sym, ap, ◌∙◌}
 use Rattle.std.proofs.Common.{subst, arith, inl, inr}
 use Rattle.std.specs.FinMap as finmap
 use Rattle.std.proofs.lemmas.Bool.{cases_lt}
+use Rattle.std.proofs.lemmas.List.{length-append, map-append}
+use Rattle.std.proofs.lemmas.List.Elements.{Contains-append_cases, Contains-append_right}
 use Rattle.cnf_base.specs.Formula.{Formula}
 use Rattle.node_table.specs.declared.node.Branch.{Branch}
 use Rattle.node_table.specs.Diagram.{IsOrder, branch_at}
 use Rattle.node_table.specs.Laws.{Canonical, Subfunctions}
+use Rattle.node_table.specs.Value.{IsSubfunction, Levels}
 use Rattle.schedule_plan.specs.declared.plan.Move.{Move}
-use Rattle.schedule_plan.specs.declared.plan.Move.TheVariants.{Push, And, Exists}
+use Rattle.schedule_plan.specs.declared.plan.Move.TheVariants.{Push, And, Exists, ExistsAll}
 use Rattle.schedule_plan.specs.Plan.{Stage, Term, after_move}
 use Rattle.term_runner.specs.Tidy.{WereLeft}
-use Rattle.term_runner.specs.Width.{HoldsAtMost, IsInHand, IsPartInHand, IsResult, part_at}
-use Rattle.term_runner.proofs.InHand.{IsThere, left_part}
+use Rattle.schedule_plan.specs.SetMove.{IsGiven}
+use Rattle.term_runner.specs.Nodes.{IsGivenPart}
+use Rattle.term_runner.specs.Width.{HoldsAtMost, IsInHand, IsPartInHand, part_at, term_function}
+use Rattle.term_runner.proofs.InHand.{IsThere, in_hand_before, left_part}
 use Rattle.term_runner.proofs.Listed.{differ_at, essential_at, function_at, functions_of, key_at, length-functions, listed, some_of}
+use Rattle.term_runner.proofs.SetStages.{after_set, none_quantified}
 use Rattle.term_runner.proofs.Taking.{and_of, exists_of, push_of}
 
 module _ (law : Subfunctions) (canonical : Canonical) (formula : Formula) (order : List ℕ) (ordered : IsOrder order)
@@ -63,8 +70,31 @@ first_or x xs y (suc k, small, at) = inr (k, omega (arith, small), at)
 pub in_front : (first second : Term) (rest : List Term) → Contains (first ∷ second ∷ rest) second
 in_front first second rest = (1, omega arith, refl)
 
-pub result_is : (top : Term) (rest stack : List Term) (term : Term) → stack ≡ top ∷ rest → top ≡ term → IsResult stack term
-result_is top rest stack term same is = subst (λ (s : List Term). IsResult s term) (sym same) is
+-- a move's result is what it gives, and so is what it puts on the trail
+pub result_given : (before after : Stage) (top : Term) (rest : List Term) → after.stack ≡ top ∷ rest → IsGiven before after top
+result_given before after top rest same =
+    subst (λ (s : List Term). Contains (take 1 s ++ map (λ (k : ℕ × Term). k.1)
+    (take (length after.trail - length before.trail) after.trail)) top) (sym same) (zero, omega arith, refl)
+
+pub result_part : (formula : Formula) (order : List ℕ) (before after : Stage) (top : Term) (rest : List Term) → after.stack ≡ top ∷ rest
+    → (part : Levels → Bool) → IsSubfunction (term_function formula order top) part → IsGivenPart formula order before after part
+result_part formula order before after top rest same part is =
+    record { term = top; is_given = result_given before after top rest same; is_part = is }
+
+take_front : (xs ys : List (ℕ × Term)) → take (length xs) (xs ++ ys) ≡ xs
+take_front [] ys = refl
+take_front (x ∷ xs) ys = ap (λ (l : List (ℕ × Term)). x ∷ l) (take_front xs ys)
+
+pub fresh_given : (before after : Stage) (fresh : List (ℕ × Term)) (term : Term) → after.trail ≡ fresh ++ before.trail
+    → Contains (map (λ (k : ℕ × Term). k.1) fresh) term → IsGiven before after term
+fresh_given before after fresh term same there =
+    let count : length (fresh ++ before.trail) - length before.trail ≡ length fresh = omega (arith, length-append fresh before.trail) in
+    let front : take (length after.trail - length before.trail) after.trail ≡ fresh =
+    (λ k. take (length (same k) - length before.trail) (same k))
+    ∙ ap (λ (n : ℕ). take n (fresh ++ before.trail)) count ∙ take_front fresh before.trail in
+    Contains-append_right (take 1 after.stack) (map (λ (k : ℕ × Term). k.1)
+    (take (length after.trail - length before.trail) after.trail)) term
+    (subst (λ (l : List (ℕ × Term)). Contains (map (λ (k : ℕ × Term). k.1) l) term) (sym front) there)
 
 -- a term behind a move is in hand at it
 pub in_hand_behind : (formula : Formula) (before after : Stage) (step : Move) → after_move formula before step ≡ Some after → (term : Term)
@@ -73,7 +103,7 @@ in_hand_behind formula before after (Push i) leads term there =
     let push = push_of formula before after (Push i) i refl leads in
     elim there [
       | inl stacked ↦ elim (first_or _ before.stack term (subst (λ (s : List Term). Contains s term) push.stack stacked)) [
-        | inl is ↦ inr (inr (result_is _ before.stack after.stack term push.stack is))
+        | inl is ↦ inr (inr (subst (IsGiven before after) is (result_given before after _ before.stack push.stack)))
         | inr was ↦ inl was
       ]
       | inr kept ↦ inr (inl (subst (λ (t : List (ℕ × Term)). Contains (map (λ (k : ℕ × Term). k.1) t) term) push.trail kept))
@@ -82,7 +112,7 @@ in_hand_behind formula before after And leads term there =
     let conjoined = and_of formula before after And refl leads in
     elim there [
       | inl stacked ↦ elim (first_or _ conjoined.rest term (subst (λ (s : List Term). Contains s term) conjoined.after stacked)) [
-        | inl is ↦ inr (inr (result_is _ conjoined.rest after.stack term conjoined.after is))
+        | inl is ↦ inr (inr (subst (IsGiven before after) is (result_given before after _ conjoined.rest conjoined.after)))
         | inr was ↦ inl (subst (λ (s : List Term). Contains s term) (sym conjoined.before)
             (behind conjoined.other (conjoined.one ∷ conjoined.rest) term (behind conjoined.one conjoined.rest term was)))
       ]
@@ -94,7 +124,7 @@ in_hand_behind formula before after (Exists x) leads term there =
     let trail = ap (λ (s : Stage). s.trail) quantified.after in
     elim there [
       | inl stacked ↦ elim (first_or _ quantified.rest term (subst (λ (s : List Term). Contains s term) stack stacked)) [
-        | inl is ↦ inr (inr (result_is _ quantified.rest after.stack term stack is))
+        | inl is ↦ inr (inr (subst (IsGiven before after) is (result_given before after _ quantified.rest stack)))
         | inr was ↦ inl (subst (λ (s : List Term). Contains s term) (sym quantified.stacked)
             (behind quantified.top quantified.rest term was))
       ]
@@ -104,3 +134,25 @@ in_hand_behind formula before after (Exists x) leads term there =
             | inr was ↦ inr (inl was)
           ]
     ]
+in_hand_behind formula before after (ExistsAll xs) leads term there = by_stack before.stack refl
+  where
+    by_stack : (stack : List Term) → before.stack ≡ stack → IsInHand before after term
+    by_stack [] bare =
+        let same = none_quantified formula before after xs bare leads in
+        in_hand_before before after term (subst (λ (s : Stage). IsThere s term) (sym same) there)
+    by_stack (top ∷ rest) stacked =
+        let set = after_set formula before after xs top rest stacked leads in
+        elim there [
+          | inl on_stack ↦ elim (first_or _ rest term (subst (λ (s : List Term). Contains s term) set.stack on_stack)) [
+            | inl is ↦ inr (inr (subst (IsGiven before after) is (result_given before after _ rest set.stack)))
+            | inr was ↦ inl (subst (λ (s : List Term). Contains s term) (sym stacked) (behind top rest term was))
+          ]
+          | inr kept ↦
+              let parted : Contains (map (λ (k : ℕ × Term). k.1) set.fresh ++ map (λ (k : ℕ × Term). k.1) before.trail) term =
+              subst (λ (l : List Term). Contains l term) (ap (map (λ (k : ℕ × Term). k.1)) set.trail
+              ∙ map-append (λ (k : ℕ × Term). k.1) set.fresh before.trail) kept in
+              elim (Contains-append_cases (map (λ (k : ℕ × Term). k.1) set.fresh) (map (λ (k : ℕ × Term). k.1) before.trail) term parted) [
+                | inl came ↦ inr (inr (fresh_given before after set.fresh term set.trail came))
+                | inr was ↦ inr (inl was)
+              ]
+        ]

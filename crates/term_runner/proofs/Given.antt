@@ -21,7 +21,7 @@ use Rattle.node_table.specs.Made.{LacksPart, MakesOnly}
 use Rattle.node_table.specs.Progress.{Continues, Leaves, error_of}
 use Rattle.node_table.specs.Refused.{no_nodes_left}
 use Rattle.node_table.specs.Table.{TableState, AddsAtMost, Extends, IsSound, defining_clauses, live_nodes}
-use Rattle.node_table.specs.Value.{Levels}
+use Rattle.node_table.specs.Value.{IsSubfunction, Levels}
 use Rattle.operations.specs.Budget.{most_additions}
 use Rattle.operations.specs.Entries.{Fits, Fitting}
 use Rattle.clause_terms.specs.Term.{IsTerm}
@@ -33,6 +33,7 @@ use Rattle.term_runner.specs.Caches.{all_entries, sizes}
 use Rattle.term_runner.specs.Finds.{Finds, IsProved}
 use Rattle.term_runner.specs.Held.{GivesUnit, HasUnits}
 use Rattle.term_runner.specs.Runner.{Gives, HasFalse, IsListed, IsRunner, OwnsTerms, owners, true_term}
+use Rattle.term_runner.proofs.MadeParts.{lacks_part, of_only, only_of}
 use Rattle.term_runner.proofs.Giving.{units_settled}
 use Rattle.term_runner.proofs.Leaving.{went_on}
 use Rattle.term_runner.proofs.NoEmpty.{no_change}
@@ -72,7 +73,8 @@ more_false few more all has = record { held = has.held; among = all has.held has
 module _ {S : Type 0} (growth : Growth) (steps : StepByStep S) (function : Levels → Bool) (holds : Assignment → Bool)
     (operands : List HeldTerm) (old : Runner S) (runner : IsRunner old) (mid : TableState S) (caches : Caches) where
   -- none was found
-  module _ (came : TableError) (found : Finds function holds operands old.terms.table mid old.terms.caches caches (Err came))
+  module _ (came : TableError)
+      (found : Finds (IsSubfunction function) function holds operands old.terms.table mid old.terms.caches caches (Err came))
       (no_fault : came ≢ WriteFault → (terms : List HeldTerm) → HasUnits old.terms.table (all_entries old.terms.caches) terms
       → HasUnits mid (all_entries caches) terms) (new : Runner S)
       (same : new ≡ record old { terms = record old.terms { table = mid; caches = caches; out = new.terms.out } })
@@ -135,13 +137,14 @@ module _ {S : Type 0} (growth : Growth) (steps : StepByStep S) (function : Level
           (sym same_table) found.steps.adds;
       pairs = λ width room few all. subst (λ (t : TableState S). AddsAtMost (2 * (width * width) + 1) old.terms.table t) (sym same_table)
           (found.pairs width room few all);
-      made = subst (λ (t : TableState S). MakesOnly old.terms.table.graph t.graph function) (sym same_table) found.made;
+      made = subst (λ (t : TableState S). MakesOnly old.terms.table.graph t.graph function) (sym same_table) (of_only _ _ _ found.made);
       lacks = λ limit. subst (λ (t : TableState S). LacksPart t.graph function) (sym same_table)
-          (found.lacks (ap Err (same_error limit)));
+          (lacks_part _ _ (found.lacks (ap Err (same_error limit))));
     })
 
   -- it was, with a unit of its own
-  module _ (term : Term) (found : Finds function holds operands old.terms.table mid old.terms.caches caches (Ok term.held))
+  module _ (term : Term)
+      (found : Finds (IsSubfunction function) function holds operands old.terms.table mid old.terms.caches caches (Ok term.held))
       (own : GivesUnit old.terms.table mid (all_entries old.terms.caches) (all_entries caches) [] term.held.unit) (new : Runner S)
       (same : new ≡ record old { terms = record old.terms { table = mid; caches = caches; out = new.terms.out }; refuted = new.refuted })
       (listed : IsListed old.terms.out.items new.terms.out.items term.held)
@@ -232,14 +235,14 @@ module _ {S : Type 0} (growth : Growth) (steps : StepByStep S) (function : Level
           (sym here) found.steps.adds;
       pairs = λ width room few all. subst (λ (t : TableState S). AddsAtMost (2 * (width * width) + 1) old.terms.table t) (sym here)
           (found.pairs width room few all);
-      made = subst (λ (t : TableState S). MakesOnly old.terms.table.graph t.graph function) (sym here) found.made;
+      made = subst (λ (t : TableState S). MakesOnly old.terms.table.graph t.graph function) (sym here) (of_only _ _ _ found.made);
       lacks = λ limit. absurd (no_error limit);
     }
 
 -- there is no room for it
 pub nothing_found : {S : Type 0} (steps : StepByStep S) (law : Subfunctions) (function : Levels → Bool) (holds : Assignment → Bool)
     (operands : List HeldTerm) (table : TableState S) (caches : Caches) → IsSound table → Fits table (all_entries caches)
-    → Finds function holds operands table table caches caches (Err OutOfMemory)
+    → Finds (IsSubfunction function) function holds operands table table caches caches (Err OutOfMemory)
 nothing_found steps law function holds operands table caches sound fits = record {
   term = tt;
   gives = tt;
@@ -249,7 +252,7 @@ nothing_found steps law function holds operands table caches sound fits = record
   no_empty = λ whole some. no_change table;
   fits = λ whole. fits;
   again = λ limit stack has. has;
-  made = law.none_made table.graph function;
+  made = only_of _ _ _ (law.none_made table.graph function);
   lacks = λ limit. absurd (let e : OutOfMemory ≡ NodeLimit = same_error limit in cc);
   pairs = λ width room few all. omega arith;
   sizes = refl;

@@ -1,9 +1,9 @@
 -- At the limit of nodes each node has the function of a part that is in hand at one move: those that the terms before it reach,
 -- and those of its own.
-use Rattle.std.proofs.Common.{◌≡◌, ◌⊎◌, ◌∙◌, ℕ, Bool, true, false, List, [], ◌∷◌, map, reverse, Option, None, Some, Contains, refl, sym, ap}
+use Rattle.std.proofs.Common.{◌≡◌, ◌⊎◌, ◌∙◌, ℕ, Bool, true, false, List, [], ◌∷◌, map, reverse, Option, Some, Contains, refl, sym, ap}
 use Rattle.std.proofs.Common.{subst, arith, inl, inr, eq-eqb}
-use Rattle.std.specs.Prelude.{nat_lt, nat_le, not, ◌&&◌, if◌then◌else◌, length}
-use Rattle.std.specs.List.{list_any}
+use Rattle.std.specs.Prelude.{if◌then◌else◌}
+use Rattle.std.proofs.lemmas.List.{map-append}
 use Rattle.std.proofs.lemmas.List.Elements.{Contains-append_cases, Contains-append_left}
 use Rattle.cnf_base.specs.Formula.{Formula}
 use Rattle.node_table.specs.declared.node.Node.{Node}
@@ -13,19 +13,20 @@ use Rattle.node_table.specs.declared.node.Branch.{Branch}
 use Rattle.node_table.specs.Diagram.{Graph, IsOrder, IsReduced, branch_at, branch_of, child_in, high_at, is_node, level_in, level_of}
 use Rattle.node_table.specs.Diagram.{levels, low_at}
 use Rattle.node_table.specs.Laws.{Subfunctions}
-use Rattle.node_table.specs.Made.{LacksPart, Reaches, child_of, end_of, inner}
+use Rattle.node_table.specs.Made.{Reaches, child_of, end_of, inner}
+use Rattle.quantify.specs.RunsFor.{LacksOneOf}
 use Rattle.node_table.specs.Value.{Levels, IsSubfunction, value_of}
 use Rattle.schedule_plan.specs.declared.plan.Move.{Move}
-use Rattle.schedule_plan.specs.declared.plan.Move.TheVariants.{Push, And, Exists}
-use Rattle.schedule_plan.specs.Plan.{Stage, Term, after_and, after_exists, after_move, both, holds_later, input, is_pushed, some_value}
-use Rattle.schedule_plan.specs.Plan.{term_has}
+use Rattle.schedule_plan.specs.Plan.{Stage, Term}
+use Rattle.schedule_plan.specs.SetMove.{in_order}
+use Rattle.reconstruction.specs.declared.entries.Kept.{Kept}
 use Rattle.term_runner.specs.declared.held.HeldTerm.{HeldTerm}
 use Rattle.term_runner.specs.Tidy.{WereLeft, held_nodes}
-use Rattle.term_runner.specs.Width.{IsInHand, IsMove, IsPartInHand, IsResult, term_function, top_function}
-use Rattle.term_runner.specs.Nodes.{KeepsOrMakes, RunsShort}
+use Rattle.term_runner.specs.Width.{IsInHand, IsMove, IsPartInHand, term_function}
+use Rattle.term_runner.specs.Nodes.{IsGivenPart, KeepsOrMakes, RunsShort}
 use Rattle.term_runner.proofs.Listed.{some_of}
 use Rattle.term_runner.proofs.Planned.{node_function}
-use Rattle.term_runner.proofs.Reclaimed.{held_term, in_map, kept_term, of_map}
+use Rattle.term_runner.proofs.Reclaimed.{held_term, kept_term, of_map}
 use Rattle.term_runner.proofs.Trails.{in_reverse}
 
 -- what a node reaches is a part of it
@@ -109,7 +110,7 @@ module _ (formula : Formula) (order : List ℕ) (ordered : IsOrder order) (befor
 
   root_of : (root : Node) → Contains (held_nodes were.stack were.trail.recent) root → IsRootOf formula order were.graph before root
   root_of root there = elim (Contains-append_cases (map (λ (h : HeldTerm). h.node) were.stack)
-      (map (λ (k : ℕ × Node). k.1) were.trail.recent) root there) [
+      (map (λ (k : Kept). k.node) were.trail.recent) root there) [
         | inl of_stack ↦
             let was = of_map (λ (h : HeldTerm). h.node) were.stack root of_stack in
             let found = held_term formula were.graph were.live (reverse were.stack) before.stack were.at.held was.0
@@ -122,17 +123,18 @@ module _ (formula : Formula) (order : List ℕ) (ordered : IsOrder order) (befor
                   (node_function were.graph were.reduced own_order formula was.0.node found.0 found.2.is.stands found.2.is.value);
             })
         | inr of_trail ↦
-            let was = of_map (λ (k : ℕ × Node). k.1) were.trail.recent root of_trail in
+            let was = of_map (λ (k : Kept). k.node) were.trail.recent root of_trail in
             let found = kept_term formula were.graph were.live (reverse were.trail.recent) were.at.kept.recent were.at.kept.kept was.0
             (in_reverse were.trail.recent was.0 was.1) in
             subst (IsRootOf formula order were.graph before) was.2 (record {
-              term = found.0.1;
-              there = inr (in_map (λ (k : ℕ × Term). k.1) before.trail found.0
-                  (subst (λ (t : List (ℕ × Term)). Contains t found.0) (sym were.at.kept.all)
-                  (Contains-append_left were.at.kept.recent were.at.kept.stored found.0 found.1)));
-              stands = found.2.stands;
-              same = over_order found.0.1 was.0.1
-                  (node_function were.graph were.reduced own_order formula was.0.1 found.0.1 found.2.stands found.2.value);
+              term = found.whole;
+              there = inr (subst (λ (t : List (ℕ × Term)). Contains (map (λ (k : ℕ × Term). k.1) t) found.whole) (sym were.at.kept.all)
+                  (subst (λ (l : List Term). Contains l found.whole) (sym (map-append (λ (k : ℕ × Term). k.1) were.at.kept.recent
+                  were.at.kept.stored)) (Contains-append_left (map (λ (k : ℕ × Term). k.1) were.at.kept.recent)
+                  (map (λ (k : ℕ × Term). k.1) were.at.kept.stored) found.whole found.there)));
+              stands = found.stands;
+              same = over_order found.whole was.0.node
+                  (node_function were.graph were.reduced own_order formula was.0.node found.whole found.stands found.value);
             })
       ]
 
@@ -151,65 +153,17 @@ module _ (formula : Formula) (order : List ℕ) (ordered : IsOrder order) (befor
             root.same (λ a. refl) (reached_part law were.graph were.reduced by.root (inner key) root.stands by.reaches);
       }
 
--- a move has a result
-some_result : (c : Bool) (some next : Stage) → (if c then Some some else None) ≡ Some next → some ≡ next
-some_result false some next is = absurd (let e : None ≡ Some next = is in cc)
-some_result true some next is = cc
-
-record HasResult (next : Stage) : Type 0 where
-  term : Term
-  is : IsResult next.stack term
-
-top_result : (term : Term) (rest : List Term) (pushed : List ℕ) (trail : List (ℕ × Term)) (next : Stage)
-    → record { stack = term ∷ rest; pushed = pushed; trail = trail } ≡ next → HasResult next
-top_result term rest pushed trail next same = subst HasResult same (record { term = term; is = refl })
-
-result_of : (formula : Formula) (stage next : Stage) (step : Move) → after_move formula stage step ≡ Some next → HasResult next
-result_of formula stage next (Push i) is =
-    top_result (input i) stage.stack (i ∷ stage.pushed) stage.trail next
-    (some_result (nat_lt 0 i && nat_le i (length formula.clauses)
-    && not (is_pushed stage.pushed i)) (record {
-      stack = input i ∷ stage.stack;
-      pushed = i
-          ∷ stage.pushed;
-      trail = stage.trail;
-    }) next is)
-result_of formula stage next And is = go stage.stack is
-  where
-    go : (stack : List Term) → after_and stage stack ≡ Some next → HasResult next
-    go [] is = absurd (let e : None ≡ Some next = is in cc)
-    go (top ∷ []) is = absurd (let e : None ≡ Some next = is in cc)
-    go (top ∷ below ∷ rest) is =
-        top_result (both below top) rest stage.pushed stage.trail next
-        (some_result true (record { stack = both below top ∷ rest; pushed = stage.pushed; trail = stage.trail }) next is)
-result_of formula stage next (Exists x) is = go stage.stack is
-  where
-    go : (stack : List Term) → after_exists formula stage x stack ≡ Some next → HasResult next
-    go [] is = absurd (let e : None ≡ Some next = is in cc)
-    go (top ∷ rest) is =
-        top_result (some_value x top) rest stage.pushed ((x, top) ∷ stage.trail) next
-        (some_result (nat_lt 0 x && nat_le x formula.vars && not (list_any (term_has formula x) rest)
-        && not (holds_later formula stage.pushed x (length formula.clauses)))
-        (record { stack = some_value x top ∷ rest; pushed = stage.pushed; trail = (x, top) ∷ stage.trail }) next is)
-
--- a part of the result is in hand
-pub result_part : (formula : Formula) (order : List ℕ) (before after : Stage) (step : Move) → after_move formula before step ≡ Some after
-    → (part : Levels → Bool) → IsSubfunction (top_function formula order after.stack) part
+-- a part of what a move gives is in hand
+pub given_part : (formula : Formula) (order : List ℕ) (before after : Stage) (part : Levels → Bool)
+    → IsGivenPart formula order before after part
     → IsPartInHand formula order before after part
-result_part formula order before after step leads part is =
-    let result = result_of formula before after step leads in
-    record { term = result.term; in_hand = inr (inr result.is); is_part = top_part after.stack result.term result.is is }
-  where
-    top_part : (stack : List Term) (term : Term) → IsResult stack term → IsSubfunction (top_function formula order stack) part
-        → IsSubfunction (term_function formula order term) part
-    top_part [] term result is = absurd result
-    top_part (top ∷ stack) term result is = subst (λ (t : Term). IsSubfunction (term_function formula order t) part) result is
+given_part formula order before after part is = record { term = is.term; in_hand = inr (inr is.is_given); is_part = is.is_part }
 
 -- At the limit of nodes.
 pub short_at_limit : Subfunctions → (formula : Formula) (order : List ℕ) → IsOrder order
-    → (moves : List Move) (count : ℕ) (before after : Stage) → (move : IsMove formula moves count before after) (left : ℕ)
-    (were : WereLeft formula order before left) (graph : Graph) → KeepsOrMakes were.graph graph (top_function formula order after.stack)
-    → LacksPart graph (top_function formula order after.stack)
+    → (moves : List Move) (count : ℕ) (before after : Stage) → (move : IsMove formula (in_order order moves) count before after) (left : ℕ)
+    (were : WereLeft formula order before left) (graph : Graph) → KeepsOrMakes were.graph graph (IsGivenPart formula order before after)
+    → LacksOneOf graph (IsGivenPart formula order before after)
     → RunsShort formula order moves graph
 short_at_limit law formula order ordered moves count before after move left were graph made lacks = record {
   count = count;
@@ -225,9 +179,9 @@ short_at_limit law formula order ordered moves count before after move left were
           is_part = part_of_same (term_function formula order part.term) (term_function formula order part.term)
               (λ a. value_of were.graph a (inner key)) (λ a. value_of graph a (inner key)) (λ a. refl) there.1 part.is_part;
         }
-    | inr part ↦ result_part formula order before after move.step move.leads (λ a. value_of graph a (inner key)) part
+    | inr part ↦ given_part formula order before after (λ a. value_of graph a (inner key)) part
   ];
   further = lacks.part;
-  is_part = result_part formula order before after move.step move.leads lacks.part lacks.is_part;
+  is_part = given_part formula order before after lacks.part lacks.is_one;
   nowhere = lacks.nowhere;
 }

@@ -8,6 +8,12 @@ pub mod Least
 pub mod Stacks
 pub mod Inputs
 pub mod Taking
+pub mod MadeParts
+pub mod SetStages
+pub mod SetTerms
+pub mod SetTrail
+pub mod QuantifiedSet
+pub mod SetLevels
 pub mod Between
 pub mod Opening
 pub mod Planned

@@ -15,11 +15,10 @@ use Rattle.schedule_plan.specs.Plan.{Stage, after_move}
 use Rattle.term_runner.specs.declared.terms.Terms.{Terms}
 use Rattle.term_runner.specs.Caches.{sizes}
 use Rattle.term_runner.specs.Moves.{Moved}
-use Rattle.term_runner.specs.Nodes.{KeepsOrMakes}
+use Rattle.term_runner.specs.Nodes.{IsGivenPart, KeepsOrMakes}
 use Rattle.term_runner.specs.Price.{AddsFew}
 use Rattle.term_runner.specs.Terms.{HasOwnUnits, IsAtStage, IsOpen}
 use Rattle.term_runner.specs.Tidy.{IsByRule, IsTidy, LeavesReached, WereLeft, held_nodes}
-use Rattle.term_runner.specs.Width.{top_function}
 use Rattle.term_runner.proofs.Due.{due_behind}
 use Rattle.term_runner.proofs.FewLeft.{few_left, in_hand_behind}
 use Rattle.term_runner.proofs.NoEmpty.{fewer_empty, fewer_left, further_empty, no_true}
@@ -34,7 +33,7 @@ module _ {S : Type 0} (canonical : Canonical) (steps : StepByStep S) (formula : 
   unrefuted_yet : AddsNoEmpty old.table one.table
   unrefuted_yet = own.no_empty no_error (no_true false refl)
 
-  by_rule : (left : ℕ) → IsByRule old.table.graph mid.table.graph (top_function formula old.table.graph.order next.stack)
+  by_rule : (left : ℕ) → IsByRule old.table.graph mid.table.graph (IsGivenPart formula old.table.graph.order stage next)
       old.table.max_nodes old.left left
   by_rule left = due_behind old.table.graph one.table.graph mid.table.graph _ old.table.max_nodes old.left one.left left
       own.leaves.sound.tied.reduced own.made many own.rule
@@ -53,7 +52,7 @@ module _ {S : Type 0} (canonical : Canonical) (steps : StepByStep S) (formula : 
         (steps.leave old.table one.table mid.table (Some came) own.leaves leaves);
     no_empty = λ whole unrefuted. further_empty old.table one.table mid.table unrefuted_yet
         (fewer_left {T = ℕ} one.table mid.table (Err came) leaves (λ torn. whole (is ∙ ap Err (same_error torn))) top);
-    made = subst (λ (graph : Graph). KeepsOrMakes old.table.graph graph (top_function formula old.table.graph.order next.stack))
+    made = subst (λ (graph : Graph). KeepsOrMakes old.table.graph graph (IsGivenPart formula old.table.graph.order stage next))
         (sym graph) own.made;
     lacks = λ limit. absurd (no_limit_here limit);
     full = λ limit. absurd (no_limit_here limit);
@@ -91,8 +90,8 @@ module _ {S : Type 0} (canonical : Canonical) (steps : StepByStep S) (formula : 
         no_empty = λ whole unrefuted. further_empty old.table one.table mid.table unrefuted_yet
             (fewer_empty one.table mid.table so_far top);
         made = made_behind old.table.graph one.table.graph mid.table.graph mid.table.graph (held_nodes mid.out.items mid.trail.recent)
-            (top_function formula old.table.graph.order next.stack) own.made reached
-            (none_made mid.table.graph (top_function formula old.table.graph.order next.stack));
+            (IsGivenPart formula old.table.graph.order stage next) own.made reached
+            (none_made mid.table.graph (IsGivenPart formula old.table.graph.order stage next));
         lacks = λ limit. absurd (no_error limit);
         full = λ limit. absurd (no_error limit);
         left = inr (inr were);

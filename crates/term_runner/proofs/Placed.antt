@@ -10,7 +10,8 @@ use Rattle.node_table.specs.declared.node.Justification.{Justification}
 use Rattle.node_table.specs.Diagram.{Graph}
 use Rattle.node_table.specs.HandedOn.{no_error, same_error}
 use Rattle.node_table.specs.Laws.{Growth, StepByStep}
-use Rattle.node_table.specs.Made.{LacksPart}
+use Rattle.node_table.specs.Value.{Levels}
+use Rattle.quantify.specs.RunsFor.{Kind, LacksOneOf}
 use Rattle.node_table.specs.Progress.{Continues, Leaves, Steps, error_of}
 use Rattle.node_table.specs.Table.{TableState, AddsAtMost}
 use Rattle.operations.specs.Entries.{Entry, Fits, Fitting}
@@ -24,11 +25,11 @@ use Rattle.term_runner.specs.Finds.{AreFew, Finds, IsOperand}
 use Rattle.term_runner.specs.Held.{AreHeld, HasUnits, IsHeld, IsPlaced, IsUnitOf, MayGiveUp, RetiresUnits, UnitsApart}
 use Rattle.term_runner.specs.Trail.{IsTrail}
 use Rattle.term_runner.specs.Moves.{Tried}
-use Rattle.term_runner.specs.Nodes.{KeepsOrMakes}
+use Rattle.term_runner.specs.Nodes.{IsGivenPart, KeepsOrMakes}
 use Rattle.term_runner.specs.Terms.{HasOwnUnits, IsAtStage, IsOpen}
-use Rattle.term_runner.specs.Width.{HoldsAtMost, term_function, top_function}
+use Rattle.term_runner.specs.Width.{HoldsAtMost, term_function}
 use Rattle.term_runner.proofs.Again.{at_still}
-use Rattle.term_runner.proofs.FewLeft.{result_is}
+use Rattle.term_runner.proofs.FewLeft.{result_given}
 use Rattle.term_runner.proofs.Leaving.{went_on}
 use Rattle.term_runner.proofs.NoEmpty.{further_empty}
 use Rattle.term_runner.proofs.Pairs.{few_of_term}
@@ -57,23 +58,32 @@ module _ {S : Type 0} (growth : Growth) (steps : StepByStep S) (fitting : Fittin
     (terms : List Term) (stack : next.stack ≡ term ∷ terms) (taken rest : List HeldTerm) (items : reverse old.out.items ≡ taken ++ rest)
     (rest_held : AreHeld formula old.table.graph old.table.book.state.live rest terms)
     (few : (width : ℕ) → HoldsAtMost formula old.table.graph.order stage next width → AreFew old.table.graph taken width)
+    (kind : Kind) (gives : (part : Levels → Bool) → kind part → IsGivenPart formula old.table.graph.order stage next part)
     (mid : TableState S) (caches : Caches) where
   -- what the call made is kept, or a part of the term
-  made_of : (r : Result HeldTerm TableError) → Finds (term_function formula old.table.graph.order term) (λ a. term_holds formula a term)
+  made_of : (r : Result HeldTerm TableError)
+      → Finds kind (term_function formula old.table.graph.order term) (λ a. term_holds formula a term)
       taken old.table mid old.caches caches r
-      → KeepsOrMakes old.table.graph mid.graph (top_function formula old.table.graph.order next.stack)
-  made_of r found = subst (λ (s : List Term). KeepsOrMakes old.table.graph mid.graph (top_function formula old.table.graph.order s))
-      (sym stack) (keeps_or_makes growth old.table.graph mid.graph (term_function formula old.table.graph.order term)
-      ready.over.sound.tied.reduced found.steps.extends.nodes found.made)
+      → KeepsOrMakes old.table.graph mid.graph (IsGivenPart formula old.table.graph.order stage next)
+  made_of r found = keeps_or_makes growth old.table.graph mid.graph kind (IsGivenPart formula old.table.graph.order stage next) gives
+      ready.over.sound.tied.reduced found.steps.extends.nodes found.made
 
-  pairs_of : (r : Result HeldTerm TableError) → Finds (term_function formula old.table.graph.order term) (λ a. term_holds formula a term)
+  lacks_of : (r : Result HeldTerm TableError) → Finds kind (term_function formula old.table.graph.order term)
+      (λ a. term_holds formula a term) taken old.table mid old.caches caches r → r ≡ Err NodeLimit
+      → LacksOneOf mid.graph (IsGivenPart formula old.table.graph.order stage next)
+  lacks_of r found limit =
+      let lacks = found.lacks limit in
+      record { part = lacks.part; is_one = gives lacks.part lacks.is_one; nowhere = lacks.nowhere }
+
+  pairs_of : (r : Result HeldTerm TableError)
+      → Finds kind (term_function formula old.table.graph.order term) (λ a. term_holds formula a term)
       taken old.table mid old.caches caches r → (width : ℕ) → HaveRoom old.caches width
       → HoldsAtMost formula old.table.graph.order stage next width → AddsAtMost (2 * (width * width) + 1) old.table mid
   pairs_of r found width room most = found.pairs width room (few width most)
-      (few_of_term formula old.table.graph.order stage next term (inr (inr (result_is term terms next.stack term stack refl))) width most)
+      (few_of_term formula old.table.graph.order stage next term (inr (inr (result_given stage next term terms stack))) width most)
 
   -- it was refused
-  pub not_found : (came : TableError) → Finds (term_function formula old.table.graph.order term) (λ a. term_holds formula a term) taken
+  pub not_found : (came : TableError) → Finds kind (term_function formula old.table.graph.order term) (λ a. term_holds formula a term) taken
       old.table mid old.caches caches (Err came) → (end : Result Bool TableError) → end ≡ Err came
       → Tried formula stage next old (record old { table = mid; caches = caches }) end
   not_found came found end is = record {
@@ -93,8 +103,7 @@ module _ {S : Type 0} (growth : Growth) (steps : StepByStep S) (fitting : Fittin
     adds = found.steps.adds;
     pairs = pairs_of (Err came) found;
     made = made_of (Err came) found;
-    lacks = λ limit. subst (λ (s : List Term). LacksPart mid.graph (top_function formula old.table.graph.order s)) (sym stack)
-        (found.lacks (at_limit limit));
+    lacks = λ limit. lacks_of (Err came) found (at_limit limit);
     sizes = found.sizes;
     left = refl;
   }
@@ -105,7 +114,7 @@ module _ {S : Type 0} (growth : Growth) (steps : StepByStep S) (fitting : Fittin
       at_limit : end ≡ Err NodeLimit → ◌≡◌ {A = Result HeldTerm TableError} (Err came) (Err NodeLimit)
       at_limit limit = ap Err (same_error (sym is ∙ limit))
 
-  module _ (held : HeldTerm) (found : Finds (term_function formula old.table.graph.order term) (λ a. term_holds formula a term) taken
+  module _ (held : HeldTerm) (found : Finds kind (term_function formula old.table.graph.order term) (λ a. term_holds formula a term) taken
       old.table mid old.caches caches (Ok held)) where
     has : HasUnits old.table (all_entries old.caches) (taken ++ rest)
     has = subst (λ (s : List HeldTerm). HasUnits old.table (all_entries old.caches) s) items own
@@ -220,7 +229,7 @@ module _ {S : Type 0} (growth : Growth) (steps : StepByStep S) (fitting : Fittin
         adds = let first = found.steps.adds in let second = more.adds in omega (arith, first, second);
         pairs = λ width room most.
             let first = pairs_of (Ok held) found width room most in let second = more.adds in omega (arith, first, second);
-        made = subst (λ (graph : Graph). KeepsOrMakes old.table.graph graph (top_function formula old.table.graph.order next.stack))
+        made = subst (λ (graph : Graph). KeepsOrMakes old.table.graph graph (IsGivenPart formula old.table.graph.order stage next))
             (sym same_graph) (made_of (Ok held) found);
         lacks = λ limit. absurd (no_error limit);
         sizes = found.sizes;
@@ -237,9 +246,10 @@ module _ {S : Type 0} (growth : Growth) (steps : StepByStep S) (fitting : Fittin
     (terms : List Term) (stack : next.stack ≡ term ∷ terms) (taken rest : List HeldTerm) (items : reverse old.out.items ≡ taken ++ rest)
     (rest_held : AreHeld formula old.table.graph old.table.book.state.live rest terms)
     (few : (width : ℕ) → HoldsAtMost formula old.table.graph.order stage next width → AreFew old.table.graph taken width)
+    (kind : Kind) (gives : (part : Levels → Bool) → kind part → IsGivenPart formula old.table.graph.order stage next part)
     (mid : TableState S) (caches : Caches) (held : HeldTerm)
-    (found : Finds (term_function formula old.table.graph.order term) (λ a. term_holds formula a term) taken old.table mid old.caches caches
-    (Ok held)) where
+    (found : Finds kind (term_function formula old.table.graph.order term) (λ a. term_holds formula a term) taken old.table mid old.caches
+    caches (Ok held)) where
   pub put_done : (operands : List HeldTerm) → drop (length operands) (taken ++ rest) ≡ rest
       → ((last : TableState S) → RetiresUnits mid last operands held.unit → RetiresUnits mid last taken held.unit) → (new : TableState S)
       (other : Terms S) (trail : Stack) → IsTrail formula mid.graph trail next.trail → (refuted : Bool)
@@ -249,11 +259,11 @@ module _ {S : Type 0} (growth : Growth) (steps : StepByStep S) (fitting : Fittin
   put_done operands behind same_units new other trail kept refuted when_true when_false =
       either refuted (λ r. Tried formula stage next old (record old { table = new; caches = caches; out = other.out; trail = trail }) (Ok r))
       (λ is. let same = when_true is in
-      refuted_by growth steps fitting formula stage next old ready own at term terms stack taken rest items rest_held few mid caches held
-      found new same.1.0 other trail same.0)
+      refuted_by growth steps fitting formula stage next old ready own at term terms stack taken rest items rest_held few kind gives
+      mid caches held found new same.1.0 other trail same.0)
       (λ is. let one = when_false is in
-      placed growth steps fitting formula stage next old ready own at term terms stack taken rest items rest_held few mid caches held found
-      new other trail one.some (one.out ∙ ap (λ (l : List HeldTerm). held ∷ drop (length operands) l) items
+      placed growth steps fitting formula stage next old ready own at term terms stack taken rest items rest_held few kind gives mid caches
+      held found new other trail one.some (one.out ∙ ap (λ (l : List HeldTerm). held ∷ drop (length operands) l) items
       ∙ ap (λ (l : List HeldTerm). held ∷ l) behind) (same_units new one.retires) one.steps kept)
 
 -- room for one term more changes nothing else

@@ -13,7 +13,8 @@ use Rattle.node_table.specs.declared.node.Node.TheVariants.{False, True, Inner}
 use Rattle.node_table.specs.declared.node.Justification.{Justification}
 use Rattle.node_table.specs.Diagram.{Graph, IsOrder, IsReduced, KeepsNodes, branch_at, is_node, levels, variable_at}
 use Rattle.node_table.specs.Value.{Levels, branch_value, by_level, value_of, value_within}
-use Rattle.node_table.specs.Made.{MakesOnly, inner}
+use Rattle.node_table.specs.Made.{inner}
+use Rattle.quantify.specs.RunsFor.{Kind, MakesOnlyOf}
 use Rattle.node_table.specs.Laws.{Growth}
 use Rattle.schedule_plan.specs.declared.plan.Move.{Move}
 use Rattle.schedule_plan.specs.Plan.{Term, both, Stage, term_holds, after_move, after_moves}
@@ -89,12 +90,12 @@ moved_on formula (move ∷ moves) (suc i) step first stage next at front is = go
     go further None e = cc
     go further (Some later) e = further later e
 
--- what was made of a function is kept, or a part of it
-pub keeps_or_makes : Growth → (old new : Graph) (function : Levels → Bool) → IsReduced old → KeepsNodes old new → MakesOnly old new function
-    → KeepsOrMakes old new function
-keeps_or_makes growth old new function reduced keeps made = record {
+-- what was made of a kind is kept, or of a kind that has all of that one
+pub keeps_or_makes : Growth → (old new : Graph) (kind given : Kind) → ((part : Levels → Bool) → kind part → given part) → IsReduced old
+    → KeepsNodes old new → MakesOnlyOf old new kind → KeepsOrMakes old new given
+keeps_or_makes growth old new kind given gives reduced keeps made = record {
   each = λ key branch at. elim (made.each key branch at) [
     | inl there ↦ inl (there, λ a. growth.value old new reduced keeps a (inner key) (ap is_some there))
-    | inr part ↦ inr part
+    | inr part ↦ inr (gives (λ a. value_of new a (inner key)) part)
   ];
 }

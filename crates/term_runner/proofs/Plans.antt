@@ -8,9 +8,10 @@ use Rattle.std.proofs.lemmas.Bool.{or_parts, or_cases, or_left, or_right, or_fro
 use Rattle.cnf_base.specs.Truth.{Assignment, AreClausesOf, Satisfies, clause_holds, is_literal_of, literal_holds, with_value}
 use Rattle.cnf_base.specs.Formula.{Formula}
 use Rattle.schedule_plan.specs.declared.plan.Move.{Move}
-use Rattle.schedule_plan.specs.declared.plan.Move.TheVariants.{Push, And, Exists}
+use Rattle.schedule_plan.specs.declared.plan.Move.TheVariants.{Push, And, Exists, ExistsAll}
 use Rattle.schedule_plan.specs.Plan.{Term, input, both, some_value, Stage, IsAdmissible, after_move, after_moves, after_push, after_and}
-use Rattle.schedule_plan.specs.Plan.{after_exists, clause_has, clause_of_number, holds_later, is_pushed, no_stage, term_has, term_holds}
+use Rattle.schedule_plan.specs.Plan.{after_all, after_exists, clause_has, clause_of_number, holds_later, is_pushed, no_stage, term_has}
+use Rattle.schedule_plan.specs.Plan.{term_holds}
 use Rattle.term_runner.specs.Recovered.{set_all_back, set_back, stack_holds}
 
 -- Truth depends on the variables that are held, and on no other.
@@ -118,6 +119,30 @@ first_of_moves formula stage last move moves is = go (after_move formula stage m
         → IsFirst formula stage last move moves
     go None at e = cc
     go (Some later) at e = record { later = later; taken = at; rest = e }
+
+-- variables of a set that are quantified in turn, the first one and those behind it
+pub record IsFirstOfSet (formula : Formula) (stage next : Stage) (x : ℕ) (xs : List ℕ) : Type 0 where
+  pub later : Stage
+  pub taken : after_exists formula stage x stage.stack ≡ Some later
+  pub rest : after_all formula later xs ≡ Some next
+
+pub first_of_set : (formula : Formula) (stage next : Stage) (x : ℕ) (xs : List ℕ) → after_all formula stage (x ∷ xs) ≡ Some next
+    → IsFirstOfSet formula stage next x xs
+first_of_set formula stage next x xs is = go (after_exists formula stage x stage.stack) refl is
+  where
+    go : (o : Option Stage) → after_exists formula stage x stage.stack ≡ o → option_and_then (λ later. after_all formula later xs) o
+        ≡ Some next → IsFirstOfSet formula stage next x xs
+    go None at e = cc
+    go (Some later) at e = record { later = later; taken = at; rest = e }
+
+-- what each of them keeps a set keeps
+pub through_set : (P : Stage → Type 0) (formula : Formula)
+    → ((stage next : Stage) (x : ℕ) → after_exists formula stage x stage.stack ≡ Some next → P stage → P next)
+    → (xs : List ℕ) (stage next : Stage) → after_all formula stage xs ≡ Some next → P stage → P next
+through_set P formula each [] stage next is own = subst P (inside stage next is) own
+through_set P formula each (x ∷ xs) stage next is own =
+    let first = first_of_set formula stage next x xs is in
+    through_set P formula each xs first.later next first.rest (each stage first.later x first.taken own)
 
 pub pushed_of : (formula : Formula) (stage next : Stage) (i : ℕ) → after_push formula stage i ≡ Some next
     → (0 < i) × (i ≤ length formula.clauses) × (next ≡ record {
@@ -288,6 +313,29 @@ before_exists formula a x top rest pushed lacked not_later true_of = record {
     parts : (term_holds formula a (some_value x top) ≡ true) × (stack_holds formula a rest ≡ true)
     parts = and_parts (term_holds formula a (some_value x top)) _ true_of.stacked
 
+before_one : (formula : Formula) (stage next : Stage) (x : ℕ) → after_exists formula stage x stage.stack ≡ Some next → (a : Assignment)
+    → AreTrue formula a next.stack next.pushed → IsBefore formula stage next a
+before_one formula stage next x is a true_of =
+    let given = quantified_of formula stage next x stage.stack is in
+    record {
+      assignment = set_back formula a (x, given.top);
+      are_true = subst (λ (stack : List Term). AreTrue formula (set_back formula a (x, given.top)) stack stage.pushed) (sym given.stacked)
+          (before_exists formula a x given.top given.rest stage.pushed given.lacked given.not_later
+          (subst (λ (s : Stage). AreTrue formula a s.stack s.pushed) given.after true_of));
+      set_back_to = ap (λ (s : Stage). set_all_back formula a s.trail) given.after;
+    }
+
+before_set : (formula : Formula) (xs : List ℕ) (stage next : Stage) → after_all formula stage xs ≡ Some next → (a : Assignment)
+    → AreTrue formula a next.stack next.pushed → IsBefore formula stage next a
+before_set formula [] stage next is a true_of =
+    subst (λ (s : Stage). IsBefore formula s next a) (sym (inside stage next is))
+    (record { assignment = a; are_true = true_of; set_back_to = refl })
+before_set formula (x ∷ xs) stage next is a true_of =
+    let first = first_of_set formula stage next x xs is in
+    let behind = before_set formula xs first.later next first.rest a true_of in
+    let here = before_one formula stage first.later x first.taken behind.assignment behind.are_true in
+    record { assignment = here.assignment; are_true = here.are_true; set_back_to = behind.set_back_to ∙ here.set_back_to }
+
 before_move : (formula : Formula) (stage next : Stage) (move : Move) → after_move formula stage move ≡ Some next → (a : Assignment)
     → AreTrue formula a next.stack next.pushed → IsBefore formula stage next a
 before_move formula stage next (Push i) is a true_of =
@@ -308,15 +356,8 @@ before_move formula stage next And is a true_of =
       };
       set_back_to = ap (set_all_back formula a) given.trail;
     }
-before_move formula stage next (Exists x) is a true_of =
-    let given = quantified_of formula stage next x stage.stack is in
-    record {
-      assignment = set_back formula a (x, given.top);
-      are_true = subst (λ (stack : List Term). AreTrue formula (set_back formula a (x, given.top)) stack stage.pushed) (sym given.stacked)
-          (before_exists formula a x given.top given.rest stage.pushed given.lacked given.not_later
-          (subst (λ (s : Stage). AreTrue formula a s.stack s.pushed) given.after true_of));
-      set_back_to = ap (λ (s : Stage). set_all_back formula a s.trail) given.after;
-    }
+before_move formula stage next (Exists x) is a true_of = before_one formula stage next x is a true_of
+before_move formula stage next (ExistsAll xs) is a true_of = before_set formula xs stage next is a true_of
 
 before_moves : (formula : Formula) (moves : List Move) (stage last : Stage) → after_moves formula stage moves ≡ Some last → (a : Assignment)
     → AreTrue formula a last.stack last.pushed → IsBefore formula stage last a
@@ -373,6 +414,15 @@ some_of_own formula a x term holds = go (a x) refl
     go true own = or_left (term_holds formula (with_value a x true) term) _ (same true own)
     go false own = or_right (term_holds formula (with_value a x true) term) _ (same false own)
 
+pub true_after_one : (formula : Formula) (a : Assignment) (stage next : Stage) (x : ℕ)
+    → after_exists formula stage x stage.stack ≡ Some next → stack_holds formula a stage.stack ≡ true
+    → stack_holds formula a next.stack ≡ true
+true_after_one formula a stage next x is holds =
+    let given = quantified_of formula stage next x stage.stack is in
+    let parts = and_parts (term_holds formula a given.top) _ (sym (ap (stack_holds formula a) given.stacked) ∙ holds) in
+    ap (λ (s : Stage). stack_holds formula a s.stack) given.after
+    ∙ and_from (term_holds formula a (some_value x given.top)) _ (some_of_own formula a x given.top parts.0) parts.1
+
 pub true_after : (formula : Formula) (a : Assignment) → AllHold formula a → (stage next : Stage) (move : Move)
     → stack_holds formula a stage.stack ≡ true → after_move formula stage move ≡ Some next
     → stack_holds formula a next.stack ≡ true
@@ -381,11 +431,9 @@ true_after formula a all stage next (Push i) holds is =
     ap (λ (s : Stage). stack_holds formula a s.stack) pushed.2 ∙ and_from (clause_holds a (clause_of_number formula i)) _
     (all i pushed.0 pushed.1) holds
 true_after formula a all stage next And holds is = (conjoined_of formula stage next stage.stack is).same a ∙ holds
-true_after formula a all stage next (Exists x) holds is =
-    let given = quantified_of formula stage next x stage.stack is in
-    let parts = and_parts (term_holds formula a given.top) _ (sym (ap (stack_holds formula a) given.stacked) ∙ holds) in
-    ap (λ (s : Stage). stack_holds formula a s.stack) given.after
-    ∙ and_from (term_holds formula a (some_value x given.top)) _ (some_of_own formula a x given.top parts.0) parts.1
+true_after formula a all stage next (Exists x) holds is = true_after_one formula a stage next x is holds
+true_after formula a all stage next (ExistsAll xs) holds is =
+    through_set (λ (s : Stage). stack_holds formula a s.stack ≡ true) formula (true_after_one formula a) xs stage next is holds
 
 pub true_after_all : (formula : Formula) (a : Assignment) → AllHold formula a → (moves : List Move) (stage last : Stage)
     → stack_holds formula a stage.stack ≡ true

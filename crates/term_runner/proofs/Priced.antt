@@ -18,9 +18,9 @@ use Rattle.schedule_plan.specs.declared.plan.Move.{Move}
 use Rattle.schedule_plan.specs.Plan.{Stage, after_move}
 use Rattle.term_runner.specs.Price.{AddsFew, IsMovePrice, most_nodes}
 use Rattle.term_runner.specs.Tidy.{IsTidy}
-use Rattle.term_runner.specs.Width.{AreMore, HoldsAtMost, IsPartInHand, top_function}
-use Rattle.term_runner.specs.Nodes.{KeepsOrMakes}
-use Rattle.term_runner.proofs.InHand.{result_part}
+use Rattle.term_runner.specs.Width.{AreMore, HoldsAtMost, IsPartInHand}
+use Rattle.term_runner.specs.Nodes.{IsGivenPart, KeepsOrMakes}
+use Rattle.term_runner.proofs.InHand.{given_part}
 use Rattle.term_runner.proofs.NewNodes.{few_made}
 
 -- two for each pair of nodes, over all levels
@@ -89,13 +89,13 @@ module _ {S : Type 0} (growth : Growth) (canonical : Canonical) (old new : Table
 module _ {S : Type 0} (growth : Growth) (canonical : Canonical) (formula : Formula) (order : List ℕ) (before after : Stage) (step : Move)
     (leads : after_move formula before step ≡ Some after) (old new : TableState S) (error : Option TableError) (leaves : Leaves old new error)
     (keeps : KeepsNodes old.graph new.graph)
-    (made : KeepsOrMakes old.graph new.graph (top_function formula order after.stack)) (width : ℕ)
+    (made : KeepsOrMakes old.graph new.graph (IsGivenPart formula order before after)) (width : ℕ)
     (most : HoldsAtMost formula order before after width) where
   makes_parts : (key : ℕ) (branch : Branch) → branch_at new.graph key ≡ Some branch → branch_at old.graph key ≡ None
       → IsPartInHand formula order before after (λ a. value_of new.graph a (inner key))
   makes_parts key branch at none = elim (made.each key branch at) [
     | inl there ↦ absurd (let wrong : Some branch ≡ None = sym there.0 ∙ none in cc)
-    | inr part ↦ result_part formula order before after step leads _ part
+    | inr part ↦ given_part formula order before after _ part
   ]
 
   pub tried_few : live_nodes new.graph ≤ live_nodes old.graph + width

@@ -17,7 +17,7 @@ use Rattle.term_runner.proofs.Planned.{agree_within, value_there}
 -- one variable set, by its number and by its level
 module _ (graph : Graph) (reduced : IsReduced graph) (ordered : IsOrder graph.order) (level x : ℕ) (within : level
     < levels graph) (at : variable_at graph level ≡ x) where
-  set_there : (a : Assignment) (value : Bool) (i : ℕ) → i < levels graph → with_level (by_level graph.order a) level value i
+  pub set_there : (a : Assignment) (value : Bool) (i : ℕ) → i < levels graph → with_level (by_level graph.order a) level value i
       ≡ by_level graph.order (with_value a x value) i
   set_there a value i small = elim (cases_eq i level) [
     | inl same ↦

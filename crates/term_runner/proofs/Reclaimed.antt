@@ -28,11 +28,12 @@ use Rattle.operations.specs.Entries.{Entry}
 use Rattle.reclaim.specs.Reclaimed.{IsOverReached, MayReclaim, Reclaims}
 use Rattle.reconstruction.specs.Copies.{AreCopies}
 use Rattle.reconstruction.specs.Stack.{Stack}
-use Rattle.schedule_plan.specs.Plan.{Stage, Term}
+use Rattle.schedule_plan.specs.Plan.{term_holds, Stage, Term}
 use Rattle.term_runner.specs.declared.held.HeldTerm.{HeldTerm}
 use Rattle.term_runner.specs.Finds.{IsProved}
 use Rattle.term_runner.specs.Held.{AreHeld, HasUnits, IsAt, IsHeld, IsOver, IsUnitOf}
-use Rattle.term_runner.specs.Trail.{AreKept, IsKept, IsTrail}
+use Rattle.reconstruction.specs.declared.entries.Kept.{Kept}
+use Rattle.term_runner.specs.Trail.{AreKept, IsTrail}
 use Rattle.term_runner.specs.Tidy.{LeavesReached, held_nodes}
 use Rattle.term_runner.proofs.OwnUnits.{later}
 use Rattle.term_runner.proofs.Trails.{in_reverse}
@@ -53,16 +54,16 @@ from_reverse : {X : Type 0} (xs : List X) (x : X) → Contains (reverse xs) x �
 from_reverse {X} xs x there = subst (λ (list : List X). Contains list x) (reverse-reverse xs) (in_reverse (reverse xs) x there)
 
 -- the roots are the nodes of the stacked terms and of the trail
-module _ (stack : List HeldTerm) (trail : List (ℕ × Node)) where
+module _ (stack : List HeldTerm) (trail : List Kept) where
   held_root : (held : HeldTerm) → Contains (reverse stack) held → Contains (held_nodes stack trail) held.node
   held_root held there =
-      Contains-append_left (map (λ (h : HeldTerm). h.node) stack) (map (λ (k : ℕ × Node). k.1) trail) held.node
+      Contains-append_left (map (λ (h : HeldTerm). h.node) stack) (map (λ (k : Kept). k.node) trail) held.node
       (in_map (λ (h : HeldTerm). h.node) stack held (from_reverse stack held there))
 
-  kept_root : (kept : ℕ × Node) → Contains (reverse trail) kept → Contains (held_nodes stack trail) kept.1
+  kept_root : (kept : Kept) → Contains (reverse trail) kept → Contains (held_nodes stack trail) kept.node
   kept_root kept there =
-      Contains-append_right (map (λ (h : HeldTerm). h.node) stack) (map (λ (k : ℕ × Node). k.1) trail) kept.1
-      (in_map (λ (k : ℕ × Node). k.1) trail kept (from_reverse trail kept there))
+      Contains-append_right (map (λ (h : HeldTerm). h.node) stack) (map (λ (k : Kept). k.node) trail) kept.node
+      (in_map (λ (k : Kept). k.node) trail kept (from_reverse trail kept there))
 
 module _ (formula : Formula) (graph : Graph) (live : Live) where
   pub held_term : (stack : List HeldTerm) (terms : List Term) → AreHeld formula graph live stack terms → (held : HeldTerm)
@@ -78,32 +79,41 @@ module _ (formula : Formula) (graph : Graph) (live : Live) where
   held_term (first ∷ stack) (term ∷ terms) are held (suc k, small, at) =
       let found = held_term stack terms are.1 held (k, omega (arith, small), at) in (found.0, later term terms found.0 found.1, found.2)
 
-  pub kept_term : (nodes : List (ℕ × Node)) (trail : List (ℕ × Term)) → AreKept formula graph nodes trail → (kept : ℕ × Node)
-      → Contains nodes kept
-      → (quantified : ℕ × Term) × Contains trail quantified × IsKept formula graph kept quantified
+  -- a term on the trail that a kept node is of
+  pub record IsKeptOf (node : Node) (trail : List (ℕ × Term)) : Type 0 where
+    pub whole : Term
+    pub there : Contains (map (λ (q : ℕ × Term). q.1) trail) whole
+    pub stands : is_node graph node ≡ true
+    pub value : (a : Assignment) → value_of graph (by_level graph.order a) node ≡ term_holds formula a whole
+
+  pub kept_term : (nodes : List Kept) (trail : List (ℕ × Term)) → AreKept formula graph nodes trail → (kept : Kept)
+      → Contains nodes kept → IsKeptOf kept.node trail
   kept_term [] trail are kept there = absurd (omega (arith, there.1))
   kept_term (first ∷ nodes) [] are kept there = absurd are
-  kept_term (first ∷ nodes) (quantified ∷ trail) are kept (zero, small, at) = (
-    quantified,
-    (zero, omega arith, refl),
-    subst (λ (k : ℕ × Node). IsKept formula graph k quantified) at are.0,
-  )
+  kept_term (first ∷ nodes) (quantified ∷ trail) are kept (zero, small, at) =
+      subst (λ (k : Kept). IsKeptOf k.node (quantified ∷ trail)) at
+      (record { whole = are.0.whole; there = are.0.there; stands = are.0.stands; value = are.0.value })
   kept_term (first ∷ nodes) (quantified ∷ trail) are kept (suc k, small, at) =
       let found = kept_term nodes trail are.1 kept (k, omega (arith, small), at) in
-      (found.0, later quantified trail found.0 found.1, found.2)
+      record {
+        whole = found.whole;
+        there = later quantified.1 (map (λ (q : ℕ × Term). q.1) trail) found.whole found.there;
+        stands = found.stands;
+        value = found.value;
+      }
 
   pub roots_stand : (stack : List HeldTerm) (trail : Stack) (stage : Stage) → IsAt formula graph live stack trail stage
       → (root : Node) → Contains (held_nodes stack trail.recent) root → is_node graph root ≡ true
   roots_stand stack trail stage at root there = elim (Contains-append_cases (map (λ (h : HeldTerm). h.node) stack)
-      (map (λ (k : ℕ × Node). k.1) trail.recent) root there) [
+      (map (λ (k : Kept). k.node) trail.recent) root there) [
         | inl of_stack ↦
             let was = of_map (λ (h : HeldTerm). h.node) stack root of_stack in
             subst (λ (node : Node). is_node graph node ≡ true) was.2
             (held_term (reverse stack) stage.stack at.held was.0 (in_reverse stack was.0 was.1)).2.is.stands
         | inr of_trail ↦
-            let was = of_map (λ (k : ℕ × Node). k.1) trail.recent root of_trail in
+            let was = of_map (λ (k : Kept). k.node) trail.recent root of_trail in
             subst (λ (node : Node). is_node graph node ≡ true) was.2
-            (kept_term (reverse trail.recent) at.kept.recent at.kept.kept was.0 (in_reverse trail.recent was.0 was.1)).2.stands
+            (kept_term (reverse trail.recent) at.kept.recent at.kept.kept was.0 (in_reverse trail.recent was.0 was.1)).stands
       ]
 
 -- The nodes were given back.
@@ -236,18 +246,23 @@ module _ {S : Type 0} (growth : Growth) (formula : Formula) (old new : TableStat
             (λ other among. stay other (later one held other among)) are.1,
       )
 
-  trail_stays : (nodes : List (ℕ × Node)) (quantified : List (ℕ × Term))
-      → ((kept : ℕ × Node) → Contains nodes kept → Contains roots kept.1)
+  trail_stays : (nodes : List Kept) (quantified : List (ℕ × Term))
+      → ((kept : Kept) → Contains nodes kept → Contains roots kept.node)
       → AreKept formula old.graph nodes quantified → AreKept formula new.graph nodes quantified
   trail_stays [] [] there are = tt
   trail_stays [] (variable ∷ quantified) there are = absurd are
   trail_stays (kept ∷ nodes) [] there are = absurd are
   trail_stays (kept ∷ nodes) (variable ∷ quantified) there are =
-      let stands = root_stands growth old new roots before after sound reclaims kept.1 (there kept (zero, omega arith, refl)) are.0.stands in (
+      let stands = root_stands growth old new roots before after sound reclaims kept.node (there kept (zero, omega arith, refl))
+      are.0.stands in (
         record {
           variable = are.0.variable;
+          within = are.0.within;
           stands = stands;
-          value = λ a. node_value growth old new roots before after sound reclaims kept.1 stands a ∙ are.0.value a;
+          whole = are.0.whole;
+          there = are.0.there;
+          value = λ a. node_value growth old new roots before after sound reclaims kept.node stands a ∙ are.0.value a;
+          by = are.0.by;
         },
         trail_stays nodes quantified (λ other among. there other (later kept nodes other among)) are.1,
       )

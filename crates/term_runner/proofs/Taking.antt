@@ -4,6 +4,7 @@ use Rattle.cnf_base.specs.Formula.{Formula}
 use Rattle.schedule_plan.specs.declared.plan.Move.{Move}
 use Rattle.schedule_plan.specs.declared.plan.Move.TheVariants.{Push, And, Exists}
 use Rattle.schedule_plan.specs.Plan.{Term, input, both, Stage, after_move, after_and}
+use Rattle.schedule_plan.specs.SetMove.{move_in_order}
 use Rattle.term_runner.proofs.Plans.{IsAfterExists, pushed_of, quantified_of}
 
 pub record IsPushed (formula : Formula) (stage next : Stage) (i : ℕ) : Type 0 where
@@ -56,3 +57,19 @@ pub exists_of : (formula : Formula) (stage next : Stage) (step : Move) (x : ℕ)
     → IsAfterExists formula stage next x stage.stack
 exists_of formula stage next step x named is = quantified_of formula stage next x stage.stack
     (subst (λ (m : Move). after_move formula stage m ≡ Some next) named is)
+
+-- the same of a move in the order of the variables, which is the move itself but for a set
+pub push_in : (formula : Formula) (order : List ℕ) (stage next : Stage) (step : Move) (i : ℕ) → step ≡ Push i
+    → after_move formula stage (move_in_order order step) ≡ Some next → IsPushed formula stage next i
+push_in formula order stage next step i named is =
+    push_of formula stage next (move_in_order order step) i (ap (move_in_order order) named) is
+
+pub and_in : (formula : Formula) (order : List ℕ) (stage next : Stage) (step : Move) → step ≡ And
+    → after_move formula stage (move_in_order order step) ≡ Some next → IsConjoined stage next
+and_in formula order stage next step named is =
+    and_of formula stage next (move_in_order order step) (ap (move_in_order order) named) is
+
+pub exists_in : (formula : Formula) (order : List ℕ) (stage next : Stage) (step : Move) (x : ℕ) → step ≡ Exists x
+    → after_move formula stage (move_in_order order step) ≡ Some next → IsAfterExists formula stage next x stage.stack
+exists_in formula order stage next step x named is =
+    exists_of formula stage next (move_in_order order step) x (ap (move_in_order order) named) is

@@ -1,5 +1,5 @@
 -- Nodes that a reclamation left, and those that a move makes before it and behind it.
-use Rattle.std.proofs.Common.{◌≡◌, ◌∙◌, ℕ, Bool, List, Ok, Err, Result, is_some, refl, sym, ap, inl, inr}
+use Rattle.std.proofs.Common.{◌≡◌, ◌∙◌, ℕ, List, Ok, Err, Result, is_some, refl, sym, ap, subst, inl, inr}
 use Rattle.std.specs.Prelude.{◌≢◌, OnOk}
 use Rattle.cnf_base.specs.Formula.{Formula}
 use Rattle.lrat_rules.specs.State.{Live}
@@ -10,7 +10,8 @@ use Rattle.node_table.specs.Diagram.{Graph}
 use Rattle.node_table.specs.HandedOn.{no_error}
 use Rattle.node_table.specs.Made.{inner}
 use Rattle.node_table.specs.Table.{live_nodes}
-use Rattle.node_table.specs.Value.{Levels, IsSubfunction, value_of}
+use Rattle.node_table.specs.Value.{Levels, value_of}
+use Rattle.quantify.specs.RunsFor.{Kind}
 use Rattle.reconstruction.specs.Stack.{Stack}
 use Rattle.schedule_plan.specs.Plan.{Stage}
 use Rattle.term_runner.specs.declared.held.HeldTerm.{HeldTerm}
@@ -18,25 +19,21 @@ use Rattle.term_runner.specs.Held.{IsAt}
 use Rattle.term_runner.specs.Nodes.{KeepsOrMakes}
 use Rattle.term_runner.specs.Tidy.{LeavesReached, WereLeft, held_nodes}
 
-part_same : (function part other : Levels → Bool) → ((a : Levels) → other a ≡ part a) → IsSubfunction function part
-    → IsSubfunction function other
-part_same function part other same is = record { level = is.level; fixed = is.fixed; same = λ a. same a ∙ is.same a }
-
-pub none_made : (graph : Graph) (function : Levels → Bool) → KeepsOrMakes graph graph function
-none_made graph function = record { each = λ key branch at. inl (at, λ a. refl) }
+pub none_made : (graph : Graph) (kind : Kind) → KeepsOrMakes graph graph kind
+none_made graph kind = record { each = λ key branch at. inl (at, λ a. refl) }
 
 -- what was there or was made before a reclamation, and behind it
-pub made_behind : (old one two new : Graph) (roots : List Node) (function : Levels → Bool) → KeepsOrMakes old one function
-    → LeavesReached one two roots → KeepsOrMakes two new function
-    → KeepsOrMakes old new function
-made_behind old one two new roots function before left behind = record {
+pub made_behind : (old one two new : Graph) (roots : List Node) (kind : Kind) → KeepsOrMakes old one kind
+    → LeavesReached one two roots → KeepsOrMakes two new kind
+    → KeepsOrMakes old new kind
+made_behind old one two new roots kind before left behind = record {
   each = λ key branch at. elim (behind.each key branch at) [
     | inl there ↦
         let same : (a : Levels) → value_of new a (inner key) ≡ value_of one a (inner key) = λ a. there.1 a
         ∙ left.value a (inner key) (ap is_some there.0) in
         elim (before.each key branch (left.nodes key branch there.0)) [
           | inl was ↦ inl (was.0, λ a. same a ∙ was.1 a)
-          | inr part ↦ inr (part_same function (λ a. value_of one a (inner key)) (λ a. value_of new a (inner key)) same part)
+          | inr part ↦ inr (subst kind (λ k a. sym (same a) k) part)
         ]
     | inr part ↦ inr part
   ];

@@ -10,47 +10,56 @@ use Rattle.cnf_base.specs.Truth.{AreClausesOf, Assignment, with_value}
 use Rattle.cnf_base.specs.Formula.{Formula}
 use Rattle.node_table.specs.declared.node.Node.{Node}
 use Rattle.node_table.specs.declared.node.Node.TheVariants.{True}
-use Rattle.node_table.specs.Diagram.{Graph, IsOrder, IsReduced, KeepsNodes, levels}
+use Rattle.node_table.specs.Diagram.{Graph, IsOrder, IsReduced, KeepsNodes, is_node, levels}
 use Rattle.node_table.specs.Laws.{Growth}
 use Rattle.node_table.specs.Value.{Levels, by_level, value_of}
 use Rattle.clause_terms.specs.Recovery.{IsLeast, IsRecoveredFrom, set_nodes_back}
 use Rattle.reconstruction.specs.declared.cells.Cell.{Cell}
+use Rattle.reconstruction.specs.declared.entries.Kept.{Kept}
+use Rattle.reconstruction.specs.Entries.{kept_set}
 use Rattle.reconstruction.specs.Copies.{AreCopies}
 use Rattle.reconstruction.specs.Stack.{Stack, empty_stack}
 use Rattle.schedule_plan.specs.declared.plan.Move.{Move}
-use Rattle.schedule_plan.specs.declared.plan.Move.TheVariants.{Push, And, Exists}
-use Rattle.schedule_plan.specs.Plan.{IsAdmissible, Stage, Term, after_and, after_move, after_moves, no_stage, term_holds}
+use Rattle.schedule_plan.specs.declared.plan.Move.TheVariants.{Push, And, Exists, ExistsAll}
+use Rattle.schedule_plan.specs.Plan.{IsAdmissible, Stage, Term, after_and, after_exists, after_move, after_moves, no_stage, term_holds}
 use Rattle.term_runner.specs.Trail.{AreKept, AreVariables, IsKept, IsTrail}
 use Rattle.term_runner.specs.Recovered.{IsRecovered, stack_holds}
-use Rattle.term_runner.proofs.Least.{by_terms, recovered}
-use Rattle.term_runner.proofs.Plans.{AllHold, first_of_moves, inside, pushed_of, quantified_of, true_after, true_after_all}
+use Rattle.term_runner.proofs.Least.{AreNodesOf, by_terms, recovered}
+use Rattle.schedule_plan.specs.SetMove.{in_order}
+use Rattle.term_runner.proofs.Plans.{AllHold, first_of_moves, inside, pushed_of, quantified_of, through_set, true_after, true_after_all}
+use Rattle.term_runner.proofs.Plans.{true_after_one}
 
 -- the nodes stay, and one more is put behind them
-pub one_grown : Growth → (formula : Formula) (old new : Graph) → IsReduced old → KeepsNodes old new
-    → (kept : ℕ × Node) (quantified : ℕ × Term) → IsKept formula old kept quantified → IsKept formula new kept quantified
-one_grown growth formula old new reduced keeps kept quantified is = record {
+pub one_grown : Growth → (formula : Formula) (old new : Graph) → IsReduced old → KeepsNodes old new → (older : List Kept)
+    (trail : List (ℕ × Term)) (kept : Kept) (quantified : ℕ × Term) → IsKept formula old older trail kept quantified
+    → IsKept formula new older trail kept quantified
+one_grown growth formula old new reduced keeps older trail kept quantified is = record {
   variable = is.variable;
-  stands = growth.stands old new keeps kept.1 is.stands;
-  value = λ a. (λ k. value_of new (by_level (keeps.order k) a) kept.1)
-      ∙ growth.value old new reduced keeps (by_level old.order a) kept.1 is.stands ∙ is.value a;
+  within = is.within;
+  stands = growth.stands old new keeps kept.node is.stands;
+  whole = is.whole;
+  there = is.there;
+  value = λ a. (λ k. value_of new (by_level (keeps.order k) a) kept.node)
+      ∙ growth.value old new reduced keeps (by_level old.order a) kept.node is.stands ∙ is.value a;
+  by = is.by;
 }
 
 pub kept_grown : Growth → (formula : Formula) (old new : Graph) → IsReduced old → KeepsNodes old new
-    → (nodes : List (ℕ × Node)) (trail : List (ℕ × Term)) → AreKept formula old nodes trail → AreKept formula new nodes trail
+    → (nodes : List Kept) (trail : List (ℕ × Term)) → AreKept formula old nodes trail → AreKept formula new nodes trail
 kept_grown growth formula old new reduced keeps [] [] are = tt
 kept_grown growth formula old new reduced keeps [] (quantified ∷ trail) are = absurd are
 kept_grown growth formula old new reduced keeps (kept ∷ nodes) [] are = absurd are
 kept_grown growth formula old new reduced keeps (kept ∷ nodes) (quantified ∷ trail) are = (
-  one_grown growth formula old new reduced keeps kept quantified are.0,
+  one_grown growth formula old new reduced keeps nodes trail kept quantified are.0,
   kept_grown growth formula old new reduced keeps nodes trail are.1,
 )
 
-pub kept_pushed : (formula : Formula) (graph : Graph) (before after : List (ℕ × Node)) (kept : ℕ × Node) (quantified : ℕ
+pub kept_pushed : (formula : Formula) (graph : Graph) (before after : List Kept) (kept : Kept) (quantified : ℕ
     × Term) (trail : List (ℕ × Term)) → after ≡ before ++ kept ∷ []
-    → IsKept formula graph kept quantified → AreKept formula graph (reverse before) trail
+    → IsKept formula graph (reverse before) trail kept quantified → AreKept formula graph (reverse before) trail
     → AreKept formula graph (reverse after) (quantified ∷ trail)
 kept_pushed formula graph before after kept quantified trail is one are =
-    subst (λ (nodes : List (ℕ × Node)). AreKept formula graph nodes (quantified ∷ trail))
+    subst (λ (nodes : List Kept). AreKept formula graph nodes (quantified ∷ trail))
     (sym (ap reverse is ∙ reverse-append before (kept ∷ []))) (one, are)
 
 -- a trail without variables
@@ -78,15 +87,26 @@ trail_grown growth formula old new reduced keeps trail quantified is = record {
   copies = copies_grown growth old new reduced keeps trail.cells trail.copies is.copies;
 }
 
-pub trail_pushed : (formula : Formula) (graph : Graph) (before after : Stack) (kept : ℕ × Node) (quantified : ℕ × Term)
-    (trail : List (ℕ × Term)) → after ≡ record before { recent = before.recent ++ kept ∷ [] }
-    → IsKept formula graph kept quantified → IsTrail formula graph before trail → IsTrail formula graph after (quantified ∷ trail)
-trail_pushed formula graph before after kept quantified trail same one is =
-    subst (λ (t : Stack). IsTrail formula graph t (quantified ∷ trail)) (sym same) (record {
-      recent = quantified ∷ is.recent;
+-- a variable that is quantified alone
+pub trail_pushed : (formula : Formula) (graph : Graph) (before after : Stack) (x : ℕ) (node : Node) (term : Term)
+    (trail : List (ℕ × Term)) → after ≡ record before { recent = before.recent ++ kept_set 0 (x ∷ []) node }
+    → is_node graph node ≡ true → ((a : Assignment) → value_of graph (by_level graph.order a) node ≡ term_holds formula a term)
+    → IsTrail formula graph before trail → IsTrail formula graph after ((x, term) ∷ trail)
+trail_pushed formula graph before after x node term trail same stands value is =
+    let kept : Kept = record { variable = x; later = 0; node = node } in
+    subst (λ (t : Stack). IsTrail formula graph t ((x, term) ∷ trail)) (sym same) (record {
+      recent = (x, term) ∷ is.recent;
       stored = is.stored;
-      all = ap (λ (q : List (ℕ × Term)). quantified ∷ q) is.all;
-      kept = kept_pushed formula graph before.recent (before.recent ++ kept ∷ []) kept quantified is.recent refl one is.kept;
+      all = ap (λ (q : List (ℕ × Term)). (x, term) ∷ q) is.all;
+      kept = kept_pushed formula graph before.recent (before.recent ++ kept ∷ []) kept (x, term) is.recent refl (record {
+        variable = refl;
+        within = omega arith;
+        stands = stands;
+        whole = term;
+        there = (zero, omega arith, refl);
+        value = value;
+        by = λ a. refl;
+      }) is.kept;
       copied = is.copied;
       copies = is.copies;
     })
@@ -96,14 +116,20 @@ trail_after_and stage next [] is = cc
 trail_after_and stage next (top ∷ []) is = cc
 trail_after_and stage next (top ∷ below ∷ rest) is = sym (ap (λ (s : Stage). s.trail) (inside _ next is))
 
+variables_after_one : (formula : Formula) (stage next : Stage) (x : ℕ) → after_exists formula stage x stage.stack ≡ Some next
+    → AreVariables formula stage.trail → AreVariables formula next.trail
+variables_after_one formula stage next x is are =
+    let given = quantified_of formula stage next x stage.stack is in
+    subst (λ (s : Stage). AreVariables formula s.trail) (sym given.after) (given.above, given.within, are)
+
 variables_after : (formula : Formula) (stage next : Stage) (move : Move) → after_move formula stage move ≡ Some next
     → AreVariables formula stage.trail → AreVariables formula next.trail
 variables_after formula stage next (Push i) is are = subst (λ (s : Stage). AreVariables formula s.trail)
     (sym (pushed_of formula stage next i is).2) are
 variables_after formula stage next And is are = subst (AreVariables formula) (sym (trail_after_and stage next stage.stack is)) are
-variables_after formula stage next (Exists x) is are =
-    let given = quantified_of formula stage next x stage.stack is in
-    subst (λ (s : Stage). AreVariables formula s.trail) (sym given.after) (given.above, given.within, are)
+variables_after formula stage next (Exists x) is are = variables_after_one formula stage next x is are
+variables_after formula stage next (ExistsAll xs) is are =
+    through_set (λ (s : Stage). AreVariables formula s.trail) formula (variables_after_one formula) xs stage next is are
 
 pub are_variables : (formula : Formula) (moves : List Move) (stage last : Stage) → after_moves formula stage moves ≡ Some last
     → AreVariables formula stage.trail → AreVariables formula last.trail
@@ -126,6 +152,18 @@ abbrev pub all_true : Formula → Assignment → List (ℕ × Term) → Bool
 all_true formula a [] = true
 all_true formula a (quantified ∷ trail) = term_holds formula a quantified.1 && all_true formula a trail
 
+-- where the stacked terms hold, the one that is quantified next does
+one_true : (formula : Formula) (a : Assignment) (stage next : Stage) (x : ℕ) → after_exists formula stage x stage.stack ≡ Some next
+    → (stack_holds formula a stage.stack ≡ true) × (all_true formula a stage.trail ≡ true)
+    → (stack_holds formula a next.stack ≡ true) × (all_true formula a next.trail ≡ true)
+one_true formula a stage next x at both =
+    let given = quantified_of formula stage next x stage.stack at in (
+      true_after_one formula a stage next x at both.0,
+      ap (λ (s : Stage). all_true formula a s.trail) given.after
+          ∙ and_from (term_holds formula a given.top) _ (and_parts (term_holds formula a given.top) _
+          (sym (ap (stack_holds formula a) given.stacked) ∙ both.0)).0 both.1,
+    )
+
 trail_true : (formula : Formula) (a : Assignment) → AllHold formula a → (moves : List Move) (stage last : Stage)
     → after_moves formula stage moves ≡ Some last → stack_holds formula a stage.stack ≡ true
     → all_true formula a stage.trail ≡ true → all_true formula a last.trail ≡ true
@@ -139,17 +177,16 @@ trail_true formula a all (move ∷ moves) stage last is holds trail =
     one_move : (next : Stage) (m : Move) → after_move formula stage m ≡ Some next → all_true formula a next.trail ≡ true
     one_move next (Push i) at = ap (λ (s : Stage). all_true formula a s.trail) (pushed_of formula stage next i at).2 ∙ trail
     one_move next And at = ap (all_true formula a) (trail_after_and stage next stage.stack at) ∙ trail
-    one_move next (Exists x) at =
-        let given = quantified_of formula stage next x stage.stack at in
-        ap (λ (s : Stage). all_true formula a s.trail) given.after
-        ∙ and_from (term_holds formula a given.top) _ (and_parts (term_holds formula a given.top) _
-        (sym (ap (stack_holds formula a) given.stacked) ∙ holds)).0 trail
+    one_move next (Exists x) at = (one_true formula a stage next x at (holds, trail)).1
+    one_move next (ExistsAll xs) at =
+        (through_set (λ (s : Stage). (stack_holds formula a s.stack ≡ true) × (all_true formula a s.trail ≡ true)) formula
+        (one_true formula a) xs stage next at (holds, trail)).1
 
 abbrev pub true_nodes : List (ℕ × Term) → List (ℕ × Node)
 true_nodes trail = map (λ quantified. (quantified.0, True)) trail
 
 true_kept : (formula : Formula) (graph : Graph) (trail : List (ℕ × Term)) → ((a : Assignment) → all_true formula a trail ≡ true)
-    → AreKept formula graph (true_nodes trail) trail
+    → AreNodesOf formula graph (true_nodes trail) trail
 true_kept formula graph [] all = tt
 true_kept formula graph (quantified ∷ trail) all = (
   record { variable = refl; stands = refl; value = λ a. sym (and_parts (term_holds formula a quantified.1) _ (all a)).0 },
@@ -206,14 +243,17 @@ true_recovered graph ordered formula vars trail are values from = record {
         sym (ap from.first place.2) ∙ first_false (levels graph) (by_level graph.order from.first) from.least (levels graph)
         (omega arith) place.0 place.1
 
-pub tautologies_recovered : (formula : Formula) (graph : Graph) (moves : List Move) (plan : IsAdmissible formula moves)
+pub tautologies_recovered : (formula : Formula) (graph : Graph) (moves : List Move)
+    (plan : IsAdmissible formula (in_order graph.order moves))
     → IsOrder graph.order → AreClausesOf formula.vars formula.clauses → levels graph ≡ formula.vars
     → ((a : Assignment) → AllHold formula a) → (values : List Bool) → IsRecoveredFrom graph True [] values
     → IsRecovered formula graph.order moves values
 tautologies_recovered formula graph moves plan ordered literals vars all values from =
     let trail = plan.last.trail in
-    recovered formula graph moves plan literals vars True (λ a. sym
-    (true_after_all formula a (all a) moves no_stage plan.last refl plan.possible))
+    let ordered_moves = in_order graph.order moves in
+    recovered formula graph graph.order moves refl plan literals vars True (λ a. sym
+    (true_after_all formula a (all a) ordered_moves no_stage plan.last refl plan.possible))
     values (by_terms formula graph True (true_nodes trail) trail
-    (true_kept formula graph trail (λ a. trail_true formula a (all a) moves no_stage plan.last plan.possible refl refl))
-    values (true_recovered graph ordered formula vars trail (are_variables formula moves no_stage plan.last plan.possible tt) values from))
+    (true_kept formula graph trail (λ a. trail_true formula a (all a) ordered_moves no_stage plan.last plan.possible refl refl))
+    values (true_recovered graph ordered formula vars trail (are_variables formula ordered_moves no_stage plan.last plan.possible tt)
+    values from))

@@ -9,7 +9,7 @@ use Rattle.node_table.specs.declared.error.TableError.TheVariants.{NodeLimit, Ou
 use Rattle.node_table.specs.Diagram.{Graph, IsOrder, KeepsNodes, levels}
 use Rattle.node_table.specs.HandedOn.{no_error, same_error}
 use Rattle.node_table.specs.Laws.{Canonical, Growth, StepByStep, Subfunctions}
-use Rattle.node_table.specs.Made.{LacksPart}
+use Rattle.quantify.specs.RunsFor.{LacksOneOf}
 use Rattle.node_table.specs.Progress.{Continues, Leaves, error_of}
 use Rattle.node_table.specs.Refused.{no_nodes_left}
 use Rattle.node_table.specs.Table.{TableState, AddsAtMost, AddsNoEmpty, defining_clauses, live_nodes}
@@ -21,11 +21,11 @@ use Rattle.term_runner.specs.declared.terms.Terms.{Terms}
 use Rattle.term_runner.specs.Caches.{HaveRoom, HaveSize, all_entries, sizes}
 use Rattle.term_runner.specs.Trail.{IsTrail}
 use Rattle.term_runner.specs.Moves.{Moved, Tried}
-use Rattle.term_runner.specs.Nodes.{KeepsOrMakes}
+use Rattle.term_runner.specs.Nodes.{IsGivenPart, KeepsOrMakes}
 use Rattle.term_runner.specs.Price.{AddsFew, IsMovePrice}
 use Rattle.term_runner.specs.Terms.{HasOwnUnits, IsAtStage, IsOpen}
 use Rattle.term_runner.specs.Tidy.{LeavesReached, WasDue, WereLeft, held_nodes}
-use Rattle.term_runner.specs.Width.{HoldsAtMost, top_function}
+use Rattle.term_runner.specs.Width.{HoldsAtMost}
 use Rattle.term_runner.proofs.Due.{due_at_limit}
 use Rattle.term_runner.proofs.FewLeft.{few_left}
 use Rattle.term_runner.proofs.Giving.{units_settled}
@@ -62,8 +62,8 @@ module _ {S : Type 0} (formula : Formula) (stage next : Stage) (old mid : Terms 
       → AddsAtMost (2 * (width * width) + 1) old.table new
   pairs_still width room most = let few = own.pairs width room most in omega (arith, few, top, ap defining_clauses nodes)
 
-  made_still : KeepsOrMakes old.table.graph new.graph (top_function formula old.table.graph.order next.stack)
-  made_still = subst (λ (graph : Graph). KeepsOrMakes old.table.graph graph (top_function formula old.table.graph.order next.stack))
+  made_still : KeepsOrMakes old.table.graph new.graph (IsGivenPart formula old.table.graph.order stage next)
+  made_still = subst (λ (graph : Graph). KeepsOrMakes old.table.graph graph (IsGivenPart formula old.table.graph.order stage next))
       (sym nodes) own.made
 
   -- a write failed
@@ -134,7 +134,7 @@ module _ {S : Type 0} (formula : Formula) (stage next : Stage) (old mid : Terms 
       adds = adds_still;
       pairs = pairs_still;
       made = made_still;
-      lacks = λ limit. subst (λ (graph : Graph). LacksPart graph (top_function formula old.table.graph.order next.stack)) (sym nodes)
+      lacks = λ limit. subst (λ (graph : Graph). LacksOneOf graph (IsGivenPart formula old.table.graph.order stage next)) (sym nodes)
           (own.lacks limit);
       sizes = own.sizes;
       left = own.left;
@@ -148,8 +148,8 @@ settled_ok (Err error) P from = tt
 module _ {S : Type 0} (growth : Growth) (canonical : Canonical) (formula : Formula) (order : List ℕ) (stage next : Stage) (step : Move)
     (leads : after_move formula stage step ≡ Some next) (old new : Terms S) (r : Result Bool TableError)
     (own : Tried formula stage next old new r) (same : old.table.graph.order ≡ order) where
-  made_at : KeepsOrMakes old.table.graph new.table.graph (top_function formula order next.stack)
-  made_at = subst (λ (o : List ℕ). KeepsOrMakes old.table.graph new.table.graph (top_function formula o next.stack)) same own.made
+  made_at : KeepsOrMakes old.table.graph new.table.graph (IsGivenPart formula order stage next)
+  made_at = subst (λ (o : List ℕ). KeepsOrMakes old.table.graph new.table.graph (IsGivenPart formula o stage next)) same own.made
 
   half : (size width price : ℕ) → HaveSize old.caches size → IsMovePrice (length order) size width price
       → HoldsAtMost formula order stage next width → 2 * new.table.book.state.top ≤ 2 * old.table.book.state.top + price
@@ -204,8 +204,8 @@ module _ {S : Type 0} (growth : Growth) (canonical : Canonical) (steps : StepByS
   unrefuted_yet : AddsNoEmpty old.table one.table
   unrefuted_yet = first.no_empty (λ torn. no_nodes_left (same_error torn)) (λ is. no_error (sym is))
 
-  due : WasDue old.table.graph (top_function formula old.table.graph.order next.stack) old.table.max_nodes old.left
-  due = due_at_limit old.table one.table (top_function formula old.table.graph.order next.stack) old.left NodeLimit refl first.leaves
+  due : WasDue old.table.graph (IsGivenPart formula old.table.graph.order stage next) old.table.max_nodes old.left
+  due = due_at_limit old.table one.table (IsGivenPart formula old.table.graph.order stage next) old.left NodeLimit refl first.leaves
       first.made
 
   -- that is refused
@@ -222,7 +222,7 @@ module _ {S : Type 0} (growth : Growth) (canonical : Canonical) (steps : StepByS
         (steps.leave old.table one.table mid.table (Some came) first.leaves.0 leaves);
     no_empty = λ whole unrefuted. further_empty old.table one.table mid.table unrefuted_yet
         (fewer_left {T = ℕ} one.table mid.table (Err came) leaves (λ torn. whole (is ∙ ap Err (same_error torn))) top);
-    made = subst (λ (graph : Graph). KeepsOrMakes old.table.graph graph (top_function formula old.table.graph.order next.stack))
+    made = subst (λ (graph : Graph). KeepsOrMakes old.table.graph graph (IsGivenPart formula old.table.graph.order stage next))
         (sym graph) first.made;
     lacks = λ limit. absurd (no_limit_here limit);
     full = λ limit. absurd (no_limit_here limit);
@@ -248,7 +248,7 @@ module _ {S : Type 0} (growth : Growth) (canonical : Canonical) (steps : StepByS
     continues : Continues old.table mid.table
     continues = steps.go_on old.table one.table mid.table first.leaves.0 so_far
 
-    made_last : KeepsOrMakes mid.table.graph new.table.graph (top_function formula old.table.graph.order next.stack)
+    made_last : KeepsOrMakes mid.table.graph new.table.graph (IsGivenPart formula old.table.graph.order stage next)
     made_last = made_at growth canonical formula old.table.graph.order stage next step leads mid new r second continues.order
 
     abbrev were : WereLeft formula old.table.graph.order stage new.left
@@ -267,8 +267,8 @@ module _ {S : Type 0} (growth : Growth) (canonical : Canonical) (steps : StepByS
           (further_empty old.table one.table mid.table unrefuted_yet (fewer_empty one.table mid.table so_far top))
           (second.no_empty whole unrefuted);
       made = made_behind old.table.graph one.table.graph mid.table.graph new.table.graph (held_nodes mid.out.items mid.trail.recent)
-          (top_function formula old.table.graph.order next.stack) first.made reached made_last;
-      lacks = λ limit. subst (λ (order : List ℕ). LacksPart new.table.graph (top_function formula order next.stack)) continues.order
+          (IsGivenPart formula old.table.graph.order stage next) first.made reached made_last;
+      lacks = λ limit. subst (λ (order : List ℕ). LacksOneOf new.table.graph (IsGivenPart formula order stage next)) continues.order
           (second.lacks limit);
       full = λ limit. (were, made_last);
       left = inr (inl were);

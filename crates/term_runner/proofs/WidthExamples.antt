@@ -8,7 +8,8 @@ use Rattle.schedule_plan.specs.declared.plan.Move.{Move}
 use Rattle.schedule_plan.specs.declared.plan.Move.TheVariants.{Push}
 use Rattle.schedule_plan.specs.Plan.{Stage, Term, after_move, conjoin, input, no_stage}
 use Rattle.term_runner.specs.Examples.{one_clause, one_variable}
-use Rattle.term_runner.specs.Width.{HasWidth, IsWider, IsEssential, IsInHand, IsMove, IsPartInHand, IsResult, part_at, term_function}
+use Rattle.term_runner.specs.Width.{HasWidth, IsWider, IsEssential, IsInHand, IsMove, IsPartInHand, part_at, term_function}
+use Rattle.schedule_plan.specs.SetMove.{IsGiven, in_order}
 
 or_false : (b : Bool) → (b || false) ≡ b
 or_false true = refl
@@ -33,6 +34,10 @@ part_is part is essential = go is.level is.fixed is.same
         absurd (essential (fixed 0) (λ b. same b ∙ function_is (fixed_to (suc level) fixed b)
         ∙ ap (λ t. if t then fixed 0 else b 0) (lt-ltb 0 (suc level) (omega arith))))
 
+only : (term : Term) → Contains (input 1 ∷ []) term → input 1 ≡ term
+only term (zero, small, at) = at
+only term (suc k, small, at) = absurd (omega (arith, small))
+
 -- no other term is in hand
 behind_push : (before after : Stage) (step : Move) → no_stage ≡ before → Push 1 ≡ step → after_move one_clause before step ≡ Some after
     → (term : Term) → IsInHand before after term → input 1 ≡ term
@@ -46,11 +51,12 @@ behind_push before after step start first leads term there =
       | inr rest ↦ elim rest [
         | inl kept ↦ let none : Contains [] term = subst (λ (s : Stage). Contains (map (λ (k : ℕ × Term). k.1) s.trail) term)
             (sym start) kept in absurd (omega (arith, none.1))
-        | inr is ↦ subst (λ (s : Stage). IsResult s.stack term) (sym result) is
+        | inr is ↦ only term (subst (λ (s : Stage). IsGiven no_stage s term) (sym result)
+            (subst (λ (s : Stage). IsGiven s after term) (sym start) is))
       ]
     ]
 
-in_hand_is : (count : ℕ) (before after : Stage) → IsMove one_clause (conjoin 1) count before after → (term : Term)
+in_hand_is : (count : ℕ) (before after : Stage) → IsMove one_clause (in_order one_variable (conjoin 1)) count before after → (term : Term)
     → IsInHand before after term → input 1 ≡ term
 in_hand_is zero before after move = behind_push before after move.step (inside no_stage before move.reached)
     (inside (Push 1) move.step move.is) move.leads
@@ -84,7 +90,7 @@ one_at_least itself =
         parts = function ∷ [];
         more = omega arith;
         are = λ place small. elim place as (λ n. n < 1 → IsPartInHand one_clause one_variable no_stage after (part_at (function ∷ []) n)) [
-          | zero ↦ λ _. record { term = input 1; in_hand = inr (inr refl); is_part = itself function }
+          | zero ↦ λ _. record { term = input 1; in_hand = inr (inr (zero, omega arith, refl)); is_part = itself function }
           | suc n ↦ λ less. absurd (omega (arith, less))
         ] small;
         essential = λ place small. elim place as (λ n. n < 1 → IsEssential (part_at (function ∷ []) n)) [

@@ -8,12 +8,12 @@ use Rattle.node_table.specs.declared.node.Justification.TheVariants.{Clause}
 use Rattle.node_table.specs.Defined.{atom_of}
 use Rattle.node_table.specs.Diagram.{Graph, is_node, levels}
 use Rattle.node_table.specs.Justification.{IsJustified}
-use Rattle.node_table.specs.Made.{LacksPart, MakesOnly}
 use Rattle.node_table.specs.Progress.{StepsOrRefutes, error_of}
 use Rattle.node_table.specs.Table.{TableState, AddsAtMost, AddsNoEmpty, UnlessTorn}
 use Rattle.node_table.specs.Value.{Levels, value_of}
 use Rattle.operations.specs.Budget.{most_additions}
 use Rattle.operations.specs.Entries.{Entry, Fits, IsAccounted}
+use Rattle.quantify.specs.RunsFor.{Kind, LacksOneOf, MakesOnlyOf}
 use Rattle.lrat_rules.specs.State.{Live}
 use Rattle.clause_terms.specs.Term.{IsTerm}
 use Rattle.term_runner.specs.declared.caches.Caches.{Caches}
@@ -40,10 +40,10 @@ AreFew graph [] width = ⊤
 AreFew graph (held ∷ operands) width = HasAtMost (λ a. value_of graph a held.node) width × AreFew graph operands width
 
 -- A call that finds a term of this function, by levels and by assignments, from these operands. Its unit is one of theirs, or was
--- added by the call, which loses no clause. However it ends, the nodes that it makes are of parts of the function, and the clauses
+-- added by the call, which loses no clause. However it ends, the nodes that it makes are of functions of this kind, and the clauses
 -- beside them so many at most, or two for each pair of parts where the caches have room for all. An empty clause comes only where
--- the term is False, or a write failed. At the limit of nodes some part is the function of none, and no unit is lost.
-pub record Finds {S : Type 0} (function : Levels → Bool) (holds : Assignment → Bool) (operands : List HeldTerm)
+-- the term is False, or a write failed. At the limit of nodes some function of the kind is that of none, and no unit is lost.
+pub record Finds {S : Type 0} (kind : Kind) (function : Levels → Bool) (holds : Assignment → Bool) (operands : List HeldTerm)
     (old new : TableState S) (before after : Caches) (result : Result HeldTerm TableError) : Type 0 where
   pub term : IfOk result (λ held. IsTerm new.graph new.book.state.live holds held.node held.unit)
   pub gives : IfOk result (λ held. GivesUnit old new (all_entries before) (all_entries after) operands held.unit)
@@ -52,8 +52,8 @@ pub record Finds {S : Type 0} (function : Levels → Bool) (holds : Assignment �
   pub fits : UnlessTorn result (Fits new (all_entries after))
   pub again : result ≡ Err NodeLimit → (stack : List HeldTerm) → HasUnits old (all_entries before) stack
       → HasUnits new (all_entries after) stack
-  pub made : MakesOnly old.graph new.graph function
-  pub lacks : result ≡ Err NodeLimit → LacksPart new.graph function
+  pub made : MakesOnlyOf old.graph new.graph kind
+  pub lacks : result ≡ Err NodeLimit → LacksOneOf new.graph kind
   pub pairs : (width : ℕ) → HaveRoom before width → AreFew old.graph operands width → HasAtMost function width
       → AddsAtMost (2 * (width * width) + 1) old new
   pub sizes : sizes after ≡ sizes before

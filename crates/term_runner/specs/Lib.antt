@@ -17,3 +17,4 @@ pub mod Examples
 pub mod Trial
 pub mod Unused
 pub mod Runner
+pub mod Sets

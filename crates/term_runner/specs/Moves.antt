@@ -5,22 +5,24 @@ use Rattle.lrat_rules.specs.State.{clause_at}
 use Rattle.node_table.specs.declared.error.TableError.{TableError}
 use Rattle.node_table.specs.declared.error.TableError.TheVariants.{NodeLimit}
 use Rattle.node_table.specs.Diagram.{KeepsNodes, levels}
-use Rattle.node_table.specs.Made.{LacksPart}
 use Rattle.node_table.specs.Progress.{Leaves, error_of}
 use Rattle.node_table.specs.Table.{AddsAtMost, UnlessTorn, live_nodes}
 use Rattle.operations.specs.Budget.{most_additions}
+use Rattle.quantify.specs.RunsFor.{LacksOneOf}
 use Rattle.schedule_plan.specs.declared.plan.Move.{Move}
 use Rattle.schedule_plan.specs.Plan.{Stage, after_move}
+use Rattle.schedule_plan.specs.SetMove.{move_in_order}
 use Rattle.term_runner.specs.declared.terms.Terms.{Terms}
 use Rattle.term_runner.specs.Caches.{HaveRoom, HaveSize, sizes}
 use Rattle.term_runner.specs.Held.{IsUnrefuted}
-use Rattle.term_runner.specs.Nodes.{KeepsOrMakes}
+use Rattle.term_runner.specs.Nodes.{IsGivenPart, KeepsOrMakes}
 use Rattle.term_runner.specs.Price.{AddsFew, IsMovePrice}
 use Rattle.term_runner.specs.Terms.{HasOwnUnits, IsAtStage, IsOpen}
 use Rattle.term_runner.specs.Tidy.{IsByRule, WereLeft}
-use Rattle.term_runner.specs.Width.{HoldsAtMost, top_function}
+use Rattle.term_runner.specs.Width.{HoldsAtMost}
 
--- Between two moves: no clause waits for its deletion, and the terms are those of a stage, from which the move leads on.
+-- Between two moves: no clause waits for its deletion, and the terms are those of a stage, from which the move leads on. The variables
+-- of a set are quantified in the reversed order.
 pub record MayMove {S : Type 0} (formula : Formula) (step : Move) (terms : Terms S) : Type 0 where
   pub ready : IsOpen formula terms
   pub settled : terms.table.retired ≡ []
@@ -28,7 +30,7 @@ pub record MayMove {S : Type 0} (formula : Formula) (step : Move) (terms : Terms
   pub stage : Stage
   pub next : Stage
   pub at : IsAtStage formula terms stage
-  pub leads : after_move formula stage step ≡ Some next
+  pub leads : after_move formula stage (move_in_order terms.table.graph.order step) ≡ Some next
 
 -- A try of a move from this stage to the next. Done, it leaves the terms of the next one, or the formula is refuted. Else
 -- it leaves its operands, unless a write failed, and at the limit of nodes it may be tried again. However it ends, nodes stay,
@@ -48,8 +50,8 @@ pub record Tried {S : Type 0} (formula : Formula) (stage next : Stage) (old new 
   pub adds : AddsAtMost (most_additions (levels old.table.graph) + 1) old.table new.table
   pub pairs : (width : ℕ) → HaveRoom old.caches width → HoldsAtMost formula old.table.graph.order stage next width
       → AddsAtMost (2 * (width * width) + 1) old.table new.table
-  pub made : KeepsOrMakes old.table.graph new.table.graph (top_function formula old.table.graph.order next.stack)
-  pub lacks : result ≡ Err NodeLimit → LacksPart new.table.graph (top_function formula old.table.graph.order next.stack)
+  pub made : KeepsOrMakes old.table.graph new.table.graph (IsGivenPart formula old.table.graph.order stage next)
+  pub lacks : result ≡ Err NodeLimit → LacksOneOf new.table.graph (IsGivenPart formula old.table.graph.order stage next)
   pub sizes : sizes new.caches ≡ sizes old.caches
   pub left : new.left ≡ old.left
 
@@ -64,13 +66,13 @@ pub record Moved {S : Type 0} (formula : Formula) (stage next : Stage) (old new 
   pub own : IfOk result (λ refuted. refuted ≡ false → HasOwnUnits new)
   pub leaves : Leaves old.table new.table (error_of result)
   pub no_empty : IsUnrefuted old.table new.table result
-  pub made : KeepsOrMakes old.table.graph new.table.graph (top_function formula old.table.graph.order next.stack)
-  pub lacks : result ≡ Err NodeLimit → LacksPart new.table.graph (top_function formula old.table.graph.order next.stack)
+  pub made : KeepsOrMakes old.table.graph new.table.graph (IsGivenPart formula old.table.graph.order stage next)
+  pub lacks : result ≡ Err NodeLimit → LacksOneOf new.table.graph (IsGivenPart formula old.table.graph.order stage next)
   pub full : result ≡ Err NodeLimit → (were : WereLeft formula old.table.graph.order stage new.left)
-      × KeepsOrMakes were.graph new.table.graph (top_function formula old.table.graph.order next.stack)
+      × KeepsOrMakes were.graph new.table.graph (IsGivenPart formula old.table.graph.order stage next)
   pub left : (new.left ≡ old.left) ⊎ (WereLeft formula old.table.graph.order stage new.left
       ⊎ WereLeft formula old.table.graph.order next new.left)
-  pub rule : IsByRule old.table.graph new.table.graph (top_function formula old.table.graph.order next.stack) old.table.max_nodes
+  pub rule : IsByRule old.table.graph new.table.graph (IsGivenPart formula old.table.graph.order stage next) old.table.max_nodes
       old.left new.left
   pub price : (size width price : ℕ) → HaveSize old.caches size → IsMovePrice (levels old.table.graph) size width price
       → HoldsAtMost formula old.table.graph.order stage next width → new.table.book.state.top ≤ old.table.book.state.top + price

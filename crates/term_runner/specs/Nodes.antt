@@ -7,23 +7,31 @@ use Rattle.node_table.specs.Diagram.{Graph, branch_at, is_node}
 use Rattle.node_table.specs.Made.{inner}
 use Rattle.node_table.specs.Value.{Levels, value_of, IsSubfunction}
 use Rattle.schedule_plan.specs.declared.plan.Move.{Move}
-use Rattle.schedule_plan.specs.Plan.{Stage}
-use Rattle.term_runner.specs.Width.{IsMove, IsPartInHand}
+use Rattle.schedule_plan.specs.Plan.{Stage, Term}
+use Rattle.schedule_plan.specs.SetMove.{IsGiven, in_order}
+use Rattle.quantify.specs.RunsFor.{Kind}
+use Rattle.term_runner.specs.Width.{IsMove, IsPartInHand, term_function}
 
 -- At a move each node has the function of a part in hand, and so has a further one, which is that of no node.
 pub record RunsShort (formula : Formula) (order : List ℕ) (moves : List Move) (graph : Graph) : Type 0 where
   pub count : ℕ
   pub before : Stage
   pub after : Stage
-  pub move : IsMove formula moves count before after
+  pub move : IsMove formula (in_order order moves) count before after
   pub in_hand : (key : ℕ) (branch : Branch) → branch_at graph key ≡ Some branch
       → IsPartInHand formula order before after (λ a. value_of graph a (inner key))
   pub further : Levels → Bool
   pub is_part : IsPartInHand formula order before after further
   pub nowhere : (node : Node) → IsTrue (is_node graph node) → ((a : Levels) → value_of graph a node ≡ further a) → ⊥
 
--- After a move each node is one that was there, with its function, or its function is a part of this one.
-pub record KeepsOrMakes (old new : Graph) (function : Levels → Bool) : Type 0 where
+-- a part of a term that a move gives: of its result, or of one that it puts on the trail
+pub record IsGivenPart (formula : Formula) (order : List ℕ) (before after : Stage) (part : Levels → Bool) : Type 0 where
+  pub term : Term
+  pub is_given : IsGiven before after term
+  pub is_part : IsSubfunction (term_function formula order term) part
+
+-- After a move each node is one that was there, with its function, or its function is of this kind.
+pub record KeepsOrMakes (old new : Graph) (kind : Kind) : Type 0 where
   pub each : (key : ℕ) (branch : Branch) → branch_at new key ≡ Some branch
       → ((branch_at old key ≡ Some branch) × ((a : Levels) → value_of new a (inner key) ≡ value_of old a (inner key)))
-      ⊎ IsSubfunction function (λ a. value_of new a (inner key))
+      ⊎ kind (λ a. value_of new a (inner key))

@@ -6,6 +6,7 @@ use Rattle.cnf_base.specs.Truth.{Assignment, Satisfies, assignment_of, with_valu
 use Rattle.cnf_base.specs.Formula.{Formula}
 use Rattle.schedule_plan.specs.declared.plan.Move.{Move}
 use Rattle.schedule_plan.specs.Plan.{Term, Stage, term_holds, after_moves, no_stage}
+use Rattle.schedule_plan.specs.SetMove.{in_order}
 
 -- It makes the function true. Each other one that does has true where it has, at the first place where they differ.
 pub record IsLeastIn (order : List ℕ) (holds : Assignment → Bool) (a : Assignment) : Type 0 where
@@ -29,11 +30,12 @@ set_all_back formula a [] = a
 set_all_back formula a (kept ∷ trail) = set_all_back formula (set_back formula a kept) trail
 
 -- One value for each variable: those of the least assignment that satisfies the plan's last term, and behind it the
--- quantified variables, set back one after another. These values satisfy the formula.
+-- quantified variables, set back one after another; those of a set were quantified in the reversed order. These values satisfy the
+-- formula.
 pub record IsRecovered (formula : Formula) (order : List ℕ) (moves : List Move) (values : List Bool) : Type 0 where
   pub one_each : length values ≡ formula.vars
   pub last : Stage
-  pub reached : after_moves formula no_stage moves ≡ Some last
+  pub reached : after_moves formula no_stage (in_order order moves) ≡ Some last
   pub first : Assignment
   pub least : IsLeastIn order (λ a. stack_holds formula a last.stack) first
   pub recovered : (variable : ℕ) → 0 < variable → assignment_of values variable ≡ set_all_back formula first last.trail variable

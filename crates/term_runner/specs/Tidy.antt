@@ -1,6 +1,6 @@
 -- How many nodes a run keeps: between two moves fewer than a thousand, or fewer than twice those that the last reclamation
 -- left, which its terms reached.
-use Rattle.std.specs.Prelude.{◌≡◌, ◌⊎◌, ◌<◌, ◌≤◌, ◌++◌, ◌*◌, ℕ, Bool, List, Contains, Some, IsTrue, map}
+use Rattle.std.specs.Prelude.{◌≡◌, ◌⊎◌, ◌<◌, ◌≤◌, ◌++◌, ◌*◌, ℕ, List, Contains, Some, IsTrue, map}
 use Rattle.cnf_base.specs.Formula.{Formula}
 use Rattle.lrat_rules.specs.State.{Live}
 use Rattle.node_table.specs.declared.node.Node.{Node}
@@ -10,6 +10,8 @@ use Rattle.node_table.specs.Made.{inner}
 use Rattle.node_table.specs.Marks.{IsReached}
 use Rattle.node_table.specs.Table.{live_nodes}
 use Rattle.node_table.specs.Value.{Levels, value_of}
+use Rattle.quantify.specs.RunsFor.{Kind}
+use Rattle.reconstruction.specs.declared.entries.Kept.{Kept}
 use Rattle.reconstruction.specs.Stack.{Stack}
 use Rattle.schedule_plan.specs.Plan.{Stage}
 use Rattle.term_runner.specs.declared.held.HeldTerm.{HeldTerm}
@@ -21,20 +23,20 @@ abbrev pub IsTidy : ℕ → ℕ → Type 0
 IsTidy live left = (live < 1000) ⊎ (live < 2 * left)
 
 -- the nodes of the stacked terms, and those on the trail that aren't stored
-abbrev pub held_nodes : List HeldTerm → List (ℕ × Node) → List Node
-held_nodes stack trail = map (λ held. held.node) stack ++ map (λ kept. kept.1) trail
+abbrev pub held_nodes : List HeldTerm → List Kept → List Node
+held_nodes stack trail = map (λ held. held.node) stack ++ map (λ kept. kept.node) trail
 
 -- A reclamation was due: of the nodes that there were, and those that a move makes, the limit of nodes was met, or they were
 -- not few any more.
-pub record WasDue (old : Graph) (function : Levels → Bool) (max_nodes left : ℕ) : Type 0 where
+pub record WasDue (old : Graph) (kind : Kind) (max_nodes left : ℕ) : Type 0 where
   pub graph : Graph
   pub reduced : IsReduced graph
-  pub made : KeepsOrMakes old graph function
+  pub made : KeepsOrMakes old graph kind
   pub many : (max_nodes ≤ live_nodes graph) ⊎ (IsTidy (live_nodes graph) left → ⊥)
 
 -- nothing was given back, or it was due
-abbrev pub IsByRule : Graph → Graph → (Levels → Bool) → ℕ → ℕ → ℕ → Type 0
-IsByRule old new function max_nodes before after = (KeepsNodes old new × (after ≡ before)) ⊎ WasDue old function max_nodes before
+abbrev pub IsByRule : Graph → Graph → Kind → ℕ → ℕ → ℕ → Type 0
+IsByRule old new kind max_nodes before after = (KeepsNodes old new × (after ≡ before)) ⊎ WasDue old kind max_nodes before
 
 -- Only nodes are left that the roots reach, as they were, with their functions.
 pub record LeavesReached (old new : Graph) (roots : List Node) : Type 0 where

@@ -2,22 +2,18 @@
 -- and of no diagram. A reduced diagram has a node for each part of its function that isn't constant. (Bryant: Graph-Based
 -- Algorithms for Boolean Function Manipulation, 1986, section 3; Bryant, Heule: Generating Extended Resolution Proofs with a
 -- BDD-Based SAT Solver, 2021, section 5.)
-use Rattle.std.specs.Prelude.{◌≡◌, ◌⊎◌, ◌<◌, ℕ, Bool, true, false, List, [], ◌∷◌, length, take, map, Contains, Some, slice_index_or}
+use Rattle.std.specs.Prelude.{◌≡◌, ◌⊎◌, ◌<◌, ℕ, Bool, false, List, length, take, map, Contains, Some, slice_index_or}
 use Rattle.std.specs.List.{slice_get}
 use Rattle.cnf_base.specs.Formula.{Formula}
 use Rattle.node_table.specs.Value.{Levels, IsSubfunction}
 use Rattle.schedule_plan.specs.declared.plan.Move.{Move}
 use Rattle.schedule_plan.specs.Plan.{Term, Stage, term_holds, after_move, after_moves, no_stage}
+use Rattle.schedule_plan.specs.SetMove.{IsGiven, in_order}
 use Rattle.clause_terms.specs.Term.{by_variable}
 
 -- a term's function, by levels
 abbrev pub term_function : Formula → List ℕ → Term → Levels → Bool
 term_function formula order term a = term_holds formula (by_variable order a) term
-
--- that of the last term; without terms it is true
-abbrev pub top_function : Formula → List ℕ → List Term → Levels → Bool
-top_function formula order [] a = true
-top_function formula order (term ∷ terms) a = term_function formula order term a
 
 -- A move of the plan, the one behind so many others, leads from a stage to the next.
 pub record IsMove (formula : Formula) (moves : List Move) (count : ℕ) (before after : Stage) : Type 0 where
@@ -26,14 +22,9 @@ pub record IsMove (formula : Formula) (moves : List Move) (count : ℕ) (before 
   pub reached : after_moves formula no_stage (take count moves) ≡ Some before
   pub leads : after_move formula before step ≡ Some after
 
--- a move's result is the last term behind it
-abbrev pub IsResult : List Term → Term → Type 0
-IsResult [] term = ⊥
-IsResult (top ∷ stack) term = top ≡ term
-
--- in hand at a move: the terms that are stacked or on the trail before it, and its result
+-- in hand at a move: the terms that are stacked or on the trail before it, its result, and the terms that it puts on the trail
 abbrev pub IsInHand : Stage → Stage → Term → Type 0
-IsInHand before after term = Contains before.stack term ⊎ (Contains (map (λ kept. kept.1) before.trail) term ⊎ IsResult after.stack term)
+IsInHand before after term = Contains before.stack term ⊎ (Contains (map (λ kept. kept.1) before.trail) term ⊎ IsGiven before after term)
 
 -- a part of a term in hand: its function with some first variables of the order fixed
 pub record IsPartInHand (formula : Formula) (order : List ℕ) (before after : Stage) (part : Levels → Bool) : Type 0 where
@@ -73,12 +64,12 @@ HasAtMost function number = AreMore (IsSubfunction function) number → ⊥
 abbrev pub HoldsAtMost : Formula → List ℕ → Stage → Stage → ℕ → Type 0
 HoldsAtMost formula order before after number = HoldsMore formula order before after number → ⊥
 
--- at some move of the plan there are more
+-- at some move of the plan there are more, where the variables of each set are quantified in the reversed order
 pub record IsWider (formula : Formula) (order : List ℕ) (moves : List Move) (number : ℕ) : Type 0 where
   pub count : ℕ
   pub before : Stage
   pub after : Stage
-  pub move : IsMove formula moves count before after
+  pub move : IsMove formula (in_order order moves) count before after
   pub more : HoldsMore formula order before after number
 
 -- the width of the plan is this number at most

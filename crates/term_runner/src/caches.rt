@@ -13,15 +13,19 @@ ghost use Rattle.operations.specs.Results.{Conjoined, Quantified};
 ghost use Rattle.apply_and.specs.Conjunction.{conjunction_of};
 ghost use Rattle.imply.specs.Implication.{IsDecided};
 ghost use Rattle.quantify.specs.Quantification.{quantification_of};
+ghost use Rattle.quantify.specs.RunsFor.{LacksOneOf, MakesOnlyOf};
+ghost use Rattle.quantify.specs.SomeValues.{AreLevels, IsFromPlace, SetQuantified, function_of};
 ghost use Rattle.term_runner.specs.Caches.{HaveSize, KeepsEntries, all_entries, sizes};
 
+use crate::capacity::Capacity;
+use crate::gauge::{CacheLookups, Lookups};
 use apply_and::{AndCache, and};
 use cnf_base::OutOfMemory;
 use host_io::Sink;
 use imply::{ImplyCache, implies};
 use node_table::{Justification, Marks, Node, Table, TableError, steps_law};
 use operations::{Purge, entry_law, purge_law};
-use quantify::{ExistsCache, OrCache, exists};
+use quantify::{ExistsCache, OrCache, exists, exists_all};
 use std::alloc::Global;
 
 /// The caches of conjunctions, implications, quantifications and disjunctions.
@@ -31,6 +35,8 @@ pub struct Caches {
     implications: ImplyCache,
     quantifications: ExistsCache,
     ors: OrCache,
+    // How many entries each may have.
+    capacity: Capacity,
 }
 
 impl Caches {
@@ -48,7 +54,18 @@ impl Caches {
             implications,
             quantifications,
             ors,
+            capacity: Capacity::new(capacity),
         })
+    }
+
+    /// The look-ups so far.
+    pub fn lookups(&self) -> CacheLookups {
+        CacheLookups {
+            conjunctions: lookups_of(self.ands.uses()),
+            implications: lookups_of(self.implications.uses()),
+            quantifications: lookups_of(self.quantifications.uses()),
+            disjunctions: lookups_of(self.ors.uses()),
+        }
     }
 
     /// For the prover alone: no more entries name clauses than two caches may have.
@@ -141,6 +158,31 @@ impl Caches {
         entry_law::<S>();
         exists(table, &mut self.quantifications, &mut self.ors, u, level)
     }
+
+    /// The node that holds where some values of these levels' variables make u hold. What is found but for disjunctions is forgotten.
+    pub fn exists_all<S: Sink + Drop>(
+        &mut self,
+        table: &mut Table<S>,
+        u: Node,
+        set: &[u32],
+    ) -> Result<Node, TableError>
+        requires sound { IsSound table.old }
+        requires stands { IsTrue (is_node table.old.graph u) }
+        requires fits { Fits table.old (all_entries self.old) }
+        requires levels { AreLevels table.old.graph set.now }
+        ensures quantified { IfOk result (λ w. SetQuantified table.new.graph u set.now w) }
+        ensures steps { Steps table.old table.new 0
+            (error_of result) }
+        ensures keeps { KeepsEntries table.old table.new (all_entries self.old) (all_entries self.new) (error_of result) }
+        ensures accounts { UnlessTorn result (Accounts table.old table.new (all_entries self.old) (all_entries self.new)) }
+        ensures sizes { sizes self.new ≡ sizes self.old }
+        // Each new node is a subfunction of what u becomes by the levels from some place of the set on.
+        ensures made { MakesOnlyOf table.old.graph table.new.graph (IsFromPlace (function_of table.old.graph u) set.now) }
+        ensures lacks { result ≡ Err NodeLimit → LacksOneOf table.new.graph (IsFromPlace (function_of table.old.graph u) set.now) }
+    {
+        entry_law::<S>();
+        exists_all(table, &mut self.ors, u, set, self.capacity.entries)
+    }
 }
 
 impl Purge for Caches {
@@ -156,5 +198,12 @@ impl Purge for Caches {
         self.implications.purge(table, marks);
         self.quantifications.purge(table, marks);
         self.ors.purge(table, marks);
+    }
+}
+
+fn lookups_of(uses: (u64, u64)) -> Lookups {
+    Lookups {
+        found: uses.0,
+        missed: uses.1,
     }
 }

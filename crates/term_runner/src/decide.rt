@@ -13,6 +13,7 @@ ghost use Rattle.node_table.specs.Progress.{Leaves, error_of};
 ghost use Rattle.node_table.specs.Table.{AddsNoEmpty};
 ghost use Rattle.reconstruction.specs.Stack.{empty_stack};
 ghost use Rattle.schedule_plan.specs.Plan.{IsAdmissible, Term};
+ghost use Rattle.schedule_plan.specs.SetMove.{in_order};
 ghost use Rattle.term_runner.specs.Caches.{HaveSize, all_entries};
 ghost use Rattle.term_runner.specs.Clauses.{is_tautology};
 ghost use Rattle.term_runner.specs.Recovered.{IsRecovered};
@@ -34,7 +35,7 @@ use node_table::{
     Node, Table, TableError, canonical_law, in_use_law, lean_law, steps_law, subfunction_law,
 };
 use reconstruction::{Reconstruction, copies_law};
-use schedule_plan::Plan;
+use schedule_plan::{Plan, set_move_law};
 use std::alloc::Global;
 
 impl<S: Sink + Drop> Terms<S> {
@@ -46,7 +47,7 @@ impl<S: Sink + Drop> Terms<S> {
         formula: &Cnf,
         plan: &Plan,
         capacity: u32,
-        progress: &mut Progress,
+        progress: &mut Progress<'_>,
     ) -> Result<Option<Model>, TableError>
         requires plan { IsAdmissible formula.now plan.now }
         requires capacity { 1 ≤ capacity }
@@ -81,6 +82,7 @@ impl<S: Sink + Drop> Terms<S> {
         steps_law::<S>();
         in_use_law();
         lean_law::<S>();
+        set_move_law();
         formula.formula_law();
         self.table.table_law();
         let alloc = *self.out.allocator();
@@ -97,9 +99,9 @@ impl<S: Sink + Drop> Terms<S> {
         formula: &Cnf,
         plan: &Plan,
         capacity: u32,
-        progress: &mut Progress,
+        progress: &mut Progress<'_>,
     ) -> Result<Option<Model>, TableError>
-        requires plan { IsAdmissible formula.now plan.now }
+        requires plan { IsAdmissible formula.now (in_order self.old.table.graph.order plan.now) }
         requires capacity { 1 ≤ capacity }
         requires no_entries { all_entries self.old.caches ≡ [] }
         requires size { HaveSize self.old.caches capacity }
@@ -141,6 +143,7 @@ impl<S: Sink + Drop> Terms<S> {
                 return Ok(None);
             }
             progress.note(self.table.ledger().last_id());
+            progress.show(self.reading(plan.len()));
         }
         self.caches.few_law();
         let alloc = *self.out.allocator();
@@ -168,7 +171,7 @@ fn recover_all<S: Sink + Drop>(
     table.table_law();
     trail.store(table)?;
     let mut model = recover(alloc, table, node, &Trail::new(alloc))?;
-    trail.set_back(&mut model);
+    trail.set_back(&mut model)?;
     Ok(model)
 }
 

@@ -1,7 +1,8 @@
 // What a move finds: the term of a clause, the conjunction of two terms, and a term without a variable. A term implies what comes
 // of it without a variable, and so the new unit follows from its own. (Bryant, Heule: Generating Extended Resolution Proofs with a
 // BDD-Based SAT Solver, 2021, section 5.)
-ghost use Rattle.std.specs.Prelude.{◌≡◌, ◌≢◌, ◌≤◌, ◌<◌, ◌+◌, ◌-◌, ◌*◌, ◌&&◌, ◌||◌, ℕ, Bool, List, [], ◌∷◌, Err, IsTrue, IfErr, IfOk, length, slice_index_or, true, false};
+ghost use Rattle.std.specs.Prelude.{◌≡◌, ◌≢◌, ◌≤◌, ◌<◌, ◌+◌, ◌-◌, ◌*◌, ◌&&◌, ◌||◌, ℕ, Bool, List, [], ◌∷◌, Err, IsTrue, IfErr, IfOk};
+ghost use Rattle.std.specs.Prelude.{length, slice_index_or, true, false};
 ghost use Rattle.cnf_base.specs.Truth.{Assignment, with_value};
 ghost use Rattle.node_table.specs.declared.error.TableError.TheVariants.{NodeLimit, WriteFault};
 ghost use Rattle.node_table.specs.declared.node.Node.TheVariants.{False};
@@ -10,12 +11,13 @@ ghost use Rattle.node_table.specs.Diagram.{is_node, levels, variable_at};
 ghost use Rattle.node_table.specs.Justification.{IsJustified};
 ghost use Rattle.node_table.specs.Progress.{Steps, error_of};
 ghost use Rattle.node_table.specs.Table.{AddsAtMost, IsSound};
-ghost use Rattle.node_table.specs.Value.{Levels, value_of};
+ghost use Rattle.node_table.specs.Value.{IsSubfunction, Levels, by_level, value_of};
 ghost use Rattle.operations.specs.Budget.{most_additions};
 ghost use Rattle.operations.specs.Entries.{Entry, Fits};
 ghost use Rattle.clause_terms.specs.Term.{IsTerm};
 ghost use Rattle.apply_and.specs.Conjunction.{conjunction_of};
 ghost use Rattle.quantify.specs.Quantification.{quantification_of};
+ghost use Rattle.quantify.specs.SomeValues.{AreLevels, IsFromPlace, function_of, some_values};
 ghost use Rattle.schedule_plan.specs.Plan.{input as input_term, term_holds};
 ghost use Rattle.term_runner.specs.declared.held.HeldTerm.{HeldTerm as HeldValue};
 ghost use Rattle.term_runner.specs.declared.caches.Caches.{Caches as CachesValue};
@@ -35,6 +37,7 @@ use node_table::{
     Justification, Node, Table, TableError, canonical_law, growth_law, steps_law, subfunction_law,
 };
 use operations::entry_law;
+use quantify::set_law;
 use std::alloc::Global;
 
 /// The term of the clause of this number.
@@ -49,7 +52,8 @@ pub fn input<S: Sink + Drop>(
     requires to_len { number ≤ length formula.now.clauses }
     requires some { slice_index_or formula.now.clauses (number - 1) [] ≢ [] }
     ensures finds { (caches : CachesValue) → Fits table.old (all_entries caches)
-        → Finds (term_function formula.now table.old.graph.order (input_term number))
+        → Finds (IsSubfunction (term_function formula.now table.old.graph.order (input_term number)))
+        (term_function formula.now table.old.graph.order (input_term number))
         (λ a. term_holds formula.now a (input_term number)) [] table.old table.new caches caches result }
     ensures one { AddsAtMost 1 table.old table.new }
     // A refusal loses no unit.
@@ -76,7 +80,8 @@ pub fn any_input<S: Sink + Drop>(
     requires from_one { 1 ≤ number }
     requires to_len { number ≤ length formula.now.clauses }
     ensures finds { (caches : CachesValue) → Fits table.old (all_entries caches)
-        → Finds (term_function formula.now table.old.graph.order (input_term number))
+        → Finds (IsSubfunction (term_function formula.now table.old.graph.order (input_term number)))
+        (term_function formula.now table.old.graph.order (input_term number))
         (λ a. term_holds formula.now a (input_term number)) [] table.old table.new caches caches result }
     ensures one { AddsAtMost 1 table.old table.new }
     ensures refused { IfErr result (λ e. e ≢ WriteFault → (kept : List Entry) (terms : List HeldValue) → HasUnits table.old kept terms
@@ -109,7 +114,8 @@ pub fn conjunction<S: Sink + Drop>(
     requires second { IsOperand table.old (all_entries caches.old) v.now }
     ensures { (one other : Assignment → Bool) → IsTerm table.old.graph table.old.book.state.live one u.now.node u.now.unit
         → IsTerm table.old.graph table.old.book.state.live other v.now.node v.now.unit
-        → Finds (conjunction_of table.old.graph u.now.node v.now.node) (λ a. one a && other a) (v.now ∷ u.now ∷ [])
+        → Finds (IsSubfunction (conjunction_of table.old.graph u.now.node v.now.node))
+        (conjunction_of table.old.graph u.now.node v.now.node) (λ a. one a && other a) (v.now ∷ u.now ∷ [])
         table.old table.new caches.old caches.new result }
 {
     canonical_law();
@@ -135,7 +141,8 @@ pub fn own_conjunction<S: Sink + Drop>(
     requires second { IsProved table.old.graph table.old.book.state.live v.now }
     ensures finds { (one other : Assignment → Bool) → IsTerm table.old.graph table.old.book.state.live one u.now.node u.now.unit
         → IsTerm table.old.graph table.old.book.state.live other v.now.node v.now.unit
-        → Finds (conjunction_of table.old.graph u.now.node v.now.node) (λ a. one a && other a) (v.now ∷ u.now ∷ [])
+        → Finds (IsSubfunction (conjunction_of table.old.graph u.now.node v.now.node))
+        (conjunction_of table.old.graph u.now.node v.now.node) (λ a. one a && other a) (v.now ∷ u.now ∷ [])
         table.old table.new caches.old caches.new result }
     ensures own { IfOk result (λ held. GivesUnit table.old table.new (all_entries caches.old) (all_entries caches.new) [] held.unit) }
     // A refusal loses no unit.
@@ -166,7 +173,7 @@ pub fn weaken<S: Sink + Drop>(
     ensures some { IfOk result (λ held. held.node ≢ False) }
     ensures finds { (holds : Assignment → Bool) (variable : ℕ) → variable_at table.old.graph level ≡ variable
         → IsTerm table.old.graph table.old.book.state.live holds u.now.node u.now.unit
-        → Finds (quantification_of table.old.graph u.now.node level)
+        → Finds (IsSubfunction (quantification_of table.old.graph u.now.node level)) (quantification_of table.old.graph u.now.node level)
         (λ a. holds (with_value a variable true) || holds (with_value a variable false)) (u.now ∷ [])
         table.old table.new caches.old caches.new result }
 {
@@ -174,6 +181,32 @@ pub fn weaken<S: Sink + Drop>(
     growth_law();
     steps_law::<S>();
     let node = caches.exists(table, u.node, level)?;
+    let unit = implied_unit(table, caches, u, node)?;
+    Ok(HeldTerm { node, unit })
+}
+
+/// The term without the variables of these levels.
+pub fn weaken_all<S: Sink + Drop>(
+    table: &mut Table<S>,
+    caches: &mut Caches,
+    u: &HeldTerm,
+    set: &[u32],
+) -> Result<HeldTerm, TableError>
+    requires sound { IsSound table.old }
+    requires fits { Fits table.old (all_entries caches.old) }
+    requires operand { IsOperand table.old (all_entries caches.old) u.now }
+    requires levels { AreLevels table.old.graph set.now }
+    ensures some { IfOk result (λ held. held.node ≢ False) }
+    ensures finds { (holds : Assignment → Bool)
+        → ((a : Assignment) → some_values set.now (function_of table.old.graph u.now.node) (by_level table.old.graph.order a) ≡ holds a)
+        → Finds (IsFromPlace (function_of table.old.graph u.now.node) set.now)
+        (some_values set.now (function_of table.old.graph u.now.node)) holds (u.now ∷ []) table.old table.new caches.old caches.new result }
+{
+    canonical_law();
+    growth_law();
+    steps_law::<S>();
+    set_law();
+    let node = caches.exists_all(table, u.node, set)?;
     let unit = implied_unit(table, caches, u, node)?;
     Ok(HeldTerm { node, unit })
 }

@@ -5,11 +5,13 @@
 #![tactic(auto)]
 
 mod caches;
+mod capacity;
 mod decide;
 mod error;
 mod examples;
 mod finish;
 mod found;
+mod gauge;
 mod held;
 mod moves;
 mod open;
@@ -18,6 +20,7 @@ mod progress;
 mod reclamation;
 mod run;
 mod runner;
+mod sets;
 mod term;
 mod terms;
 mod trial;
@@ -26,8 +29,9 @@ mod unit;
 pub use clause_terms::{Model, Trail, push_clause, recover};
 pub use error::RunError;
 pub use examples::width_example;
+pub use gauge::{CacheLookups, Gauge, Lookups, Reading};
 pub use outcome::{Outcome, Run};
-pub use run::{run_plan, run_plan_into};
+pub use run::{run_plan, run_plan_into, run_plan_shown};
 pub use runner::Runner;
 pub use schedule_plan::Limits;
 pub use term::Term;

@@ -1,31 +1,38 @@
 // One move of a plan. (Bryant, Heule: Generating Extended Resolution Proofs with a BDD-Based SAT Solver, 2021,
 // section 5.)
-ghost use Rattle.std.specs.Prelude.{◌≡◌, ◌≢◌, ◌↔◌, ◌<◌, ◌≤◌, ◌⊎◌, ◌+◌, [], Ok, Err, Some, IsTrue, false, length, reverse, take, vec_capacity, vec_len};
+ghost use Rattle.std.specs.Prelude.{◌≡◌, ◌≢◌, ◌↔◌, ◌<◌, ◌≤◌, ◌⊎◌, ◌+◌, [], Ok, Err, Some, IsTrue, false, length, reverse, take};
+ghost use Rattle.std.specs.Prelude.{vec_capacity, vec_len};
 ghost use Rattle.node_table.specs.declared.error.TableError.TheVariants.{NodeLimit};
 ghost use Rattle.node_table.specs.declared.node.Node.TheVariants.{False};
 ghost use Rattle.node_table.specs.Table.{IsSound};
-ghost use Rattle.schedule_plan.specs.Plan.{Stage, after_move};
+ghost use Rattle.cnf_base.specs.Formula.{Formula};
+ghost use Rattle.schedule_plan.specs.declared.plan.Move.TheVariants.{ExistsAll};
+ghost use Rattle.schedule_plan.specs.Plan.{Stage, after_all, after_move};
+ghost use Rattle.schedule_plan.specs.SetMove.{falling, move_in_order};
 ghost use Rattle.term_runner.specs.Held.{IsPlaced, MayGiveUp};
 ghost use Rattle.term_runner.specs.Moves.{MayMove, Tried};
-ghost use Rattle.term_runner.specs.Terms.{IsAtStage};
+ghost use Rattle.term_runner.specs.Sets.{AreSetLevels};
+ghost use Rattle.term_runner.specs.Terms.{IsAtStage, IsOpen};
 
-use crate::found::{conjunction, input, weaken};
+use crate::found::{conjunction, input, weaken, weaken_all};
 use crate::held::{HeldTerm, last_term, last_two};
+use crate::sets::{falling_of, levels_of};
 use crate::terms::Terms;
 use crate::unit::{is_same, retire_unit};
 use cnf_base::Cnf;
 use host_io::Sink;
 use node_table::{Node, Table, TableError, growth_law, steps_law};
 use operations::entry_law;
-use schedule_plan::Move;
+use schedule_plan::{Move, Variables};
 
 impl<S: Sink + Drop> Terms<S> {
     /// Tries a move, and says whether the empty clause was added: then all is done. Else, and where no more nodes are allowed,
     /// the clauses that were retired are deleted.
-    pub fn try_move(&mut self, formula: &Cnf, step: Move) -> Result<bool, TableError>
-        requires { MayMove formula.now step self.old }
+    pub fn try_move(&mut self, formula: &Cnf, step: &Move) -> Result<bool, TableError>
+        requires { MayMove formula.now step.now self.old }
         ensures tried { (stage next : Stage) → IsAtStage formula.now self.old stage
-            → after_move formula.now stage step ≡ Some next → Tried formula.now stage next self.old self.new result }
+            → after_move formula.now stage (move_in_order self.old.table.graph.order step.now) ≡ Some next
+            → Tried formula.now stage next self.old self.new result }
         ensures settled { (result ≡ Ok false) ⊎ (result ≡ Err NodeLimit) → self.new.table.retired ≡ [] }
     {
         entry_law::<S>();
@@ -45,10 +52,11 @@ impl<S: Sink + Drop> Terms<S> {
     }
 
     // Takes a move, and says whether the empty clause was added.
-    fn carry_out(&mut self, formula: &Cnf, step: Move) -> Result<bool, TableError>
-        requires { MayMove formula.now step self.old }
+    fn carry_out(&mut self, formula: &Cnf, step: &Move) -> Result<bool, TableError>
+        requires { MayMove formula.now step.now self.old }
         ensures { (stage next : Stage) → IsAtStage formula.now self.old stage
-            → after_move formula.now stage step ≡ Some next → Tried formula.now stage next self.old self.new result }
+            → after_move formula.now stage (move_in_order self.old.table.graph.order step.now) ≡ Some next
+            → Tried formula.now stage next self.old self.new result }
     {
         entry_law::<S>();
         growth_law();
@@ -59,7 +67,7 @@ impl<S: Sink + Drop> Terms<S> {
                 if self.out.reserve(1).is_err() {
                     return Err(TableError::OutOfMemory);
                 }
-                let held = input(alloc, &mut self.table, formula, number)?;
+                let held = input(alloc, &mut self.table, formula, *number)?;
                 Ok(put(&mut self.table, &mut self.out, &[], held))
             }
             Move::And => {
@@ -73,14 +81,39 @@ impl<S: Sink + Drop> Terms<S> {
                 let Some(u) = last_term(self.out.as_slice()) else {
                     unreachable!();
                 };
-                let Some(level) = self.table.level(variable) else {
+                let Some(level) = self.table.level(*variable) else {
                     unreachable!();
                 };
                 let held = weaken(&mut self.table, &mut self.caches, &u, level)?;
-                self.trail.push(variable, u.node)?;
+                self.trail.push(*variable, u.node)?;
                 Ok(put(&mut self.table, &mut self.out, &[u], held))
             }
+            Move::ExistsAll(set) => self.quantify_all(set),
         }
+    }
+
+    // Quantifies the variables of a set from the last term at once.
+    fn quantify_all(&mut self, set: &Variables) -> Result<bool, TableError>
+        requires { (formula : Formula) × MayMove formula (ExistsAll set.now) self.old }
+        ensures { (formula : Formula) (stage next : Stage) → IsOpen formula self.old → IsAtStage formula self.old stage
+            → after_all formula stage (falling self.old.table.graph.order set.now) ≡ Some next
+            → Tried formula stage next self.old self.new result }
+    {
+        entry_law::<S>();
+        growth_law();
+        steps_law::<S>();
+        let alloc = *self.out.allocator();
+        let levels = levels_of(alloc, &self.table, set.as_slice())?;
+        let variables = falling_of(alloc, &self.table, levels.as_slice())?;
+        if levels.is_empty() {
+            return Ok(false);
+        }
+        let Some(u) = last_term(self.out.as_slice()) else {
+            unreachable!();
+        };
+        let held = weaken_all(&mut self.table, &mut self.caches, &u, levels.as_slice())?;
+        self.trail.push_set(variables.as_slice(), u.node)?;
+        Ok(put(&mut self.table, &mut self.out, &[u], held))
     }
 }
 

@@ -10,6 +10,7 @@ ghost use Rattle.node_table.specs.Progress.{Leaves, error_of};
 ghost use Rattle.node_table.specs.Table.{live_nodes};
 ghost use Rattle.cnf_base.specs.Formula.{Formula};
 ghost use Rattle.schedule_plan.specs.Plan.{Stage, Term, after_move};
+ghost use Rattle.schedule_plan.specs.SetMove.{move_in_order};
 ghost use Rattle.term_runner.specs.Caches.{sizes};
 ghost use Rattle.term_runner.specs.Moves.{MayMove, Moved};
 ghost use Rattle.term_runner.specs.Terms.{HasOwnUnits, IsAtStage, IsOpen};
@@ -35,10 +36,11 @@ const RECLAIM_FROM: u32 = 1000;
 impl<S: Sink + Drop> Terms<S> {
     /// Takes a move, at the limit of nodes after a reclamation, and reclaims behind it where there are many. Says whether the empty
     /// clause was added: then all is done. `left` is how many nodes the last reclamation left.
-    pub fn take_move(&mut self, formula: &Cnf, step: Move) -> Result<bool, TableError>
-        requires { MayMove formula.now step self.old }
+    pub fn take_move(&mut self, formula: &Cnf, step: &Move) -> Result<bool, TableError>
+        requires { MayMove formula.now step.now self.old }
         ensures moved { (stage next : Stage) → IsAtStage formula.now self.old stage
-            → after_move formula.now stage step ≡ Some next → Moved formula.now stage next self.old self.new result }
+            → after_move formula.now stage (move_in_order self.old.table.graph.order step.now) ≡ Some next
+            → Moved formula.now stage next self.old self.new result }
         ensures tidy { result ≡ Ok false → IsTidy (live_nodes self.new.table.graph) self.new.left }
     {
         canonical_law();
@@ -57,10 +59,11 @@ impl<S: Sink + Drop> Terms<S> {
     }
 
     // Tries a move, and at the limit of nodes once more after a reclamation.
-    fn try_twice(&mut self, formula: &Cnf, step: Move) -> Result<bool, TableError>
-        requires { MayMove formula.now step self.old }
+    fn try_twice(&mut self, formula: &Cnf, step: &Move) -> Result<bool, TableError>
+        requires { MayMove formula.now step.now self.old }
         ensures { (stage next : Stage) → IsAtStage formula.now self.old stage
-            → after_move formula.now stage step ≡ Some next → Moved formula.now stage next self.old self.new result }
+            → after_move formula.now stage (move_in_order self.old.table.graph.order step.now) ≡ Some next
+            → Moved formula.now stage next self.old self.new result }
     {
         subfunction_law();
         canonical_law();

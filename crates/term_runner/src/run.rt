@@ -7,6 +7,7 @@ ghost use Rattle.term_runner.specs.Opened.{EndsWithin};
 
 use crate::error::RunError;
 use crate::finish::refute;
+use crate::gauge::Gauge;
 use crate::open::first_empty;
 use crate::outcome::Run;
 use crate::progress::Progress;
@@ -58,7 +59,28 @@ pub fn run_plan_into<S: Sink + Drop>(
     ensures ends { Ends S.tells (S.channel sink.old) (S.channel sink.new) formula.now order.now plan.now limits result }
     ensures beside { S.beside sink.new ≡ S.beside sink.old }
 {
-    let mut progress = Progress::new(formula.len() as u64, limits.max_ids);
+    let gauge = Gauge::new(plan.len());
+    run_plan_shown(alloc, formula, order, plan, limits, sink, &gauge)
+}
+
+/// As `run_plan_into`, and shows on a gauge how far it is.
+pub fn run_plan_shown<S: Sink + Drop>(
+    alloc: Global,
+    formula: &Cnf,
+    order: &Order,
+    plan: &Plan,
+    limits: Limits,
+    sink: &mut S,
+    gauge: &Gauge,
+) -> Result<Run, RunError>
+    requires order { length order.now ≡ formula.now.vars }
+    requires plan { IsAdmissible formula.now plan.now }
+    requires limits { AreLimits limits }
+    requires fresh { IsTrue S.tells → (S.channel sink.old).written ≡ [] }
+    ensures ends { Ends S.tells (S.channel sink.old) (S.channel sink.new) formula.now order.now plan.now limits result }
+    ensures beside { S.beside sink.new ≡ S.beside sink.old }
+{
+    let mut progress = Progress::new(formula.len() as u64, limits.max_ids, gauge);
     run_with(
         alloc,
         formula,
@@ -71,7 +93,7 @@ pub fn run_plan_into<S: Sink + Drop>(
     )
 }
 
-/// As `run_plan_into`, and counts the moves. The caches may be let go at the end.
+/// As `run_plan_shown`, and counts the moves. The caches may be let go at the end.
 pub(crate) fn run_with<S: Sink + Drop>(
     alloc: Global,
     formula: &Cnf,
@@ -79,7 +101,7 @@ pub(crate) fn run_with<S: Sink + Drop>(
     plan: &Plan,
     limits: Limits,
     sink: &mut S,
-    progress: &mut Progress,
+    progress: &mut Progress<'_>,
     lets_go: bool,
 ) -> Result<Run, RunError>
     requires order { length order.now ≡ formula.now.vars }

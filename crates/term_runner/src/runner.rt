@@ -14,6 +14,7 @@ ghost use Rattle.term_runner.specs.Unused.{IsOpenedOver, IsUnused};
 use crate::caches::Caches;
 use crate::error::RunError;
 use crate::finish::{finish, refute};
+use crate::gauge::Gauge;
 use crate::held::HeldTerm;
 use crate::open::first_empty;
 use crate::outcome::{Run, outcome_of};
@@ -124,7 +125,8 @@ impl<'a, S: Sink + Drop> Runner<'a, S> {
             self.entry.terms.table.graph.order plan.now self.entry.limits result.1 }
         ensures beside { S.beside result.0 ≡ S.beside self.entry.terms.table.book.origin }
     {
-        let mut progress = Progress::new(self.formula.len() as u64, self.limits.max_ids);
+        let gauge = Gauge::new(plan.len());
+        let mut progress = Progress::new(self.formula.len() as u64, self.limits.max_ids, &gauge);
         self.run_counting(plan, &mut progress, false)
     }
 
@@ -132,7 +134,7 @@ impl<'a, S: Sink + Drop> Runner<'a, S> {
     pub(crate) fn run_counting(
         self,
         plan: &Plan,
-        progress: &mut Progress,
+        progress: &mut Progress<'_>,
         lets_go: bool,
     ) -> (S, Result<Run, RunError>)
         requires unused { IsUnused self }
@@ -167,6 +169,7 @@ impl<'a, S: Sink + Drop> Runner<'a, S> {
             return (ledger.close(), result);
         }
         let found = terms.decide(formula, plan, limits.cache, progress);
+        progress.show(terms.reading(plan.len()));
         terms.table.table_law();
         let mut ledger = terms.into_ledger(lets_go);
         ledger.book_law();

@@ -1,6 +1,6 @@
 // Terms that a runner gives: of a clause, or of two terms together. Each has a unit of its own, which is retired when the term is
 // released; the first empty clause stays. Nodes that no term reaches are given back by a reclamation.
-ghost use Rattle.std.specs.Prelude.{◌≡◌, ◌≢◌, ◌⊎◌, ◌≤◌, ◌<◌, ◌+◌, ◌-◌, ◌&&◌, ◌∷◌, ℕ, Bool, List, [], Contains, Err, Ok, None, Some};
+ghost use Rattle.std.specs.Prelude.{◌≡◌, ◌≢◌, ◌⊎◌, ◌≤◌, ◌<◌, ◌+◌, ◌-◌, ◌&&◌, ◌∷◌, ◌↔◌, ℕ, Bool, List, [], Contains, Err, Ok, None, Some};
 ghost use Rattle.std.specs.Prelude.{IsTrue, IfErr, IfOk, OnErr, OnOk, MatchOption, get_or, length, true, false, vec_capacity, vec_len};
 ghost use Rattle.cnf_base.specs.Truth.{Assignment};
 ghost use Rattle.node_table.specs.declared.error.TableError.TheVariants.{NodeLimit, OutOfMemory, WriteFault};
@@ -12,7 +12,7 @@ ghost use Rattle.apply_and.specs.Conjunction.{conjunction_of};
 ghost use Rattle.schedule_plan.specs.Plan.{input as input_term, term_holds};
 ghost use Rattle.term_runner.specs.declared.held.HeldTerm.{HeldTerm as HeldValue};
 ghost use Rattle.term_runner.specs.declared.runner.Runner.{Runner as RunnerValue};
-ghost use Rattle.term_runner.specs.Runner.{Gives, IsGood, IsListed, IsRunner, Releases, holds_in, nodes_of};
+ghost use Rattle.term_runner.specs.Runner.{Gives, IsGood, IsListed, IsRunner, Releases, holds_in, nodes_of, true_term};
 ghost use Rattle.term_runner.specs.Tidy.{LeavesReached};
 ghost use Rattle.term_runner.specs.Width.{term_function};
 
@@ -73,12 +73,9 @@ impl<'a, S: Sink + Drop> Runner<'a, S> {
 
     /// Whether a term may be taken here: it is True, or this runner gave it and it is out yet.
     pub fn has(&self, term: &Term) -> bool
-        ensures { IsTrue result → IsGood self.now term.now.held }
+        ensures { IsTrue result ↔ IsGood self.now term.now.held }
     {
-        match term.held.unit {
-            Justification::Trivial => is_same(term.held.node, Node::True),
-            Justification::Clause(_) => place_of(self.terms.out.as_slice(), &term.held).is_some(),
-        }
+        place_of(self.terms.out.as_slice(), &term.held).is_some() || is_true_term(&term.held)
     }
 
     /// How many terms are out.
@@ -253,6 +250,17 @@ fn is_first_false(kept: &Option<HeldTerm>, held: &HeldTerm) -> bool
         None => is_same(held.node, Node::False),
         Some(_) => false,
     }
+}
+
+// Whether this is the term that owns no clause.
+fn is_true_term(held: &HeldTerm) -> bool
+    ensures { IsTrue result ↔ (held.now ≡ true_term) }
+{
+    let always = HeldTerm {
+        node: Node::True,
+        unit: Justification::Trivial,
+    };
+    is_same_term(held, &always)
 }
 
 // The place of a term on a list, the last one.

@@ -3,6 +3,7 @@ ghost use Rattle.std.specs.Prelude.{◌≡◌, []};
 ghost use Rattle.reconstruction.specs.Stack.{empty_stack};
 
 use crate::caches::Caches;
+use crate::gauge::Reading;
 use crate::held::HeldTerm;
 use clause_ledger::Ledger;
 use host_io::Sink;
@@ -39,6 +40,18 @@ impl<S: Sink + Drop> Terms<S> {
             out: Vec::new(alloc),
             trail: Reconstruction::new(alloc),
             left: 0,
+        }
+    }
+
+    /// What the run used so far, of a plan of so many moves; how many of them are done it doesn't know.
+    pub fn reading(&self, all_moves: usize) -> Reading {
+        Reading {
+            moves: 0,
+            all_moves,
+            nodes: self.table.live(),
+            most_nodes: self.table.most(),
+            copies: self.trail.cell_count(),
+            lookups: self.caches.lookups(),
         }
     }
 

@@ -5,6 +5,7 @@ ghost use Rattle.schedule_plan.specs.Plan.{IsAdmissible};
 ghost use Rattle.term_runner.specs.Trial.{IsTrial};
 
 use crate::error::RunError;
+use crate::gauge::Gauge;
 use crate::outcome::Outcome;
 use crate::progress::Progress;
 use crate::run::run_with;
@@ -49,7 +50,8 @@ pub fn try_plan(
     requires limits { AreLimits limits }
     ensures { IfOk result (IsTrial formula.now plan.now limits) }
 {
-    let mut progress = Progress::new(formula.len() as u64, limits.max_ids);
+    let gauge = Gauge::new(plan.len());
+    let mut progress = Progress::new(formula.len() as u64, limits.max_ids, &gauge);
     let mut sink = NoSink;
     let result = run_with(
         alloc,

@@ -1,7 +1,8 @@
 // The unit of a conjunction of two terms, and that of a node that a term implies: an operand's own where it is that
 // operand, else a clause that follows from the operands' units and the clause of the conjunction or the implication. Then
 // the operands' units are needed no more.
-ghost use Rattle.std.specs.Prelude.{◌≡◌, ◌≢◌, ◌<◌, ◌+◌, ◌++◌, ◌⊎◌, ◌↔◌, ℕ, ℤ, List, [], ◌∷◌, Err, None, Some, Contains, IsTrue, IfOk, IfErr, OnOk};
+ghost use Rattle.std.specs.Prelude.{◌≡◌, ◌≢◌, ◌<◌, ◌+◌, ◌++◌, ◌⊎◌, ◌↔◌, ℕ, ℤ, List, [], ◌∷◌, Err, None, Some, Contains, IsTrue, IfOk};
+ghost use Rattle.std.specs.Prelude.{IfErr, OnOk};
 ghost use Rattle.std.specs.Prelude.{MatchOption};
 ghost use Rattle.node_table.specs.declared.node.Node.TheVariants.{False, True};
 ghost use Rattle.node_table.specs.declared.node.Justification.TheVariants.{Trivial, Clause};

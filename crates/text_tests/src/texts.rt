@@ -124,6 +124,18 @@ schedule;c 1 2 3/a 3/q 1 0/;line 3: VariableRange
 schedule;c 1/q 2/;line 2: VariableInUse
 schedule;c 1 2/q 2/;line 2: VariableInUse
 schedule;c 1 2/q 1 3/;line 2: VariableInUse
+schedule;c 1 2 3/a 3/e 3 1 2/;Push(1) Push(2) Push(3) And And ExistsAll(Variables { numbers: [3, 1, 2] }) 
+schedule;c 1 2 3/a 3/e 1 1/;Push(1) Push(2) Push(3) And And ExistsAll(Variables { numbers: [1, 1] }) 
+schedule;c 1/e 1/c 2/a 2/q 2/c 3/a 2/e 3/;Push(1) ExistsAll(Variables { numbers: [1] }) Push(2) And Exists(2) Push(3) And ExistsAll(Variables { numbers: [3] }) 
+schedule;e/;line 1: Syntax
+schedule;c 1/e x/;line 2: Syntax
+schedule;e 1/;line 1: StackShort
+schedule;e 1 9/;line 1: StackShort
+schedule;c 1 2 3/a 3/e 4/;line 3: VariableRange
+schedule;c 1/e 2 9/;line 2: VariableRange
+schedule;c 1/e 99999999999999999999999999 2/;line 2: VariableRange
+schedule;c 1/e 1 2/;line 2: VariableInUse
+schedule;c 1 2 3/a 2/e 1 2/;line 3: VariableInUse
 schedule;c 1 2/a 2/;line 3: ClauseUnused
 schedule;c 1 2/;line 2: ClauseUnused
 schedule;;line 1: ClauseUnused

@@ -11,7 +11,8 @@ use Rattle.workload.specs.declared.square.Domino.{Domino}
 use Rattle.workload.specs.declared.square.Domino.TheVariants.{Across, Down}
 use Rattle.workload.specs.Board.{square, stays, is_domino, dominoes_of, number}
 use Rattle.workload.specs.Schedule.{ending, quantifying}
-use Rattle.workload.specs.Texts.{spaced, command_line}
+use Rattle.workload.specs.declared.schedule.Way.{Way}
+use Rattle.workload.specs.Texts.{spaced, command_line, letter_of}
 use Rattle.workload.proofs.Steps.{filter_append, passing_next}
 use Rattle.workload.proofs.Squares.{is_there}
 use Rattle.workload.proofs.Numbers.{cut, cut_passing}
@@ -78,9 +79,10 @@ some_end n column a b c =
     let downs : List Domino = dominoes_of n (map (λ row. Down (square row column)) (natural n)) in
     omega (arith, length-map (lefts ++ downs) (number n), length-append lefts downs, some_down n column a b c)
 
-pub quantify_line : (xs : List ℕ) → 0 < length xs → flat_map command_line (quantifying xs) ≡ (codes "q" ++ flat_map spaced xs) ++ codes "\n"
-quantify_line [] a = absurd (omega (arith, a))
-quantify_line (x ∷ xs) a = append-nil ((codes "q" ++ flat_map spaced (x ∷ xs)) ++ codes "\n")
+pub quantify_line : (way : Way) (xs : List ℕ) → 0 < length xs
+    → flat_map (command_line way) (quantifying xs) ≡ (letter_of way ++ flat_map spaced xs) ++ codes "\n"
+quantify_line way [] a = absurd (omega (arith, a))
+quantify_line way (x ∷ xs) a = append-nil ((letter_of way ++ flat_map spaced (x ∷ xs)) ++ codes "\n")
 
 none_of_two : (column : ℕ) → 1 ≤ column → column ≤ 2 → ending 2 column ≡ []
 unfolding stays
@@ -89,8 +91,9 @@ none_of_two (suc zero) a b = refl
 none_of_two (suc (suc zero)) a b = refl
 none_of_two (suc (suc (suc k))) a b = absurd (omega (arith, b))
 
-pub no_end : (n column : ℕ) → 2 ≤ n → n < 3 → 1 ≤ column → column ≤ n → flat_map command_line (quantifying (ending n column)) ≡ []
-no_end n column a b c d =
+pub no_end : (way : Way) (n column : ℕ) → 2 ≤ n → n < 3 → 1 ≤ column → column ≤ n
+    → flat_map (command_line way) (quantifying (ending n column)) ≡ []
+no_end way n column a b c d =
     let two : n ≡ 2 = omega (arith, a, b) in
-    ap (λ (m : ℕ). flat_map command_line (quantifying (ending m column))) two
-    ∙ ap (λ l. flat_map command_line (quantifying l)) (none_of_two column c (omega (arith, d, two)))
+    ap (λ (m : ℕ). flat_map (command_line way) (quantifying (ending m column))) two
+    ∙ ap (λ l. flat_map (command_line way) (quantifying l)) (none_of_two column c (omega (arith, d, two)))

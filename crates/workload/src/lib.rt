@@ -13,5 +13,5 @@ mod texts;
 
 pub use make::board;
 pub use parts::Board;
-pub use schedule::write_columns;
+pub use schedule::{write_columns, write_sets};
 pub use texts::{write_cnf, write_order};

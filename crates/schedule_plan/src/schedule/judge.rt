@@ -3,7 +3,7 @@
 // term's, unless the variable was quantified: then no other term and no clause to come held it.
 ghost use Rattle.std.specs.Prelude.{◌≡◌, ◌≢◌, ◌<◌, ◌≤◌, ◌-◌, ◌++◌, [], ◌∷◌, length, None, Ok, Err, IfOk, OnOk, IsTrue, replicate, false};
 ghost use Rattle.std.specs.Prelude.{slice_index_or};
-ghost use Rattle.schedule_plan.specs.declared.plan.Move.TheVariants.{Push as PushMove, And as AndMove, Exists as ExistsMove};
+ghost use Rattle.schedule_plan.specs.declared.plan.Move.TheVariants.{Push as PushMove, And as AndMove, Exists as ExistsMove, ExistsAll as ExistsAllMove};
 ghost use Rattle.schedule_plan.specs.declared.schedule.error.PlanError.TheVariants.{OutOfMemory as NoMemory};
 ghost use Rattle.schedule_plan.specs.Plan.{IsAdmissible};
 ghost use Rattle.schedule_plan.specs.ScheduleText.{taken, unless, fault_behind, end_fault_behind};
@@ -12,7 +12,8 @@ ghost use Rattle.schedule_plan.specs.ScheduleMemory.{moves_may_want_memory};
 
 use crate::plan::{Move, Plan};
 use crate::schedule::error::{PlanError, PlanKind};
-use crate::schedule::uses::{NEVER, Use, count_clause, push_clause};
+use crate::schedule::set::{is_any_out_of_range, variables_of};
+use crate::schedule::uses::{NEVER, Use, count_clause, is_any_used, push_clause, quantify_each};
 use cnf_base::{Cnf, OutOfMemory};
 use std::alloc::Global;
 
@@ -152,6 +153,36 @@ impl ScheduleJudge {
             earliest: NEVER,
             seen: one.seen,
         };
+        Ok(())
+    }
+
+    /// Quantifies a set of variables at once, on this line. Each test is made of all of them before the next one.
+    pub(crate) fn exists_all(
+        &mut self,
+        formula: &Cnf,
+        numbers: &[u64],
+        line: u64,
+    ) -> Result<(), PlanError>
+        requires { Stands formula.now self.old }
+        ensures stands { OnOk result (Stands formula.now self.new) }
+        ensures takes { Takes result (taken formula.now self.old.moves.items (ExistsAllMove numbers.now ∷ [])) line self.new.moves.items }
+        ensures memory { result ≡ Err NoMemory → fault_behind formula.now self.old.moves.items (ExistsAllMove numbers.now) ≡ None }
+    {
+        formula.formula_law();
+        let terms = self.starts.as_slice().len();
+        if terms == 0 {
+            return Err(PlanError::Refused(PlanKind::StackShort, line));
+        }
+        let begun = self.starts[terms - 1];
+        if is_any_out_of_range(formula, numbers) {
+            return Err(PlanError::Refused(PlanKind::VariableRange, line));
+        }
+        if is_any_used(self.uses.as_slice(), numbers, begun) {
+            return Err(PlanError::Refused(PlanKind::VariableInUse, line));
+        }
+        let set = variables_of(*self.moves.allocator(), numbers)?;
+        self.moves.push(Move::ExistsAll(set))?;
+        quantify_each(&mut self.uses, numbers);
         Ok(())
     }
 

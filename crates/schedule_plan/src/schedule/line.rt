@@ -16,6 +16,7 @@ pub(crate) enum Command {
     Pushes,
     Conjoins,
     Quantifies,
+    QuantifiesAll,
     Unknown,
 }
 
@@ -46,6 +47,7 @@ fn command_of(token: &Token) -> Command
         [b'c'] => Command::Pushes,
         [b'a'] => Command::Conjoins,
         [b'q'] => Command::Quantifies,
+        [b'e'] => Command::QuantifiesAll,
         _ => Command::Unknown,
     }
 }

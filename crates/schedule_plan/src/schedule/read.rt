@@ -133,6 +133,7 @@ fn take_line(judge: &mut ScheduleJudge, formula: &Cnf, line: &Line) -> Result<()
     match line.command() {
         Command::Pushes => take_pushes(judge, formula, numbers, line.line()),
         Command::Quantifies => take_variables(judge, formula, numbers, line.line()),
+        Command::QuantifiesAll => judge.exists_all(formula, numbers, line.line()),
         Command::Conjoins if numbers.len() == 1 && numbers[0] >= 2 => {
             judge.conjoin(formula, numbers[0], line.line())
         }

@@ -1,8 +1,8 @@
 // Where the variables stand: in how many clauses to come, and since which push.
 ghost use Rattle.std.specs.Prelude.{◌≡◌, ℕ, ◌<◌, ◌≤◌, nat_abs, nat_lt, length, IsTrue};
-ghost use Rattle.std.specs.List.{list_all};
+ghost use Rattle.std.specs.List.{list_all, list_any};
 ghost use Rattle.cnf_base.specs.Limits.{max_clauses};
-ghost use Rattle.schedule_plan.specs.ScheduleState.{counted, with_push, changed, use_at};
+ghost use Rattle.schedule_plan.specs.ScheduleState.{counted, with_push, changed, use_at, use_behind, is_used, when_quantified};
 
 use cnf_base::Lit;
 
@@ -49,6 +49,18 @@ fn with_push(one: Use, mark: u32, place: u32) -> Use
     }
 }
 
+/// Of a variable that is quantified: no clause to come holds it, and no stacked term does.
+#[inline(always)]
+pub(crate) fn quantified(one: Use) -> Use
+    ensures { result ≡ when_quantified one }
+{
+    Use {
+        to_come: 0,
+        earliest: NEVER,
+        seen: one.seen,
+    }
+}
+
 /// A clause is there.
 pub(crate) fn count_clause(uses: &mut Vec<Use>, clause: &[Lit], mark: u32)
     requires few { (x : ℕ) → (use_at uses.old.items x).to_come ≤ max_clauses }
@@ -71,5 +83,31 @@ pub(crate) fn push_clause(uses: &mut Vec<Use>, clause: &[Lit], mark: u32, place:
     'literals: for literal in clause {
         let variable = literal.var() as usize;
         uses[variable] = with_push(uses[variable], mark, place);
+    }
+}
+
+/// Whether one of these variables is held by a clause to come, or by one that was pushed before this push.
+pub(crate) fn is_any_used(uses: &[Use], numbers: &[u64], start: u32) -> bool
+    requires within { IsTrue (list_all (λ x. nat_lt x (length uses.now)) numbers.now) }
+    ensures { result ≡ list_any (is_used uses.now start) numbers.now }
+{
+    'numbers: for number in numbers {
+        let one = uses[*number as usize];
+        if one.earliest < start || one.to_come > 0 {
+            return true;
+        }
+    }
+    false
+}
+
+/// These variables are quantified.
+pub(crate) fn quantify_each(uses: &mut Vec<Use>, numbers: &[u64])
+    requires within { IsTrue (list_all (λ x. nat_lt x (length uses.old.items)) numbers.now) }
+    ensures count { length uses.new.items ≡ length uses.old.items }
+    ensures uses { (x : ℕ) → use_at uses.new.items x ≡ use_behind numbers.now uses.old.items x }
+{
+    'numbers: for number in numbers {
+        let variable = *number as usize;
+        uses[variable] = quantified(uses[variable]);
     }
 }

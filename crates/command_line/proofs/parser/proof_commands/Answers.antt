@@ -1,13 +1,13 @@
 -- What is left to show of `proof_commands`.
-use Rattle.std.proofs.Common.{codes, ◌≡◌}
+use Rattle.std.proofs.Common.{◌≡◌}
 use Rattle.std.proofs.lemmas.Result.{IfOk-weaker}
-use Rattle.clap.specs.Words.{App, app_of, new_app, with_subcommand}
-use Rattle.command_line.specs.Parser.{check_app, drat_app, solve_app}
+use Rattle.clap.specs.Words.{App, app_of, with_subcommand}
+use Rattle.command_line.specs.Parser.{check_app, drat_app, program_app, solve_app}
 use Rattle.command_line.proofs.Arguments.{added}
 use Rattle.command_line.proofs.parser.proof_commands.Goals as goal
 
 abbrev one : App
-one = with_subcommand (new_app (codes "bddsat")) solve_app.top
+one = with_subcommand program_app solve_app.top
 
 abbrev two : App
 two = with_subcommand one check_app.top
@@ -15,9 +15,8 @@ two = with_subcommand one check_app.top
 pub returns : goal.returns
 returns c =
     let one_is : app_of c.in_ok-solve.solve ≡ one =
-    added c.command.result c.in_ok-solve.solve (new_app (codes "bddsat")) solve_app c.solve_parser.result c.command.ensures.app
-    c.solve_parser.ensures.app c.solve_parser.ensures.local
-    c.in_ok-solve.ensures in
+    added c.program.result c.in_ok-solve.solve program_app solve_app c.solve_parser.result c.program.ensures
+    c.solve_parser.ensures.app c.solve_parser.ensures.local c.in_ok-solve.ensures in
     let two_are : app_of c.in_ok-check.check ≡ two =
     added c.in_ok-solve.solve c.in_ok-check.check one check_app c.check_parser.result one_is c.check_parser.ensures.app
     c.check_parser.ensures.local c.in_ok-check.ensures in

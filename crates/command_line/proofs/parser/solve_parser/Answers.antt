@@ -3,7 +3,7 @@ use Rattle.std.proofs.Common.{ap, ap₂, codes, ◌≡◌, ◌∙◌}
 use Rattle.std.proofs.lemmas.Result.{IfOk-weaker}
 use Rattle.std.specs.Prelude.{[], ◌∷◌}
 use Rattle.clap.specs.Words.{App, app_of, new_app, with_rule}
-use Rattle.command_line.specs.Parser.{file_rule, lax_rule, limit_rules, order_rules, plan_rules, proof_rule, with_rules}
+use Rattle.command_line.specs.Parser.{file_rule, lax_rule, limit_rules, order_rules, plan_rules, progress_rule, proof_rule, with_rules}
 use Rattle.command_line.proofs.Arguments.{stays}
 use Rattle.command_line.proofs.parser.solve_parser.Goals as goal
 
@@ -21,11 +21,13 @@ returns-clause-app c =
     let eight_are : app_of c.in_ok-command-3.command ≡ with_rules (with_rules (with_rules (new_app (codes "solve")) (file_rule ∷ proof_rule
     ∷ lax_rule ∷ [])) order_rules) plan_rules =
     c.in_ok-command-3.ensures.app ∙ ap (λ (a : App). with_rules a plan_rules) five_are in
-    IfOk-weaker c.with_limits.result _ _ (λ r is. is ∙ ap (λ (a : App). with_rules a limit_rules) eight_are) c.with_limits.ensures.app
+    IfOk-weaker c.with_progress.result _ _
+    (λ r is. is ∙ ap (λ (a : App). with_rule a progress_rule) (c.in_ok-command-4.ensures.app
+    ∙ ap (λ (a : App). with_rules a limit_rules) eight_are)) c.with_progress.ensures.app
 
 pub returns-clause-local : goal.returns-clause-local
 returns-clause-local c =
-    IfOk-weaker c.with_limits.result _ _
-    (λ r same. same ∙ c.in_ok-command-3.ensures.local ∙ c.in_ok-command-2.ensures.local ∙ c.in_ok-command.ensures.globals
+    IfOk-weaker c.with_progress.result _ _
+    (λ r same. same ∙ c.in_ok-command-4.ensures.local ∙ c.in_ok-command-3.ensures.local ∙ c.in_ok-command-2.ensures.local ∙ c.in_ok-command.ensures.globals
     ∙ stays _ _ c.lax_arg.ensures.local ∙ c.in_ok-arg-2.ensures.globals ∙ stays _ _ c.proof_arg.ensures.local
-    ∙ c.in_ok-arg.ensures.globals ∙ stays _ _ c.formula_arg.ensures.local ∙ c.command.ensures.local) c.with_limits.ensures.local
+    ∙ c.in_ok-arg.ensures.globals ∙ stays _ _ c.formula_arg.ensures.local ∙ c.command.ensures.local) c.with_progress.ensures.local

@@ -1,25 +1,51 @@
 -- What is left to show of `check`.
 use Rattle.std.proofs.Common.{refl}
+use Rattle.host_io.specs.declared.role.Role.TheVariants.{Cnf, ProofIn, Out, Err as ErrRole}
+use Rattle.solver_cli.proofs.Commented.{told_between, untold}
+use Rattle.solver_cli.proofs.Muted.{muted, muted_others, muted_two}
 use Rattle.solver_cli.proofs.StagedCheck.{unjudged, judged}
 use Rattle.solver_cli.proofs.program.check.Goals as goal
 
+pub returns-in-Err-clause-told : goal.returns-in-Err-clause-told
+returns-in-Err-clause-told g c = untold c.args.asked.now.progress (c.take_formula.ensures.kept.others ErrRole refl)
+
 pub returns-in-Err-judge-clause-came : goal.returns-in-Err-judge-clause-came
 returns-in-Err-judge-clause-came g c =
-    unjudged (g.H.Host.channel c.args.host.now) (g.H.Host.channel c.take_formula.new.host) (g.H.Host.channel c.judge.new.host)
+    unjudged (muted (g.H.Host.channel c.args.host.now)) (muted (g.H.Host.channel c.take_formula.new.host))
+    (muted (g.H.Host.channel c.judge.new.host))
     (g.H.Host.files c.args.host.now) (g.H.Host.files c.take_formula.new.host)
-    c.in-Ok.ensures.takes c.in-Ok.ensures.kept.others c.in-Ok.ensures.kept.files c.in-Err-judge.ensures.judges c.judge.ensures.kept.others
-    c.from-in-Err-judge.ensures
+    c.in-Ok.ensures.takes (muted_others Cnf c.in-Ok.ensures.kept.others) c.in-Ok.ensures.kept.files c.in-Err-judge.ensures.judges
+    (muted_two ProofIn c.judge.ensures.kept.others) c.from-in-Err-judge.ensures
+
+pub returns-in-Err-judge-clause-told : goal.returns-in-Err-judge-clause-told
+returns-in-Err-judge-clause-told g c =
+    let told = c.judge.ensures.told in
+    told_between (c.in-Ok.ensures.kept.others ErrRole refl) refl told.1
 
 pub returns-in-Ok-put_verdict-clause-came : goal.returns-in-Ok-put_verdict-clause-came
 returns-in-Ok-put_verdict-clause-came g c =
-    judged (g.H.Host.channel c.args.host.now) (g.H.Host.channel c.take_formula.new.host) (g.H.Host.channel c.judge.new.host)
-    (g.H.Host.channel c.put_verdict.new.host) (g.H.Host.files c.args.host.now) (g.H.Host.files c.take_formula.new.host)
-    c.in-Ok.ensures.takes c.in-Ok.ensures.kept.others c.in-Ok.ensures.kept.files c.in-Ok-judge.ensures.judges c.judge.ensures.kept.others
-    c.in-Ok-put_verdict.ensures.puts c.put_verdict.ensures.kept.others c.verdict_status.ensures
+    judged (muted (g.H.Host.channel c.args.host.now)) (muted (g.H.Host.channel c.take_formula.new.host))
+    (muted (g.H.Host.channel c.judge.new.host))
+    (muted (g.H.Host.channel c.put_verdict.new.host)) (g.H.Host.files c.args.host.now) (g.H.Host.files c.take_formula.new.host)
+    c.in-Ok.ensures.takes (muted_others Cnf c.in-Ok.ensures.kept.others) c.in-Ok.ensures.kept.files c.in-Ok-judge.ensures.judges
+    (muted_two ProofIn c.judge.ensures.kept.others)
+    c.in-Ok-put_verdict.ensures.puts (muted_others Out c.put_verdict.ensures.kept.others) c.verdict_status.ensures
+
+pub returns-in-Ok-put_verdict-clause-told : goal.returns-in-Ok-put_verdict-clause-told
+returns-in-Ok-put_verdict-clause-told g c =
+    let told = c.judge.ensures.told in
+    told_between (c.in-Ok.ensures.kept.others ErrRole refl) (c.put_verdict.ensures.kept.others ErrRole refl) told.1
 
 pub returns-clause-came : goal.returns-clause-came
 returns-clause-came g c =
-    judged (g.H.Host.channel c.args.host.now) (g.H.Host.channel c.take_formula.new.host) (g.H.Host.channel c.judge.new.host)
-    (g.H.Host.channel c.put_verdict.new.host) (g.H.Host.files c.args.host.now) (g.H.Host.files c.take_formula.new.host)
-    c.in-Ok.ensures.takes c.in-Ok.ensures.kept.others c.in-Ok.ensures.kept.files c.in-Ok-judge.ensures.judges c.judge.ensures.kept.others
-    c.in-Err-put_verdict.ensures.puts c.put_verdict.ensures.kept.others refl
+    judged (muted (g.H.Host.channel c.args.host.now)) (muted (g.H.Host.channel c.take_formula.new.host))
+    (muted (g.H.Host.channel c.judge.new.host))
+    (muted (g.H.Host.channel c.put_verdict.new.host)) (g.H.Host.files c.args.host.now) (g.H.Host.files c.take_formula.new.host)
+    c.in-Ok.ensures.takes (muted_others Cnf c.in-Ok.ensures.kept.others) c.in-Ok.ensures.kept.files c.in-Ok-judge.ensures.judges
+    (muted_two ProofIn c.judge.ensures.kept.others)
+    c.in-Err-put_verdict.ensures.puts (muted_others Out c.put_verdict.ensures.kept.others) refl
+
+pub returns-clause-told : goal.returns-clause-told
+returns-clause-told g c =
+    let told = c.judge.ensures.told in
+    told_between (c.in-Ok.ensures.kept.others ErrRole refl) (c.put_verdict.ensures.kept.others ErrRole refl) told.1

@@ -19,6 +19,6 @@ returns g c = record {
         overlong = c.check_drat_law.ensures.overlong;
       }))
       _ (g.H.Host.channel c.work-status.new.host) (g.H.Host.files c.work-status.new.host) c.requires.unnamed
-      c.work-status.ensures.stages c.work-status.ensures.error c.work-status.ensures.files c.complain.ensures.complains
+      c.work-status.ensures.stages c.work-status.ensures.told c.work-status.ensures.files c.complain.ensures.complains
       c.complain.ensures.kept;
 }

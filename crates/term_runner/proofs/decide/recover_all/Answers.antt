@@ -9,7 +9,8 @@ pub store-requires-clause-copies : goal.store-requires-clause-copies
 store-requires-clause-copies g c = c.requires.trail.2.copies
 
 pub store-requires-clause-nodes : goal.store-requires-clause-nodes
-store-requires-clause-nodes g c = recent_stand c.requires.trail.0 c.args.table.now.graph c.args.trail.now c.requires.trail.1 c.requires.trail.2
+store-requires-clause-nodes g c = recent_stand c.requires.trail.0 c.args.table.now.graph c.args.trail.now c.requires.trail.1
+    c.requires.trail.2
 
 pub set_back-requires-clause-none_recent : goal.set_back-requires-clause-none_recent
 set_back-requires-clause-none_recent g c = c.in_ok-store.ensures.stores.none_recent
@@ -20,7 +21,8 @@ set_back-requires-clause-variables g c entry there =
     let graph = c.args.table.now.graph in
     let now = c.store.new.self in
     let trail = c.requires.trail.1 in
-    let stored = trail_stored formula graph c.args.trail.now now trail c.in_ok-store.ensures.stores c.store.ensures.same c.store.ensures.copies
+    let stored = trail_stored formula graph c.args.trail.now now trail c.in_ok-store.ensures.stores c.store.ensures.same
+    c.store.ensures.copies
     c.requires.trail.2 in
     let is = stored_there formula now.cells now.stored trail
     (all_copied formula graph now trail c.in_ok-store.ensures.stores.none_recent stored) c.requires.trail.3 entry there in
@@ -36,4 +38,4 @@ returns g c formula quantified is =
     (subst (λ (t : List (ℕ × Node)). IsRecoveredFrom graph c.args.node (reverse t) c.in_ok-model.model) c.new.ensures
     c.in_ok-model.ensures.recovered) now.cells (reverse now.stored) quantified
     (all_copied formula graph now quantified c.in_ok-store.ensures.stores.none_recent stored) c.set_back.new.values
-    c.set_back.ensures.one_each c.set_back.ensures.set
+    c.in_ok-set_back.ensures.one_each c.in_ok-set_back.ensures.set

@@ -1,5 +1,6 @@
 -- The term of any clause: that of an empty one is False.
-use Rattle.std.proofs.Common.{◌≡◌, ◌∙◌, ◌+◌, ◌-◌, ℕ, suc, ℤ, List, [], ◌∷◌, Contains, length, None, Some, Err, Ok, refl, ap, inl, sym, subst}
+use Rattle.std.proofs.Common.{◌≡◌, ◌∙◌, ◌+◌, ◌-◌, ℕ, suc, ℤ, List, [], ◌∷◌, Contains, length, None, Some, Err, Ok, refl, ap, inl, sym}
+use Rattle.std.proofs.Common.{subst}
 use Rattle.std.proofs.Common.{arith, eqb-true}
 use Rattle.std.specs.Prelude.{slice_index_or}
 use Rattle.cnf_base.specs.Truth.{clause_holds}
@@ -14,6 +15,7 @@ use Rattle.operations.specs.Budget.{most_additions}
 use Rattle.schedule_plan.specs.Plan.{input as input_term}
 use Rattle.term_runner.specs.Caches.{all_entries}
 use Rattle.term_runner.specs.Width.{term_function}
+use Rattle.term_runner.proofs.MadeParts.{only_of}
 use Rattle.term_runner.proofs.Giving.{new_gives, none_added, units_behind}
 use Rattle.term_runner.proofs.Inputs.{input_live}
 use Rattle.term_runner.proofs.Leaving.{refutes_handed, went_on}
@@ -55,8 +57,8 @@ returns-clause-finds g c caches fits =
       fits = λ whole. c.entry_law.ensures.kept old new kept sound unit.steps.leaves.sound unit.steps.extends fits
           (λ id named gone. fits.unretired id named (subst (λ (list : List ℕ). Contains list id) unit.retired gone));
       again = λ limit. absurd (no_error limit);
-      made = subst (λ (graph : Graph). MakesOnly old.graph graph function) (sym unit.nodes)
-          (c.subfunction_law.ensures.none_made old.graph function);
+      made = only_of _ _ _ (subst (λ (graph : Graph). MakesOnly old.graph graph function) (sym unit.nodes)
+          (c.subfunction_law.ensures.none_made old.graph function));
       lacks = λ limit. absurd (no_error limit);
       pairs = λ width room few all. let one = unit.steps.adds in omega (arith, one);
       sizes = refl;
@@ -86,8 +88,8 @@ returns-in_err-unit-clause-finds g c caches fits =
           c.entry_law.ensures.kept old new kept sound more unit.steps.extends fits
           (λ id named gone. fits.unretired id named (subst (λ (list : List ℕ). Contains list id) unit.retired gone));
       again = λ limit. absurd (unit.no_node_limit (ap Err (came_from _ came NodeLimit given limit)));
-      made = subst (λ (graph : Graph). MakesOnly old.graph graph function) (sym unit.nodes)
-          (c.subfunction_law.ensures.none_made old.graph function);
+      made = only_of _ _ _ (subst (λ (graph : Graph). MakesOnly old.graph graph function) (sym unit.nodes)
+          (c.subfunction_law.ensures.none_made old.graph function));
       lacks = λ limit. absurd (unit.no_node_limit (ap Err (came_from _ came NodeLimit given limit)));
       pairs = λ width room few all. let one = unit.steps.adds in omega (arith, one);
       sizes = refl;

@@ -11,6 +11,7 @@ use Rattle.node_table.specs.Refused.{no_nodes_left}
 use Rattle.operations.specs.Budget.{most_additions}
 use Rattle.clause_terms.specs.Term.{IsTerm, clause_function}
 use Rattle.term_runner.specs.Caches.{all_entries}
+use Rattle.term_runner.proofs.MadeParts.{lacks_one, only_of}
 use Rattle.term_runner.proofs.Giving.{new_gives, none_added, units_behind}
 use Rattle.term_runner.proofs.Inputs.{input_live, input_literals}
 use Rattle.term_runner.proofs.Leaving.{limit_left, refutes_handed, went_on}
@@ -41,7 +42,8 @@ returns-clause-finds g c caches fits =
     let steps = found.steps in
     let sound = c.requires.over.1.sound in
     record {
-      term = subst (λ (clause : List ℤ). IsTerm new.graph new.book.state.live (λ a. clause_holds a clause) c.in_ok-node.node c.in_ok-node.unit)
+      term = subst (λ (clause : List ℤ). IsTerm new.graph new.book.state.live (λ a. clause_holds a clause) c.in_ok-node.node
+          c.in_ok-node.unit)
           c.clause-clause.ensures found.term;
       gives = new_gives old new kept c.in_ok-node.unit sound fits steps.leaves.no_less found.retired found.alone found.last found.own;
       steps = c.steps_law.ensures.anyhow old new (most_additions (levels old.graph) + 1) _
@@ -50,8 +52,9 @@ returns-clause-finds g c caches fits =
       fits = λ whole. c.entry_law.ensures.kept old new kept sound steps.leaves.sound steps.extends fits
           (λ id named gone. fits.unretired id named (subst (λ (list : List ℕ). Contains list id) found.retired gone));
       again = λ limit. absurd (no_error limit);
-      made = subst (λ (clause : List ℤ). MakesOnly old.graph new.graph (clause_function old.graph.order clause)) c.clause-clause.ensures
-          found.made;
+      made = only_of _ _ _ (subst (λ (clause : List ℤ). MakesOnly old.graph new.graph (clause_function old.graph.order clause))
+          c.clause-clause.ensures
+          found.made);
       lacks = λ limit. absurd (no_error limit);
       pairs = λ width room few all. let one = steps.adds in omega (arith, one);
       sizes = refl;
@@ -85,10 +88,12 @@ returns-in_err-node-clause-finds g c caches fits =
           (record { each = λ id gone. inl (subst (λ (ids : List ℕ). Contains ids id) found.retired gone) })
           (record { each = λ entry there. inl there })
           (none_added old new kept sound found.retired (found.none_added (λ torn. no_nodes_left (sym is ∙ torn))));
-      made = subst (λ (clause : List ℤ). MakesOnly old.graph new.graph (clause_function old.graph.order clause)) c.clause-clause.ensures
-          found.made;
-      lacks = λ limit. subst (λ (clause : List ℤ). LacksPart new.graph (clause_function old.graph.order clause)) c.clause-clause.ensures
-          (found.lacks (ap Err (came_from _ came NodeLimit given limit)));
+      made = only_of _ _ _ (subst (λ (clause : List ℤ). MakesOnly old.graph new.graph (clause_function old.graph.order clause))
+          c.clause-clause.ensures
+          found.made);
+      lacks = λ limit. lacks_one _ _ (subst (λ (clause : List ℤ). LacksPart new.graph (clause_function old.graph.order clause))
+          c.clause-clause.ensures
+          (found.lacks (ap Err (came_from _ came NodeLimit given limit))));
       pairs = λ width room few all. let one = steps.adds in omega (arith, one);
       sizes = refl;
     }

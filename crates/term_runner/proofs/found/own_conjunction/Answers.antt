@@ -16,6 +16,7 @@ use Rattle.apply_and.specs.Conjunction.{conjunction_of}
 use Rattle.clause_terms.specs.Term.{IsTerm}
 use Rattle.term_runner.specs.Caches.{HaveRoom, all_entries}
 use Rattle.term_runner.specs.Finds.{AreFew}
+use Rattle.term_runner.proofs.MadeParts.{lacks_one, only_of}
 use Rattle.term_runner.proofs.Giving.{given_behind, none_added, units_behind}
 use Rattle.term_runner.proofs.Leaving.{limit_left, limit_whole, refutes_handed, steps_handed, went_on}
 use Rattle.term_runner.proofs.NoEmpty.{further_empty}
@@ -118,7 +119,8 @@ returns-clause-finds g c one other is_u is_v =
       fits = λ untorn. c.entry_law.ensures.kept mid new after found.steps.leaves.sound unit.steps.leaves.sound unit.steps.extends kept
           (λ id named gone. kept.unretired id named (subst (λ (list : List ℕ). Contains list id) unit.retired gone));
       again = λ limit. absurd (no_error limit);
-      made = subst (λ (graph : Graph). MakesOnly old.graph graph (conjunction_of old.graph u.node v.node)) (sym unit.nodes) found.made;
+      made = only_of _ _ _ (subst (λ (graph : Graph). MakesOnly old.graph graph (conjunction_of old.graph u.node v.node)) (sym unit.nodes)
+          found.made);
       lacks = λ limit. absurd (no_error limit);
       pairs = λ width room few all.
           let own = pairs_found g (goal.at.returns-clause-finds g c).After-and width room few in
@@ -146,11 +148,12 @@ returns-in_err-node-clause-finds g c one other is_u is_v =
       again = λ limit stack has.
           let is = came_from _ came NodeLimit given limit in
           let whole = limit_whole came is in
-          units_behind c.steps_law.ensures old mid before after stack c.requires.sound (limit_left old mid came is found.steps.leaves).0.sound
+          units_behind c.steps_law.ensures old mid before after stack c.requires.sound
+          (limit_left old mid came is found.steps.leaves).0.sound
           found.steps.extends has found.keeps.retires (found.keeps.named whole)
           (found.accounts (λ torn. whole (ap Some (same_error torn))));
-      made = found.made;
-      lacks = λ limit. found.lacks (ap Err (came_from _ came NodeLimit given limit));
+      made = only_of _ _ _ (found.made);
+      lacks = λ limit. lacks_one _ _ (found.lacks (ap Err (came_from _ came NodeLimit given limit)));
       pairs = λ width room few all.
           let own = pairs_found g (goal.at.returns-in_err-node-clause-finds g c).After-and width room few in omega (arith, own);
       sizes = c.and.ensures.sizes;
@@ -181,8 +184,9 @@ returns-in_err-unit-clause-finds g c one other is_u is_v =
           c.entry_law.ensures.kept mid new after found.steps.leaves.sound more unit.steps.extends kept
           (λ id named gone. kept.unretired id named (subst (λ (list : List ℕ). Contains list id) unit.retired gone));
       again = λ limit. absurd (unit.no_node_limit (ap Err (came_from _ came NodeLimit given limit)));
-      made = subst (λ (graph : Graph). MakesOnly old.graph graph (conjunction_of old.graph c.args.u.now.node c.args.v.now.node))
-          (sym unit.nodes) found.made;
+      made = only_of _ _ _ (subst (λ (graph : Graph). MakesOnly old.graph graph
+          (conjunction_of old.graph c.args.u.now.node c.args.v.now.node))
+          (sym unit.nodes) found.made);
       lacks = λ limit. absurd (unit.no_node_limit (ap Err (came_from _ came NodeLimit given limit)));
       pairs = λ width room few all.
           let own = pairs_found g (goal.at.returns-in_err-unit-clause-finds g c).After-and width room few in

@@ -1,5 +1,6 @@
 -- A term without a variable, with its unit.
-use Rattle.std.proofs.Common.{◌≡◌, ◌∙◌, ◌<◌, ◌+◌, ◌*◌, ℕ, Bool, true, false, ◌||◌, List, [], ◌∷◌, length, None, Some, Err, ap, sym, subst, arith}
+use Rattle.std.proofs.Common.{◌≡◌, ◌∙◌, ◌<◌, ◌+◌, ◌*◌, ℕ, Bool, true, false, ◌||◌, List, [], ◌∷◌, length, None, Some, Err, ap, sym, subst}
+use Rattle.std.proofs.Common.{arith}
 use Rattle.node_table.specs.declared.error.TableError.TheVariants.{NodeLimit, WriteFault}
 use Rattle.node_table.specs.Diagram.{Graph, levels, variable_at}
 use Rattle.node_table.specs.Defined.{atom_of}
@@ -16,6 +17,7 @@ use Rattle.clause_terms.specs.Term.{IsTerm}
 use Rattle.cnf_base.specs.Truth.{with_value}
 use Rattle.term_runner.specs.Caches.{HaveRoom, all_entries}
 use Rattle.term_runner.specs.Width.{HasAtMost}
+use Rattle.term_runner.proofs.MadeParts.{lacks_one, only_of}
 use Rattle.term_runner.proofs.AllCaches.{keeps_further}
 use Rattle.term_runner.proofs.Giving.{given_further, units_behind}
 use Rattle.term_runner.proofs.Leaving.{limit_left, limit_whole, steps_handed}
@@ -113,7 +115,8 @@ returns-clause-finds g c holds x at is_u =
       no_empty = λ untorn open_yet. steps.no_empty;
       fits = λ untorn. keeps.fits none_whole;
       again = λ limit. absurd (no_error limit);
-      made = subst (λ (graph : Graph). MakesOnly old.graph graph (quantification_of old.graph u.node c.args.level)) (sym two.nodes) one.made;
+      made = only_of _ _ _ (subst (λ (graph : Graph). MakesOnly old.graph graph (quantification_of old.graph u.node c.args.level))
+          (sym two.nodes) one.made);
       lacks = λ limit. absurd (no_error limit);
       pairs = λ width room few all.
           let own = pairs_found g (goal.at.returns-clause-finds g c).After-implied_unit width room few.0 all in
@@ -142,8 +145,8 @@ returns-in_err-node-clause-finds g c holds x at is_u =
           units_behind c.steps_law.ensures old mid (all_entries c.args.caches.now) (all_entries c.exists.new.self) stack c.requires.sound
           (limit_left old mid came is one.steps.leaves).0.sound one.steps.extends has one.keeps.retires (one.keeps.named whole)
           (one.accounts (λ torn. whole (ap Some (same_error torn))));
-      made = one.made;
-      lacks = λ limit. one.lacks (ap Err (came_from _ came NodeLimit given limit));
+      made = only_of _ _ _ (one.made);
+      lacks = λ limit. lacks_one _ _ (one.lacks (ap Err (came_from _ came NodeLimit given limit)));
       pairs = λ width room few all. omega (arith, one.steps.adds);
       sizes = c.exists.ensures.sizes;
     }
@@ -171,8 +174,9 @@ returns-in_err-unit-clause-finds g c holds x at is_u =
       no_empty = λ untorn open_yet. steps.no_empty;
       fits = λ untorn. keeps.fits (whole_result {T = Bool} (Err came) (other_cause _ came WriteFault given untorn));
       again = λ limit. absurd (two.no_node_limit (ap Err (came_from _ came NodeLimit given limit)));
-      made = subst (λ (graph : Graph). MakesOnly old.graph graph (quantification_of old.graph c.args.u.now.node c.args.level))
-          (sym two.nodes) one.made;
+      made = only_of _ _ _ (subst (λ (graph : Graph). MakesOnly old.graph graph
+          (quantification_of old.graph c.args.u.now.node c.args.level))
+          (sym two.nodes) one.made);
       lacks = λ limit. absurd (two.no_node_limit (ap Err (came_from _ came NodeLimit given limit)));
       pairs = λ width room few all.
           let own = pairs_found g (goal.at.returns-in_err-unit-clause-finds g c).After-implied_unit width room few.0 all in

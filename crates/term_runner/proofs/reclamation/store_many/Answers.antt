@@ -12,7 +12,8 @@ pub store-requires-clause-copies : goal.store-requires-clause-copies
 store-requires-clause-copies g c = c.requires.trail.2.copies
 
 pub store-requires-clause-nodes : goal.store-requires-clause-nodes
-store-requires-clause-nodes g c = recent_stand c.requires.trail.0 c.args.table.now.graph c.args.trail.now c.requires.trail.1 c.requires.trail.2
+store-requires-clause-nodes g c = recent_stand c.requires.trail.0 c.args.table.now.graph c.args.trail.now c.requires.trail.1
+    c.requires.trail.2
 
 pub returns-clause-trail : goal.returns-clause-trail
 returns-clause-trail g c formula quantified is =

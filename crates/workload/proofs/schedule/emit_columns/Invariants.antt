@@ -11,7 +11,7 @@ use Rattle.workload.proofs.schedule.emit_columns.Given as goal
 abbrev pub invariant-loop-column : goal.invariant-loop-column
 invariant-loop-column g l = record {
   emits : Emits g.S.Sink.tells (g.S.Sink.channel l.fn.sink) (g.S.Sink.channel l.sink) l.fn.held.items l.held.items
-      (flat_map command_line (flat_map (column_commands l.n) (natural (l.column - 1)))) (Ok tt);
+      (flat_map (command_line l.way) (flat_map (column_commands l.n) (natural (l.column - 1)))) (Ok tt);
   beside : g.S.Sink.beside l.sink ≡ g.S.Sink.beside l.fn.sink;
   cursor : StandsAt l.n l.column l.cursor;
 }

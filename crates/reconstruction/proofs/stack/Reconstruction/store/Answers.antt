@@ -3,7 +3,7 @@ use Rattle.std.proofs.Common.{ℕ, List, subst, sym}
 use Rattle.reconstruction.specs.declared.cells.Cell.{Cell}
 use Rattle.reconstruction.specs.Copies.{AreCopies, KeepsCopies}
 use Rattle.reconstruction.specs.Stack.{SayTheSame}
-use Rattle.reconstruction.proofs.Entries.{stores}
+use Rattle.reconstruction.proofs.TakenOver.{stores}
 use Rattle.reconstruction.proofs.Wanted.{on_ok}
 use Rattle.reconstruction.proofs.stack.Reconstruction.store.Goals as goal
 

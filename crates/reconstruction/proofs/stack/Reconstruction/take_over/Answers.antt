@@ -1,7 +1,7 @@
 -- What is left to show of `take_over`.
 use Rattle.std.proofs.Common.{◌∙◌, ◌++◌, map}
 use Rattle.reconstruction.specs.Stack.{entry_of}
-use Rattle.reconstruction.proofs.Entries.{stack_stored}
+use Rattle.reconstruction.proofs.TakenOver.{stack_stored}
 use Rattle.reconstruction.proofs.stack.Reconstruction.take_over.Goals as goal
 
 pub invariant_of-self-2 : goal.invariant_of-self-2

@@ -11,7 +11,10 @@ use Rattle.node_table.specs.declared.error.TableError.TheVariants.{OutOfMemory}
 use Rattle.node_table.specs.Diagram.{variable_at}
 use Rattle.node_table.specs.HandedOn.{handed_on}
 use Rattle.node_table.specs.Table.{TableState, IsSound}
-use Rattle.node_table.specs.Value.{Levels, value_of}
+use Rattle.node_table.specs.Value.{IsSubfunction, Levels, value_of}
+use Rattle.schedule_plan.specs.declared.plan.Move.{Move}
+use Rattle.schedule_plan.specs.SetMove.{move_in_order}
+use Rattle.term_runner.specs.Moves.{MayMove}
 use Rattle.apply_and.specs.Conjunction.{conjunction_of}
 use Rattle.quantify.specs.Quantification.{quantification_of}
 use Rattle.schedule_plan.specs.Plan.{Stage, Term, after_move, both, input, some_value, term_holds}
@@ -22,7 +25,7 @@ use Rattle.term_runner.specs.Held.{AreHeld, HasUnits, IsAt, IsHeld}
 use Rattle.term_runner.specs.Trail.{IsTrail}
 use Rattle.term_runner.specs.Terms.{HasOwnUnits, IsAtStage}
 use Rattle.term_runner.specs.Width.{HasAtMost, HoldsAtMost, IsInHand, term_function}
-use Rattle.term_runner.proofs.FewLeft.{in_front}
+use Rattle.term_runner.proofs.FewLeft.{in_front, result_part}
 use Rattle.term_runner.proofs.Inputs.{input_some}
 use Rattle.term_runner.proofs.Pairs.{at_most_same, few_of_term}
 use Rattle.term_runner.proofs.Placed.{gives_up, gives_up_swapped, not_found, not_kept, operand_of, put_done, retires_swapped, with_room}
@@ -30,7 +33,7 @@ use Rattle.term_runner.proofs.Planned.{both_function, node_function}
 use Rattle.term_runner.proofs.Plans.{IsAfterExists}
 use Rattle.term_runner.proofs.Quantified.{quantified_function}
 use Rattle.term_runner.proofs.Stacks.{few_left, none_left, term_kept}
-use Rattle.term_runner.proofs.Taking.{IsConjoined, IsPushed, and_of, exists_of, push_of}
+use Rattle.term_runner.proofs.Taking.{IsConjoined, IsPushed, and_in, exists_in, push_in}
 use Rattle.term_runner.proofs.Trails.{trail_grown, trail_pushed}
 use Rattle.term_runner.proofs.terms.Terms.carry_out.Given.{Over}
 use Rattle.term_runner.proofs.terms.Terms.carry_out.Goals as goal
@@ -40,22 +43,23 @@ pub input-requires-clause-over : goal.input-requires-clause-over
 input-requires-clause-over g c = (all_entries c.args.self.now.caches, c.requires.ready.over)
 
 pub input-requires-clause-from_one : goal.input-requires-clause-from_one
-input-requires-clause-from_one g c = (push_of c.args.formula.now c.requires.stage c.requires.next c.args.step c.in-Push.number
-    c.in-Push.is c.requires.leads).from_one
+input-requires-clause-from_one g c = (push_in c.args.formula.now c.args.self.now.table.graph.order c.requires.stage c.requires.next
+    c.args.step.now c.in-Push.number c.in-Push.is c.requires.leads).from_one
 
 pub input-requires-clause-to_len : goal.input-requires-clause-to_len
-input-requires-clause-to_len g c = (push_of c.args.formula.now c.requires.stage c.requires.next c.args.step c.in-Push.number
-    c.in-Push.is c.requires.leads).to_len
+input-requires-clause-to_len g c = (push_in c.args.formula.now c.args.self.now.table.graph.order c.requires.stage c.requires.next
+    c.args.step.now c.in-Push.number c.in-Push.is c.requires.leads).to_len
 
 pub input-requires-clause-some : goal.input-requires-clause-some
 input-requires-clause-some g c =
-    let move = push_of c.args.formula.now c.requires.stage c.requires.next c.args.step c.in-Push.number c.in-Push.is c.requires.leads in
+    let move = push_in c.args.formula.now c.args.self.now.table.graph.order c.requires.stage c.requires.next c.args.step.now
+    c.in-Push.number c.in-Push.is c.requires.leads in
     input_some c.args.formula.now c.in-Push.number move.from_one move.to_len c.requires.ready.none_empty
 
 module _ (g : Over) (c : After-input g) (stage next : Stage) (at : IsAtStage c.args.formula.now c.args.self.now stage)
-    (leads : after_move c.args.formula.now stage c.args.step ≡ Some next) where
+    (leads : after_move c.args.formula.now stage (move_in_order c.args.self.now.table.graph.order c.args.step.now) ≡ Some next) where
   abbrev pushed : IsPushed c.args.formula.now stage next c.in-Push.number
-  pushed = push_of c.args.formula.now stage next c.args.step c.in-Push.number c.in-Push.is leads
+  pushed = push_in c.args.formula.now c.args.self.now.table.graph.order stage next c.args.step.now c.in-Push.number c.in-Push.is leads
 
   roomy : HasOwnUnits (record c.args.self.now { out = c.reserve.new.self })
   roomy = subst (λ (s : List HeldTerm). HasUnits c.args.self.now.table (all_entries c.args.self.now.caches) (reverse s))
@@ -76,6 +80,8 @@ returns-in_err-held-in-Push g c stage next at leads =
     (not_found c.growth_law.ensures c.steps_law.ensures c.entry_law.ensures formula stage next (record old { out = c.reserve.new.self })
     c.requires.ready (roomy g inside stage next at leads) (roomy_at g inside stage next at leads) (input c.in-Push.number) stage.stack
     move.stack [] (reverse c.reserve.new.self.items) refl (roomy_at g inside stage next at leads).held (λ width most. tt)
+    (IsSubfunction (term_function c.args.formula.now c.args.self.now.table.graph.order (input c.in-Push.number)))
+    (result_part c.args.formula.now c.args.self.now.table.graph.order stage next (input c.in-Push.number) stage.stack move.stack)
     c.input.new.table old.caches came (c.in_err-held-in-Push.ensures.finds old.caches c.requires.ready.over.fits) _
     (handed_on _ came came c.from_residual.ensures.1 refl))
 
@@ -93,13 +99,17 @@ returns-in_ok-held-in-Push g c stage next at leads =
     (put_done c.growth_law.ensures c.steps_law.ensures c.entry_law.ensures formula stage next roomy_old
     c.requires.ready (roomy g inside stage next at leads) (roomy_at g inside stage next at leads) (input c.in-Push.number) stage.stack
     move.stack [] (reverse c.reserve.new.self.items) refl (roomy_at g inside stage next at leads).held (λ width most. tt)
-    c.input.new.table old.caches c.in_ok-held-in-Push.held found [] refl (λ last retires. retires) c.put.new.table (record old { out = c.put.new.out }) old.trail
+    (IsSubfunction (term_function c.args.formula.now c.args.self.now.table.graph.order (input c.in-Push.number)))
+    (result_part c.args.formula.now c.args.self.now.table.graph.order stage next (input c.in-Push.number) stage.stack move.stack)
+    c.input.new.table old.caches c.in_ok-held-in-Push.held found [] refl (λ last retires. retires) c.put.new.table
+    (record old { out = c.put.new.out }) old.trail
     (subst (λ (trail : List (ℕ × Term)). IsTrail formula c.input.new.table.graph old.trail trail) (sym move.trail) kept)
     c.put.result c.put.ensures.refuted c.put.ensures.placed)
 
 pub unreachable-requires : goal.unreachable-requires
 unreachable-requires g c =
-    let move = and_of c.args.formula.now c.requires.stage c.requires.next c.args.step c.in-And.is c.requires.leads in
+    let move = and_in c.args.formula.now c.args.self.now.table.graph.order c.requires.stage c.requires.next c.args.step.now c.in-And.is
+    c.requires.leads in
     let old = c.args.self.now.table in
     few_left c.args.formula.now old.graph old.book.state.live c.args.self.now.out.items
     (subst (λ (s : List HeldTerm). length s < 2) c.as_slice.ensures.value c.in_default.ensures) move.one move.other move.rest
@@ -131,7 +141,7 @@ pub conjunction-requires-clause-first : goal.conjunction-requires-clause-first
 conjunction-requires-clause-first g c =
     let table = c.args.self.now.table in
     let begun = c.requires in
-    let move = and_of c.args.formula.now begun.stage begun.next c.args.step c.in-And.is begun.leads in
+    let move = and_in c.args.formula.now c.args.self.now.table.graph.order begun.stage begun.next c.args.step.now c.in-And.is begun.leads in
     let list = c.in-Some.v ∷ c.in-Some.u ∷ c.in-Some.ensures.0 in
     let items : reverse c.args.self.now.out.items ≡ list = ap reverse (sym c.as_slice.ensures.value) ∙ c.in-Some.ensures.1 in
     let are = as_listed c.args.formula.now table _ list _ _ items move.before begun.at.held in
@@ -142,7 +152,7 @@ pub conjunction-requires-clause-second : goal.conjunction-requires-clause-second
 conjunction-requires-clause-second g c =
     let table = c.args.self.now.table in
     let begun = c.requires in
-    let move = and_of c.args.formula.now begun.stage begun.next c.args.step c.in-And.is begun.leads in
+    let move = and_in c.args.formula.now c.args.self.now.table.graph.order begun.stage begun.next c.args.step.now c.in-And.is begun.leads in
     let list = c.in-Some.v ∷ c.in-Some.u ∷ c.in-Some.ensures.0 in
     let items : reverse c.args.self.now.out.items ≡ list = ap reverse (sym c.as_slice.ensures.value) ∙ c.in-Some.ensures.1 in
     let are = as_listed c.args.formula.now table _ list _ _ items move.before begun.at.held in
@@ -151,9 +161,9 @@ conjunction-requires-clause-second g c =
 
 -- the conjunction that was found, of the two last terms
 module _ (g : Over) (c : After-conjunction g) (stage next : Stage) (at : IsAtStage c.args.formula.now c.args.self.now stage)
-    (leads : after_move c.args.formula.now stage c.args.step ≡ Some next) where
+    (leads : after_move c.args.formula.now stage (move_in_order c.args.self.now.table.graph.order c.args.step.now) ≡ Some next) where
   abbrev conjoined : IsConjoined stage next
-  conjoined = and_of c.args.formula.now stage next c.args.step c.in-And.is leads
+  conjoined = and_in c.args.formula.now c.args.self.now.table.graph.order stage next c.args.step.now c.in-And.is leads
 
   items_two : reverse c.args.self.now.out.items ≡ c.in-Some.v ∷ c.in-Some.u ∷ c.in-Some.ensures.0
   items_two = ap reverse (sym c.as_slice.ensures.value) ∙ c.in-Some.ensures.1
@@ -176,20 +186,26 @@ module _ (g : Over) (c : After-conjunction g) (stage next : Stage) (at : IsAtSta
   )
 
   found_two : (r : Result HeldTerm TableError)
-      → ((one other : Assignment → Bool) → IsTerm c.args.self.now.table.graph c.args.self.now.table.book.state.live one c.in-Some.u.node c.in-Some.u.unit
+      → ((one other : Assignment → Bool) → IsTerm c.args.self.now.table.graph c.args.self.now.table.book.state.live one c.in-Some.u.node
+      c.in-Some.u.unit
       → IsTerm c.args.self.now.table.graph c.args.self.now.table.book.state.live other c.in-Some.v.node c.in-Some.v.unit
-      → Finds (conjunction_of c.args.self.now.table.graph c.in-Some.u.node c.in-Some.v.node) (λ a. one a && other a)
+      → Finds (IsSubfunction (conjunction_of c.args.self.now.table.graph c.in-Some.u.node c.in-Some.v.node))
+      (conjunction_of c.args.self.now.table.graph c.in-Some.u.node c.in-Some.v.node) (λ a. one a && other a)
       (c.in-Some.v ∷ c.in-Some.u ∷ []) c.args.self.now.table c.conjunction.new.table c.args.self.now.caches c.conjunction.new.caches r)
-      → Finds (term_function c.args.formula.now c.args.self.now.table.graph.order (both conjoined.one conjoined.other))
+      → Finds (IsSubfunction (term_function c.args.formula.now c.args.self.now.table.graph.order (both conjoined.one conjoined.other)))
+      (term_function c.args.formula.now c.args.self.now.table.graph.order (both conjoined.one conjoined.other))
       (λ a. term_holds c.args.formula.now a (both conjoined.one conjoined.other)) (c.in-Some.v ∷ c.in-Some.u ∷ []) c.args.self.now.table
       c.conjunction.new.table c.args.self.now.caches c.conjunction.new.caches r
   found_two r finds =
       let old = c.args.self.now.table in
-      subst (λ (function : Levels → Bool). Finds function (λ a. term_holds c.args.formula.now a (both conjoined.one conjoined.other))
+      subst (λ (function : Levels → Bool). Finds (IsSubfunction function) function
+      (λ a. term_holds c.args.formula.now a (both conjoined.one conjoined.other))
       (c.in-Some.v ∷ c.in-Some.u ∷ []) old c.conjunction.new.table c.args.self.now.caches c.conjunction.new.caches r)
-      (both_function old.graph c.requires.ready.over.sound.tied.reduced c.requires.ready.over.sound.tied.ordered c.args.formula.now old.book.state.live
+      (both_function old.graph c.requires.ready.over.sound.tied.reduced c.requires.ready.over.sound.tied.ordered c.args.formula.now
+      old.book.state.live
       c.in-Some.u.node c.in-Some.v.node c.in-Some.u.unit c.in-Some.v.unit conjoined.one conjoined.other two.1.0.is two.0.is)
-      (finds (λ a. term_holds c.args.formula.now a conjoined.one) (λ a. term_holds c.args.formula.now a conjoined.other) two.1.0.is two.0.is)
+      (finds (λ a. term_holds c.args.formula.now a conjoined.one) (λ a. term_holds c.args.formula.now a conjoined.other) two.1.0.is
+      two.0.is)
 
 pub returns-in_err-held-in-And : goal.returns-in_err-held-in-And
 returns-in_err-held-in-And g c stage next at leads =
@@ -199,7 +215,10 @@ returns-in_err-held-in-And g c stage next at leads =
     not_found c.growth_law.ensures c.steps_law.ensures c.entry_law.ensures c.args.formula.now stage next c.args.self.now
     c.requires.ready c.requires.own at (both move.one move.other) move.rest move.after (c.in-Some.v ∷ c.in-Some.u ∷ [])
     c.in-Some.ensures.0 (items_two g inside stage next at leads) (two g inside stage next at leads).1.1
-    (few_two g inside stage next at leads) c.conjunction.new.table c.conjunction.new.caches came
+    (few_two g inside stage next at leads) (IsSubfunction (term_function c.args.formula.now c.args.self.now.table.graph.order
+    (both move.one move.other)))
+    (result_part c.args.formula.now c.args.self.now.table.graph.order stage next (both move.one move.other) move.rest move.after)
+    c.conjunction.new.table c.conjunction.new.caches came
     (found_two g inside stage next at leads (Err came) c.in_err-held-in-And.ensures) _
     (handed_on _ came came c.from_residual-in_err-held-in-And.ensures.1 refl)
 
@@ -207,7 +226,8 @@ pub put-requires-in-And-clause-sound : goal.put-requires-in-And-clause-sound
 put-requires-in-And-clause-sound g c =
     let begun = c.requires in
     let inside = (goal.at.put-requires-in-And-clause-sound g c).After-conjunction in
-    (found_two g inside begun.stage begun.next begun.at begun.leads (Ok c.in_ok-held-in-And.held) c.in_ok-held-in-And.ensures).steps.leaves.sound
+    (found_two g inside begun.stage begun.next begun.at begun.leads (Ok c.in_ok-held-in-And.held)
+    c.in_ok-held-in-And.ensures).steps.leaves.sound
 
 pub put-requires-in-And-clause-units : goal.put-requires-in-And-clause-units
 put-requires-in-And-clause-units g c some =
@@ -217,8 +237,12 @@ put-requires-in-And-clause-units g c some =
     let items = items_two g inside begun.stage begun.next begun.at begun.leads in
     gives_up_swapped c.conjunction.new.table c.in-Some.u c.in-Some.v
     (gives_up c.growth_law.ensures c.steps_law.ensures c.entry_law.ensures c.args.formula.now begun.stage begun.next c.args.self.now
-    begun.ready begun.own begun.at (both move.one move.other) move.rest move.after (c.in-Some.v ∷ c.in-Some.u ∷ []) c.in-Some.ensures.0 items
+    begun.ready begun.own begun.at (both move.one move.other) move.rest move.after (c.in-Some.v ∷ c.in-Some.u ∷ []) c.in-Some.ensures.0
+    items
     (two g inside begun.stage begun.next begun.at begun.leads).1.1 (few_two g inside begun.stage begun.next begun.at begun.leads)
+    (IsSubfunction (term_function c.args.formula.now c.args.self.now.table.graph.order (both move.one move.other)))
+    (result_part c.args.formula.now c.args.self.now.table.graph.order begun.stage begun.next (both move.one move.other) move.rest
+    move.after)
     c.conjunction.new.table c.conjunction.new.caches c.in_ok-held-in-And.held
     (found_two g inside begun.stage begun.next begun.at begun.leads (Ok c.in_ok-held-in-And.held) c.in_ok-held-in-And.ensures))
 
@@ -229,13 +253,17 @@ returns-in_ok-held-in-And g c stage next at leads =
     let inside = (goal.at.returns-in_ok-held-in-And g c).After-conjunction in
     let move = conjoined g inside stage next at leads in
     let found = found_two g inside stage next at leads (Ok c.in_ok-held-in-And.held) c.in_ok-held-in-And.ensures in
-    let kept = trail_grown c.growth_law.ensures formula old.table.graph c.conjunction.new.table.graph c.requires.ready.over.sound.tied.reduced
+    let kept = trail_grown c.growth_law.ensures formula old.table.graph c.conjunction.new.table.graph
+    c.requires.ready.over.sound.tied.reduced
     found.steps.extends.nodes old.trail stage.trail at.kept in
     put_done c.growth_law.ensures c.steps_law.ensures c.entry_law.ensures formula stage next old c.requires.ready c.requires.own at
     (both move.one move.other) move.rest move.after (c.in-Some.v ∷ c.in-Some.u ∷ []) c.in-Some.ensures.0
     (items_two g inside stage next at leads) (two g inside stage next at leads).1.1 (few_two g inside stage next at leads)
+    (IsSubfunction (term_function c.args.formula.now c.args.self.now.table.graph.order (both move.one move.other)))
+    (result_part formula c.args.self.now.table.graph.order stage next (both move.one move.other) move.rest move.after)
     c.conjunction.new.table c.conjunction.new.caches c.in_ok-held-in-And.held found
-    (c.in-Some.u ∷ c.in-Some.v ∷ []) refl (λ last. retires_swapped c.conjunction.new.table last c.in-Some.u c.in-Some.v c.in_ok-held-in-And.held.unit) c.put-in-And.new.table
+    (c.in-Some.u ∷ c.in-Some.v ∷ []) refl (λ last. retires_swapped c.conjunction.new.table last c.in-Some.u c.in-Some.v
+    c.in_ok-held-in-And.held.unit) c.put-in-And.new.table
     (record old { out = c.put-in-And.new.out }) old.trail
     (subst (λ (trail : List (ℕ × Term)). IsTrail formula c.conjunction.new.table.graph old.trail trail) (sym move.trail) kept)
     c.put-in-And.result c.put-in-And.ensures.refuted c.put-in-And.ensures.placed
@@ -243,15 +271,18 @@ returns-in_ok-held-in-And g c stage next at leads =
 pub unreachable-requires-in_default-level : goal.unreachable-requires-in_default-level
 unreachable-requires-in_default-level g c =
     let begun = c.requires in
-    let move = exists_of c.args.formula.now begun.stage begun.next c.args.step c.in-Exists.variable c.in-Exists.is begun.leads in
-    let place = begun.ready.over.sound.tied.ordered.each c.in-Exists.variable move.above (omega (arith, move.within, begun.ready.over.vars)) in
+    let move = exists_in c.args.formula.now c.args.self.now.table.graph.order begun.stage begun.next c.args.step.now
+    c.in-Exists.variable c.in-Exists.is begun.leads in
+    let place = begun.ready.over.sound.tied.ordered.each c.in-Exists.variable move.above
+    (omega (arith, move.within, begun.ready.over.vars)) in
     c.in_default-level.ensures place.0 place.1 place.2
 
 pub unreachable-requires-in_default-last_term : goal.unreachable-requires-in_default-last_term
 unreachable-requires-in_default-last_term g c =
     let table = c.args.self.now.table in
     let begun = c.requires in
-    let move = exists_of c.args.formula.now begun.stage begun.next c.args.step c.in-Exists.variable c.in-Exists.is begun.leads in
+    let move = exists_in c.args.formula.now c.args.self.now.table.graph.order begun.stage begun.next c.args.step.now
+    c.in-Exists.variable c.in-Exists.is begun.leads in
     let few = subst (λ (s : List HeldTerm). length s < 1) c.as_slice-in-Exists.ensures.value c.in_default-last_term.ensures in
     none_left c.args.formula.now table.graph table.book.state.live c.args.self.now.out.items (omega (arith, few)) move.top move.rest
     (subst (λ (terms : List Term). AreHeld c.args.formula.now table.graph table.book.state.live (reverse c.args.self.now.out.items) terms)
@@ -262,7 +293,8 @@ weaken-requires-clause-operand g c =
     let table = c.args.self.now.table in
     let begun = c.requires in
     let u = c.in-Some-last_term.u in
-    let move = exists_of c.args.formula.now begun.stage begun.next c.args.step c.in-Exists.variable c.in-Exists.is begun.leads in
+    let move = exists_in c.args.formula.now c.args.self.now.table.graph.order begun.stage begun.next c.args.step.now
+    c.in-Exists.variable c.in-Exists.is begun.leads in
     let list = u ∷ c.in-Some-last_term.ensures.0 in
     let items : reverse c.args.self.now.out.items ≡ list = ap reverse (sym c.as_slice-in-Exists.ensures.value)
     ∙ c.in-Some-last_term.ensures.1 in
@@ -272,9 +304,10 @@ weaken-requires-clause-operand g c =
 
 -- what was found of the last term without the variable
 module _ (g : Over) (c : After-weaken g) (stage next : Stage) (at : IsAtStage c.args.formula.now c.args.self.now stage)
-    (leads : after_move c.args.formula.now stage c.args.step ≡ Some next) where
+    (leads : after_move c.args.formula.now stage (move_in_order c.args.self.now.table.graph.order c.args.step.now) ≡ Some next) where
   abbrev quantified : IsAfterExists c.args.formula.now stage next c.in-Exists.variable stage.stack
-  quantified = exists_of c.args.formula.now stage next c.args.step c.in-Exists.variable c.in-Exists.is leads
+  quantified = exists_in c.args.formula.now c.args.self.now.table.graph.order stage next c.args.step.now c.in-Exists.variable
+      c.in-Exists.is leads
 
   items_one : reverse c.args.self.now.out.items ≡ c.in-Some-last_term.u ∷ c.in-Some-last_term.ensures.0
   items_one = ap reverse (sym c.as_slice-in-Exists.ensures.value) ∙ c.in-Some-last_term.ensures.1
@@ -297,19 +330,24 @@ module _ (g : Over) (c : After-weaken g) (stage next : Stage) (at : IsAtStage c.
   found_one : (r : Result HeldTerm TableError)
       → ((holds : Assignment → Bool) (variable : ℕ) → variable_at c.args.self.now.table.graph c.in-Some-level.level ≡ variable
       → IsTerm c.args.self.now.table.graph c.args.self.now.table.book.state.live holds c.in-Some-last_term.u.node c.in-Some-last_term.u.unit
-      → Finds (quantification_of c.args.self.now.table.graph c.in-Some-last_term.u.node c.in-Some-level.level)
+      → Finds (IsSubfunction (quantification_of c.args.self.now.table.graph c.in-Some-last_term.u.node c.in-Some-level.level))
+      (quantification_of c.args.self.now.table.graph c.in-Some-last_term.u.node c.in-Some-level.level)
       (λ a. holds (with_value a variable true) || holds (with_value a variable false)) (c.in-Some-last_term.u ∷ [])
       c.args.self.now.table c.weaken.new.table c.args.self.now.caches c.weaken.new.caches r)
-      → Finds (term_function c.args.formula.now c.args.self.now.table.graph.order (some_value c.in-Exists.variable quantified.top))
+      → Finds (IsSubfunction (term_function c.args.formula.now c.args.self.now.table.graph.order
+      (some_value c.in-Exists.variable quantified.top)))
+      (term_function c.args.formula.now c.args.self.now.table.graph.order (some_value c.in-Exists.variable quantified.top))
       (λ a. term_holds c.args.formula.now a (some_value c.in-Exists.variable quantified.top)) (c.in-Some-last_term.u ∷ [])
       c.args.self.now.table c.weaken.new.table c.args.self.now.caches c.weaken.new.caches r
   found_one r finds =
       let old = c.args.self.now.table in
       let x = c.in-Exists.variable in
       let level = c.in-Some-level in
-      subst (λ (function : Levels → Bool). Finds function (λ a. term_holds c.args.formula.now a (some_value x quantified.top))
+      subst (λ (function : Levels → Bool). Finds (IsSubfunction function) function
+      (λ a. term_holds c.args.formula.now a (some_value x quantified.top))
       (c.in-Some-last_term.u ∷ []) old c.weaken.new.table c.args.self.now.caches c.weaken.new.caches r)
-      (quantified_function old.graph c.requires.ready.over.sound.tied.reduced c.requires.ready.over.sound.tied.ordered level.level x level.ensures.0
+      (quantified_function old.graph c.requires.ready.over.sound.tied.reduced c.requires.ready.over.sound.tied.ordered level.level x
+      level.ensures.0
       level.ensures.1 c.args.formula.now quantified.top c.in-Some-last_term.u.node top.0.is.stands top.0.is.value)
       (finds (λ a. term_holds c.args.formula.now a quantified.top) x level.ensures.1 top.0.is)
 
@@ -321,7 +359,10 @@ returns-in_err-held-in-Exists g c stage next at leads =
     not_found c.growth_law.ensures c.steps_law.ensures c.entry_law.ensures c.args.formula.now stage next c.args.self.now
     c.requires.ready c.requires.own at (some_value c.in-Exists.variable move.top) move.rest (result_one g inside stage next at leads)
     (c.in-Some-last_term.u ∷ []) c.in-Some-last_term.ensures.0 (items_one g inside stage next at leads)
-    (top g inside stage next at leads).1 (few_one g inside stage next at leads) c.weaken.new.table c.weaken.new.caches came
+    (top g inside stage next at leads).1 (few_one g inside stage next at leads)
+    (IsSubfunction (term_function c.args.formula.now c.args.self.now.table.graph.order (some_value c.in-Exists.variable move.top)))
+    (result_part c.args.formula.now c.args.self.now.table.graph.order stage next (some_value c.in-Exists.variable move.top) move.rest
+    (result_one g inside stage next at leads)) c.weaken.new.table c.weaken.new.caches came
     (found_one g inside stage next at leads (Err came) c.in_err-held-in-Exists.ensures.finds) _
     (handed_on _ came came c.from_residual-in_err-held-in-Exists.ensures.1 refl)
 
@@ -332,7 +373,10 @@ returns-in_err-push-in-Exists g c stage next at leads =
     not_kept c.growth_law.ensures c.steps_law.ensures c.entry_law.ensures c.args.formula.now stage next c.args.self.now
     c.requires.ready c.requires.own at (some_value c.in-Exists.variable move.top) move.rest (result_one g inside stage next at leads)
     (c.in-Some-last_term.u ∷ []) c.in-Some-last_term.ensures.0 (items_one g inside stage next at leads)
-    (top g inside stage next at leads).1 (few_one g inside stage next at leads) c.weaken.new.table c.weaken.new.caches
+    (top g inside stage next at leads).1 (few_one g inside stage next at leads)
+    (IsSubfunction (term_function c.args.formula.now c.args.self.now.table.graph.order (some_value c.in-Exists.variable move.top)))
+    (result_part c.args.formula.now c.args.self.now.table.graph.order stage next (some_value c.in-Exists.variable move.top) move.rest
+    (result_one g inside stage next at leads)) c.weaken.new.table c.weaken.new.caches
     c.in_ok-held-in-Exists.held
     (found_one g inside stage next at leads (Ok c.in_ok-held-in-Exists.held) c.in_ok-held-in-Exists.ensures.finds) _
     (handed_on _ OutOfMemory OutOfMemory c.from_residual-in_err-push-in-Exists.ensures.1 refl) c.in_ok-held-in-Exists.ensures.some
@@ -355,6 +399,9 @@ put-requires-in-Exists-clause-units g c some =
     begun.ready begun.own begun.at (some_value c.in-Exists.variable move.top) move.rest
     (result_one g inside begun.stage begun.next begun.at begun.leads) (c.in-Some-last_term.u ∷ []) c.in-Some-last_term.ensures.0 items
     (top g inside begun.stage begun.next begun.at begun.leads).1 (few_one g inside begun.stage begun.next begun.at begun.leads)
+    (IsSubfunction (term_function c.args.formula.now c.args.self.now.table.graph.order (some_value c.in-Exists.variable move.top)))
+    (result_part c.args.formula.now c.args.self.now.table.graph.order begun.stage begun.next
+    (some_value c.in-Exists.variable move.top) move.rest (result_one g inside begun.stage begun.next begun.at begun.leads))
     c.weaken.new.table c.weaken.new.caches c.in_ok-held-in-Exists.held
     (found_one g inside begun.stage begun.next begun.at begun.leads (Ok c.in_ok-held-in-Exists.held) c.in_ok-held-in-Exists.ensures.finds))
 
@@ -372,14 +419,30 @@ returns-in_ok-push-in-Exists g c stage next at leads =
     let up = term_kept c.growth_law.ensures old.table.graph new.graph reduced extends.nodes old.table.book.state.live new.book.state.live
     extends.clauses (λ a. term_holds formula a move.top) c.in-Some-last_term.u.node c.in-Some-last_term.u.unit
     (top g inside stage next at leads).0.is in
-    let kept = trail_pushed formula new.graph old.trail c.push.new.self (x, c.in-Some-last_term.u.node) (x, move.top) stage.trail
-    c.in_ok-push-in-Exists.ensures.ok (record { variable = refl; stands = up.stands; value = up.value })
+    let kept = trail_pushed formula new.graph old.trail c.push.new.self x c.in-Some-last_term.u.node move.top stage.trail
+    c.in_ok-push-in-Exists.ensures.ok up.stands up.value
     (trail_grown c.growth_law.ensures formula old.table.graph new.graph reduced extends.nodes old.trail stage.trail at.kept) in
     put_done c.growth_law.ensures c.steps_law.ensures c.entry_law.ensures formula stage next old c.requires.ready c.requires.own at
     (some_value x move.top) move.rest (result_one g inside stage next at leads) (c.in-Some-last_term.u ∷ [])
     c.in-Some-last_term.ensures.0 (items_one g inside stage next at leads) (top g inside stage next at leads).1
-    (few_one g inside stage next at leads) new c.weaken.new.caches c.in_ok-held-in-Exists.held found (c.in-Some-last_term.u ∷ []) refl (λ last retires. retires)
+    (few_one g inside stage next at leads) (IsSubfunction (term_function c.args.formula.now c.args.self.now.table.graph.order
+    (some_value c.in-Exists.variable move.top)))
+    (result_part c.args.formula.now c.args.self.now.table.graph.order stage next (some_value c.in-Exists.variable move.top) move.rest
+    (result_one g inside stage next at leads)) new c.weaken.new.caches c.in_ok-held-in-Exists.held found (c.in-Some-last_term.u ∷ []) refl
+    (λ last retires. retires)
     c.put-in-Exists.new.table (record old { out = c.put-in-Exists.new.out }) c.push.new.self
     (subst (λ (trail : List (ℕ × Term)). IsTrail formula new.graph c.push.new.self trail)
     (sym (ap (λ (s : Stage). s.trail) move.after)) kept)
     c.put-in-Exists.result c.put-in-Exists.ensures.refuted c.put-in-Exists.ensures.placed
+
+pub quantify_all-requires : goal.quantify_all-requires
+quantify_all-requires g c = (
+  c.args.formula.now,
+  subst (λ (m : Move). MayMove c.args.formula.now m c.args.self.now) c.in-ExistsAll.is c.requires,
+)
+
+pub returns-in-ExistsAll : goal.returns-in-ExistsAll
+returns-in-ExistsAll g c stage next at leads =
+    c.quantify_all.ensures c.args.formula.now stage next c.requires.ready at
+    (subst (λ (m : Move). after_move c.args.formula.now stage (move_in_order c.args.self.now.table.graph.order m) ≡ Some next)
+    c.in-ExistsAll.is leads)

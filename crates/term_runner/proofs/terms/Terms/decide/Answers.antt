@@ -1,9 +1,14 @@
 -- What is left to show of `decide`.
-use Rattle.std.proofs.Common.{rules, ℕ, List, length, reverse, sym, subst, ◌∙◌, arith}
+use Rattle.std.proofs.Common.{rules, ◌≡◌, ℕ, List, length, reverse, sym, subst, ◌∙◌, arith}
 use Rattle.node_table.specs.Diagram.{levels}
 use Rattle.node_table.specs.declared.node.Node.{Node}
 use Rattle.node_table.specs.declared.node.Node.TheVariants.{True}
 use Rattle.clause_terms.specs.Recovery.{IsRecoveredFrom}
+use Rattle.cnf_base.specs.Formula.{Formula}
+use Rattle.cnf_base.specs.Order.{IsOrder}
+use Rattle.schedule_plan.specs.declared.plan.Move.{Move}
+use Rattle.schedule_plan.specs.Plan.{IsAdmissible}
+use Rattle.schedule_plan.specs.SetMove.{SetMoves, in_order}
 use Rattle.term_runner.specs.Price.{IsPaid}
 use Rattle.node_table.specs.declared.error.TableError.TheVariants.{OutOfMemory}
 use Rattle.node_table.specs.HandedOn.{if_handed}
@@ -17,10 +22,23 @@ use Rattle.term_runner.proofs.terms.Terms.decide.Given.{Over}
 use Rattle.term_runner.proofs.terms.Terms.decide.Goals as goal
 use Rattle.term_runner.proofs.terms.Terms.decide.Goals.{After-are_tautologies}
 
+-- the plan is admissible in the order of the variables
+in_its_order : SetMoves → (formula : Formula) (order : List ℕ) (moves : List Move) → IsOrder order → length order ≡ formula.vars
+    → IsAdmissible formula moves → IsAdmissible formula (in_order order moves)
+in_its_order law formula order moves ordered same plan =
+    law.alike formula moves (in_order order moves) (law.ordered formula order moves ordered same plan) plan
+
+pub take_moves-requires-clause-plan : goal.take_moves-requires-clause-plan
+take_moves-requires-clause-plan g c =
+    in_its_order c.set_move_law.ensures c.args.formula.now c.args.self.now.table.graph.order c.args.plan.now c.table_law.ensures.ordered
+    c.requires.ready.over.vars c.requires.plan
+
 pub returns-then-are_tautologies-clause-found : goal.returns-then-are_tautologies-clause-found
 returns-then-are_tautologies-clause-found g c =
     let formula = c.args.formula.now in
-    tautologies_recovered formula c.args.self.now.table.graph c.args.plan.now c.requires.plan c.table_law.ensures.ordered
+    tautologies_recovered formula c.args.self.now.table.graph c.args.plan.now
+    (in_its_order c.set_move_law.ensures formula c.args.self.now.table.graph.order c.args.plan.now c.table_law.ensures.ordered
+    c.requires.ready.over.vars c.requires.plan) c.table_law.ensures.ordered
     c.formula_law.ensures.literals c.requires.ready.over.vars
     (λ a. all_hold formula a (tautologies_satisfied a formula.vars formula.clauses c.formula_law.ensures.literals
     (sym c.are_tautologies.ensures ∙ c.if-are_tautologies.true)))

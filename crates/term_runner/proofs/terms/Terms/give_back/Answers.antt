@@ -12,7 +12,8 @@ use Rattle.term_runner.specs.Caches.{all_entries}
 use Rattle.term_runner.specs.Held.{IsAt}
 use Rattle.term_runner.specs.Tidy.{LeavesReached, held_nodes}
 use Rattle.term_runner.specs.Trail.{IsTrail}
-use Rattle.term_runner.proofs.Reclaimed.{at_reclaimed, leaves_reached, may_reclaim, over_reclaimed, roots_stand, units_reclaimed, were_there}
+use Rattle.term_runner.proofs.Reclaimed.{at_reclaimed, leaves_reached, may_reclaim, over_reclaimed, roots_stand, units_reclaimed}
+use Rattle.term_runner.proofs.Reclaimed.{were_there}
 use Rattle.term_runner.proofs.terms.Terms.give_back.Goals as goal
 
 -- the roots are the nodes of the terms, and those of the trail that aren't stored
@@ -38,8 +39,10 @@ reclaim-requires-clause-roots g c root there =
     c.args.self.now.out.items c.as_slice.result.now trail c.as_slice-2.result.now c.in_ok-roots.roots.items
     c.as_slice.ensures.value c.as_slice-2.ensures.value c.in_ok-roots.ensures in
     roots_stand c.args.formula.now table.graph table.book.state.live c.args.self.now.out.items trail c.requires.possible.0
-    (at_stored c.args.formula.now table.graph table.book.state.live c.args.self.now.out.items c.args.self.now.trail trail c.requires.possible.0
-    (c.in_ok-store_many.ensures.trail c.args.formula.now) c.requires.possible.1) root (subst (λ (roots : List Node). Contains roots root) same there)
+    (at_stored c.args.formula.now table.graph table.book.state.live c.args.self.now.out.items c.args.self.now.trail trail
+    c.requires.possible.0
+    (c.in_ok-store_many.ensures.trail c.args.formula.now) c.requires.possible.1) root
+    (subst (λ (roots : List Node). Contains roots root) same there)
 
 pub reclaim-requires-clause-may : goal.reclaim-requires-clause-may
 reclaim-requires-clause-may g c =
@@ -52,7 +55,8 @@ reclaim-requires-clause-may g c =
     subst (λ (roots : List Node). MayReclaim table entries roots) (sym same)
     (may_reclaim c.args.formula.now table entries c.args.self.now.out.items trail c.requires.possible.0
     c.requires.ready.over.sound.tied.reduced c.requires.own
-    (at_stored c.args.formula.now table.graph table.book.state.live c.args.self.now.out.items c.args.self.now.trail trail c.requires.possible.0
+    (at_stored c.args.formula.now table.graph table.book.state.live c.args.self.now.out.items c.args.self.now.trail trail
+    c.requires.possible.0
     (c.in_ok-store_many.ensures.trail c.args.formula.now) c.requires.possible.1))
 
 pub returns-clause-at : goal.returns-clause-at
@@ -73,7 +77,8 @@ returns-clause-at g c stage at =
     at_reclaimed c.growth_law.ensures formula old new c.args.self.now.out.items trail before after sound reclaims c.requires.own
     c.forget_dead.new.self c.forget_dead.ensures.same
     (c.forget_dead.ensures.copies old.graph
-    (were_there c.growth_law.ensures formula old new c.args.self.now.out.items trail before after sound reclaims) stored.kept.copies) stage stored
+    (were_there c.growth_law.ensures formula old new c.args.self.now.out.items trail before after sound reclaims) stored.kept.copies)
+    stage stored
 
 pub returns-clause-own : goal.returns-clause-own
 returns-clause-own g c =
@@ -103,7 +108,8 @@ pub returns-clause-alone : goal.returns-clause-alone
 returns-clause-alone g c many = ap (λ (t : Stack). t.recent) c.forget_dead.ensures.same ∙ c.in_ok-store_many.ensures.alone many
 
 pub returns-clause-few : goal.returns-clause-few
-returns-clause-few g c few = ap (λ (t : Stack). t.recent) c.forget_dead.ensures.same ∙ ap (λ (t : Stack). t.recent) (c.store_many.ensures.few few)
+returns-clause-few g c few = ap (λ (t : Stack). t.recent) c.forget_dead.ensures.same ∙ ap (λ (t : Stack). t.recent)
+    (c.store_many.ensures.few few)
 
 pub returns-clause-ready : goal.returns-clause-ready
 returns-clause-ready g c =

@@ -4,6 +4,7 @@ use Rattle.node_table.specs.declared.error.TableError.{TableError}
 use Rattle.node_table.specs.HandedOn.{handed_on}
 use Rattle.term_runner.specs.Moves.{Moved}
 use Rattle.term_runner.specs.Tidy.{IsTidy}
+use Rattle.schedule_plan.specs.SetMove.{move_in_order}
 use Rattle.term_runner.proofs.Moved.{moved_back, moved_full}
 use Rattle.term_runner.proofs.Units.{not_both}
 use Rattle.term_runner.proofs.terms.Terms.take_move.Goals as goal
@@ -44,7 +45,8 @@ returns-in_err-self-clause-moved g c stage next at leads =
     let back = c.in_err-self.ensures in
     let own = subst (λ (refuted : Bool). Moved c.args.formula.now stage next c.args.self.now c.try_twice.new.self (Ok refuted))
     c.if-refuted.false (c.in_ok-refuted.ensures stage next at leads) in
-    moved_full c.canonical_law.ensures c.steps_law.ensures c.args.formula.now stage next c.args.step leads c.args.self.now
+    moved_full c.canonical_law.ensures c.steps_law.ensures c.args.formula.now stage next
+    (move_in_order c.args.self.now.table.graph.order c.args.step.now) leads c.args.self.now
     c.try_twice.new.self c.give_back.new.self own
     (λ tidy. not_both c.is_tidy.result (c.is_tidy.ensures.1 (many _ c.live.ensures tidy)) c.if-is_tidy.false)
     c.give_back.ensures.top c.give_back.ensures.sizes _ came (handed_on _ came came c.from_residual-in_err-self.ensures.1 refl) back.error
@@ -57,7 +59,8 @@ returns-clause-moved g c stage next at leads =
     c.if-refuted.false (c.in_ok-refuted.ensures stage next at leads) in
     subst (λ (refuted : Bool). Moved c.args.formula.now stage next c.args.self.now
     (record c.give_back.new.self { left = c.in_ok-self.field-0 }) (Ok refuted)) (sym c.if-refuted.false)
-    (moved_back c.canonical_law.ensures c.steps_law.ensures c.args.formula.now stage next c.args.step leads c.args.self.now
+    (moved_back c.canonical_law.ensures c.steps_law.ensures c.args.formula.now stage next
+    (move_in_order c.args.self.now.table.graph.order c.args.step.now) leads c.args.self.now
     c.try_twice.new.self (record c.give_back.new.self { left = c.in_ok-self.field-0 }) own
     (λ tidy. not_both c.is_tidy.result (c.is_tidy.ensures.1 (many _ c.live.ensures tidy)) c.if-is_tidy.false)
     c.give_back.ensures.top c.give_back.ensures.sizes

@@ -1,5 +1,6 @@
 -- What is left to show of `take_moves`.
-use Rattle.std.proofs.Common.{rules, ◌≡◌, ℕ, suc, ◌+◌, ◌*◌, ◌≤◌, Bool, true, List, [], Option, Result, length, take, reverse, None, Some, Ok, Err, ap}
+use Rattle.std.proofs.Common.{rules, ◌≡◌, ℕ, suc, ◌+◌, ◌*◌, ◌≤◌, Bool, true, List, [], Option, Result, length, take, reverse, None, Some}
+use Rattle.std.proofs.Common.{Ok, Err, ap}
 use Rattle.std.proofs.Common.{sym, ◌∙◌, subst, arith, inl, inr}
 use Rattle.std.proofs.Math.Nat.{mul-le-mul_right}
 use Rattle.std.specs.List.{slice_get}
@@ -14,17 +15,20 @@ use Rattle.node_table.specs.Table.{live_nodes}
 use Rattle.operations.specs.Entries.{Entry}
 use Rattle.schedule_plan.specs.declared.plan.Move.{Move}
 use Rattle.schedule_plan.specs.Plan.{Stage, after_move, after_moves, no_stage}
+use Rattle.schedule_plan.specs.SetMove.{in_order, move_in_order}
+use Rattle.quantify.specs.RunsFor.{LacksOneOf}
+use Rattle.term_runner.specs.Tidy.{WereLeft}
+use Rattle.std.proofs.lemmas.List.{length-map}
 use Rattle.term_runner.specs.Moves.{Moved}
 use Rattle.term_runner.specs.Terms.{IsAtStage}
 use Rattle.term_runner.specs.Price.{IsLeanAtEnd, IsMovePrice, IsPaid, most_nodes}
 use Rattle.term_runner.specs.Width.{HasWidth, HoldsAtMost}
-use Rattle.term_runner.specs.Nodes.{RunsShort}
+use Rattle.term_runner.specs.Nodes.{IsGivenPart, KeepsOrMakes}
 use Rattle.term_runner.specs.Opened.{LeavesKind}
 use Rattle.term_runner.specs.Held.{IsReady, top_node}
-use Rattle.term_runner.specs.Recovered.{IsRecovered}
 use Rattle.node_table.specs.HandedOn.{no_error, came_from, if_handed, no_answer, same_error}
 use Rattle.term_runner.proofs.Stacks.{top_stands, top_value}
-use Rattle.term_runner.proofs.Between.{IsNext, at_first, at_last, next_at, some_at}
+use Rattle.term_runner.proofs.Between.{IsNext, at_first, at_last, leads_here, next_at, some_at, step_at}
 use Rattle.term_runner.specs.Caches.{all_entries}
 use Rattle.term_runner.proofs.Giving.{units_none}
 use Rattle.term_runner.proofs.Least.{recovered}
@@ -42,8 +46,8 @@ use Rattle.term_runner.proofs.terms.Terms.take_moves.Goals as goal
 use Rattle.term_runner.proofs.terms.Terms.take_moves.Goals.{After-few_law-2, After-take_move}
 
 pub unreachable-requires : goal.unreachable-requires
-unreachable-requires g c = some_at c.args.plan.now c.moves.i (omega (arith, c.moves-test.true, c.len-i-end.ensures)) (sym c.get.ensures
-    ∙ c.in_default.is)
+unreachable-requires g c = some_at c.args.plan.now c.moves.i (omega (arith, c.moves-test.true, c.len-i-end.ensures))
+    c.in_default.ensures.none
 
 pub moves-init : goal.moves-init
 moves-init g c =
@@ -56,7 +60,8 @@ moves-init g c =
       left = λ width has. omega (arith, c.requires.none_left);
       price = λ width price has is. omega arith;
       size = c.requires.size;
-      between = at_first formula c.args.plan.now table.graph table.book.state.live c.args.self.now.out.items c.args.self.now.trail
+      between = at_first formula (in_order c.args.self.now.table.graph.order c.args.plan.now) table.graph table.book.state.live
+          c.args.self.now.out.items c.args.self.now.trail
           c.requires.none_out c.requires.no_trail (c.copies_law.ensures.none table.graph []);
       ready = subst (λ (kept : List Entry). IsReady formula table kept) (sym c.requires.no_entries) c.requires.ready;
       settled = c.requires.settled;
@@ -70,9 +75,13 @@ pub take_move-requires : goal.take_move-requires
 take_move-requires g c =
     let held = c.moves.invariant in
     let between = held.between in
-    let at : slice_get c.args.plan.now c.moves.i ≡ Some c.in-Some.step = sym c.get.ensures ∙ c.in-Some.is in
-    let next = next_at c.args.formula.now c.args.plan.now c.moves.i c.moves.self.table.graph c.moves.self.table.book.state.live c.moves.self.out.items
-    c.moves.self.trail c.requires.plan.last c.in-Some.step c.requires.plan.possible at between in
+    let at : slice_get (in_order c.args.self.now.table.graph.order c.args.plan.now) c.moves.i ≡ Some
+    (move_in_order c.args.self.now.table.graph.order c.in-Some.step.now) = step_at c.args.self.now.table.graph.order c.args.plan.now
+    c.moves.i c.in-Some.step.now c.in-Some.ensures.some in
+    let next = next_at c.args.formula.now (in_order c.args.self.now.table.graph.order c.args.plan.now) c.moves.i c.moves.self.table.graph
+    c.moves.self.table.book.state.live c.moves.self.out.items
+    c.moves.self.trail c.requires.plan.last (move_in_order c.args.self.now.table.graph.order c.in-Some.step.now) c.requires.plan.possible
+    at between in
     record {
       ready = held.ready;
       settled = held.settled;
@@ -80,12 +89,12 @@ take_move-requires g c =
       stage = between.stage;
       next = next.next;
       at = between.at;
-      leads = next.is;
+      leads = leads_here c.args.formula.now _ _ _ _ c.in-Some.step.now (sym c.moves.invariant.continues.order) next.is;
     }
 
 -- at each move of the plan no more parts are in hand than its width says
-at_move : (formula : Formula) (plan : List Move) (order : List ℕ) (i : ℕ) (step : Move) (before after : Stage) → slice_get plan i
-    ≡ Some step → after_moves formula no_stage (take i plan) ≡ Some before
+at_move : (formula : Formula) (plan : List Move) (order : List ℕ) (i : ℕ) (step : Move) (before after : Stage)
+    → slice_get (in_order order plan) i ≡ Some step → after_moves formula no_stage (take i (in_order order plan)) ≡ Some before
     → after_move formula before step ≡ Some after → (width : ℕ) → HasWidth formula order plan width
     → HoldsAtMost formula order before after width
 at_move formula plan order i step before after at reached leads width has more =
@@ -98,18 +107,23 @@ at_move formula plan order i step before after at reached leads width has more =
     })
 
 -- the move that was taken, from this stage
-next_here : (g : Over) (c : After-take_move g) → IsNext c.args.formula.now c.args.plan.now c.moves.i c.moves.invariant.between.stage
-    c.in-Some.step c.requires.plan.last
+next_here : (g : Over) (c : After-take_move g) → IsNext c.args.formula.now (in_order c.args.self.now.table.graph.order c.args.plan.now)
+    c.moves.i c.moves.invariant.between.stage
+    (move_in_order c.args.self.now.table.graph.order c.in-Some.step.now) c.requires.plan.last
 next_here g c =
     let between = c.moves.invariant.between in
-    next_at c.args.formula.now c.args.plan.now c.moves.i c.moves.self.table.graph c.moves.self.table.book.state.live c.moves.self.out.items
-    c.moves.self.trail c.requires.plan.last c.in-Some.step c.requires.plan.possible (sym c.get.ensures ∙ c.in-Some.is) between
+    next_at c.args.formula.now (in_order c.args.self.now.table.graph.order c.args.plan.now) c.moves.i c.moves.self.table.graph
+    c.moves.self.table.book.state.live c.moves.self.out.items
+    c.moves.self.trail c.requires.plan.last (move_in_order c.args.self.now.table.graph.order c.in-Some.step.now) c.requires.plan.possible
+    (step_at c.args.self.now.table.graph.order c.args.plan.now c.moves.i c.in-Some.step.now c.in-Some.ensures.some) between
 
 moved_here : (g : Over) (c : After-take_move g) (r : Result Bool TableError)
-    → ((stage next : Stage) → IsAtStage c.args.formula.now c.moves.self stage → after_move c.args.formula.now stage c.in-Some.step ≡ Some next
+    → ((stage next : Stage) → IsAtStage c.args.formula.now c.moves.self stage
+    → after_move c.args.formula.now stage (move_in_order c.moves.self.table.graph.order c.in-Some.step.now) ≡ Some next
     → Moved c.args.formula.now stage next c.moves.self c.take_move.new.self r)
     → Moved c.args.formula.now c.moves.invariant.between.stage (next_here g c).next c.moves.self c.take_move.new.self r
-moved_here g c r moved = moved c.moves.invariant.between.stage (next_here g c).next c.moves.invariant.between.at (next_here g c).is
+moved_here g c r moved = moved c.moves.invariant.between.stage (next_here g c).next c.moves.invariant.between.at
+    (leads_here c.args.formula.now _ _ _ _ c.in-Some.step.now (sym c.moves.invariant.continues.order) (next_here g c).is)
 
 -- a move gives so many numbers, however it ended
 near_by : (g : Over) (c : After-take_move g) (width price : ℕ)
@@ -122,11 +136,14 @@ near_by g c width price has is =
     let table = c.moves.self.table in
     let between = c.moves.invariant.between in
     let order = c.moves.invariant.continues.order in
-    let at : slice_get plan c.moves.i ≡ Some c.in-Some.step = sym c.get.ensures ∙ c.in-Some.is in
+    let at : slice_get (in_order c.args.self.now.table.graph.order c.args.plan.now) c.moves.i ≡ Some
+    (move_in_order c.args.self.now.table.graph.order c.in-Some.step.now) = step_at c.args.self.now.table.graph.order c.args.plan.now
+    c.moves.i c.in-Some.step.now c.in-Some.ensures.some in
     let next = next_here g c in
     let most : HoldsAtMost formula table.graph.order between.stage next.next width =
     subst (λ (o : List ℕ). HoldsAtMost formula o between.stage next.next width) (sym order)
-    (at_move formula plan c.args.self.now.table.graph.order c.moves.i c.in-Some.step between.stage next.next at between.front next.is width has)
+    (at_move formula plan c.args.self.now.table.graph.order c.moves.i (move_in_order c.args.self.now.table.graph.order c.in-Some.step.now)
+    between.stage next.next at between.front next.is width has)
     in
     (moved_here g c _ c.take_move.ensures.moved).price c.args.capacity width price c.moves.invariant.size
     (subst (λ (vars : ℕ). IsMovePrice vars c.args.capacity width price) (sym (ap length order)) is) most
@@ -149,16 +166,23 @@ within_all few all price first last small own = let more : few * price ≤ all *
 pub moves-preserved : goal.moves-preserved
 moves-preserved g c =
     let between = c.moves.invariant.between in
-    let at : slice_get c.args.plan.now c.moves.i ≡ Some c.in-Some.step = sym c.get.ensures ∙ c.in-Some.is in
-    let next = next_at c.args.formula.now c.args.plan.now c.moves.i c.moves.self.table.graph c.moves.self.table.book.state.live c.moves.self.out.items
-    c.moves.self.trail c.requires.plan.last c.in-Some.step c.requires.plan.possible at between in
-    let moved : after_moves c.args.formula.now no_stage (take (suc c.moves.i) c.args.plan.now)
-    ≡ Some next.next = moved_on c.args.formula.now c.args.plan.now c.moves.i c.in-Some.step no_stage between.stage next.next at
+    let at : slice_get (in_order c.args.self.now.table.graph.order c.args.plan.now) c.moves.i ≡ Some
+    (move_in_order c.args.self.now.table.graph.order c.in-Some.step.now) = step_at c.args.self.now.table.graph.order c.args.plan.now
+    c.moves.i c.in-Some.step.now c.in-Some.ensures.some in
+    let next = next_at c.args.formula.now (in_order c.args.self.now.table.graph.order c.args.plan.now) c.moves.i c.moves.self.table.graph
+    c.moves.self.table.book.state.live c.moves.self.out.items
+    c.moves.self.trail c.requires.plan.last (move_in_order c.args.self.now.table.graph.order c.in-Some.step.now) c.requires.plan.possible
+    at between in
+    let moved : after_moves c.args.formula.now no_stage (take (suc c.moves.i) (in_order c.args.self.now.table.graph.order c.args.plan.now))
+    ≡ Some next.next = moved_on c.args.formula.now (in_order c.args.self.now.table.graph.order c.args.plan.now) c.moves.i
+    (move_in_order c.args.self.now.table.graph.order c.in-Some.step.now) no_stage between.stage next.next at
     between.front next.is in
     let shift : suc c.moves.i ≡ c.moves.i + 1 = omega arith in
-    let own = c.in_ok-take_move.ensures.moved between.stage next.next between.at next.is in
-    let front : after_moves c.args.formula.now no_stage (take (c.moves.i + 1) c.args.plan.now)
-    ≡ Some next.next = subst (λ (n : ℕ). after_moves c.args.formula.now no_stage (take n c.args.plan.now)
+    let own = c.in_ok-take_move.ensures.moved between.stage next.next between.at
+    (leads_here c.args.formula.now _ _ _ _ c.in-Some.step.now (sym c.moves.invariant.continues.order) next.is) in
+    let front : after_moves c.args.formula.now no_stage (take (c.moves.i + 1) (in_order c.args.self.now.table.graph.order c.args.plan.now))
+    ≡ Some next.next = subst (λ (n : ℕ). after_moves c.args.formula.now no_stage
+    (take n (in_order c.args.self.now.table.graph.order c.args.plan.now))
     ≡ Some next.next) shift moved in
     record {
       few = omega (arith, c.moves-test.true, c.len-i-end.ensures);
@@ -168,7 +192,8 @@ moves-preserved g c =
       tidy = c.in_ok-take_move.ensures.tidy (ap Ok c.if-branch.false);
       left = λ width has.
           let before = c.moves.self.table in
-          let most = at_move c.args.formula.now c.args.plan.now c.args.self.now.table.graph.order c.moves.i c.in-Some.step between.stage
+          let most = at_move c.args.formula.now c.args.plan.now c.args.self.now.table.graph.order c.moves.i
+          (move_in_order c.args.self.now.table.graph.order c.in-Some.step.now) between.stage
           next.next at between.front next.is width has in
           let most_here = subst (λ (o : List ℕ). HoldsAtMost c.args.formula.now o between.stage next.next width)
           (sym c.moves.invariant.continues.order) most in
@@ -181,7 +206,8 @@ moves-preserved g c =
               | inr behind ↦
                   few_left c.subfunction_law.ensures c.canonical_law.ensures c.args.formula.now before.graph.order ordered between.stage
                   next.next next.next
-                  (in_hand_behind c.args.formula.now between.stage next.next c.in-Some.step next.is) _ behind width most_here
+                  (in_hand_behind c.args.formula.now between.stage next.next (move_in_order c.args.self.now.table.graph.order
+                  c.in-Some.step.now) next.is) _ behind width most_here
             ]
           ];
       between = record {
@@ -202,29 +228,53 @@ moves-preserved g c =
 pub recover_all-requires-clause-node : goal.recover_all-requires-clause-node
 recover_all-requires-clause-node g c =
     let table = c.moves.self.table in
-    let held = at_last c.args.formula.now c.args.plan.now c.moves.i table.graph table.book.state.live c.moves.self.out.items c.moves.self.trail
-    c.requires.plan.last (omega (arith, c.moves-test.false, c.len-i-end.ensures)) c.requires.plan.possible c.moves.invariant.between in
+    let held = at_last c.args.formula.now (in_order c.args.self.now.table.graph.order c.args.plan.now) c.moves.i table.graph
+    table.book.state.live c.moves.self.out.items c.moves.self.trail
+    c.requires.plan.last (omega (
+      arith,
+      c.moves-test.false,
+      c.len-i-end.ensures,
+      length-map c.args.plan.now
+          (move_in_order c.args.self.now.table.graph.order),
+    )) c.requires.plan.possible c.moves.invariant.between in
     subst (λ (n : Node). is_node table.graph n ≡ true) (sym (c.top-node.ensures ∙ (λ k. top_node (reverse (c.as_slice.ensures.value k)))))
-    (top_stands c.args.formula.now table.graph table.book.state.live (reverse c.moves.self.out.items) c.requires.plan.last.stack held.held).0
+    (top_stands c.args.formula.now table.graph table.book.state.live (reverse c.moves.self.out.items) c.requires.plan.last.stack
+    held.held).0
 
 pub recover_all-requires-clause-some : goal.recover_all-requires-clause-some
 recover_all-requires-clause-some g c is =
     let table = c.moves.self.table in
-    let held = at_last c.args.formula.now c.args.plan.now c.moves.i table.graph table.book.state.live c.moves.self.out.items c.moves.self.trail
-    c.requires.plan.last (omega (arith, c.moves-test.false, c.len-i-end.ensures)) c.requires.plan.possible c.moves.invariant.between in
-    (top_stands c.args.formula.now table.graph table.book.state.live (reverse c.moves.self.out.items) c.requires.plan.last.stack held.held).1
+    let held = at_last c.args.formula.now (in_order c.args.self.now.table.graph.order c.args.plan.now) c.moves.i table.graph
+    table.book.state.live c.moves.self.out.items c.moves.self.trail
+    c.requires.plan.last (omega (
+      arith,
+      c.moves-test.false,
+      c.len-i-end.ensures,
+      length-map c.args.plan.now
+          (move_in_order c.args.self.now.table.graph.order),
+    )) c.requires.plan.possible c.moves.invariant.between in
+    (top_stands c.args.formula.now table.graph table.book.state.live (reverse c.moves.self.out.items) c.requires.plan.last.stack
+    held.held).1
     (sym (c.top-node.ensures ∙ (λ k. top_node (reverse (c.as_slice.ensures.value k)))) ∙ is)
 
 pub recover_all-requires-clause-trail : goal.recover_all-requires-clause-trail
 recover_all-requires-clause-trail g c =
     let table = c.moves.self.table in
     let formula = c.args.formula.now in
-    let held = at_last formula c.args.plan.now c.moves.i table.graph table.book.state.live c.moves.self.out.items c.moves.self.trail
-    c.requires.plan.last (omega (arith, c.moves-test.false, c.len-i-end.ensures)) c.requires.plan.possible c.moves.invariant.between in (
+    let held = at_last formula (in_order c.args.self.now.table.graph.order c.args.plan.now) c.moves.i table.graph table.book.state.live
+    c.moves.self.out.items c.moves.self.trail
+    c.requires.plan.last (omega (
+      arith,
+      c.moves-test.false,
+      c.len-i-end.ensures,
+      length-map c.args.plan.now
+          (move_in_order c.args.self.now.table.graph.order),
+    )) c.requires.plan.possible c.moves.invariant.between in (
       formula,
       c.requires.plan.last.trail,
       held.kept,
-      are_variables formula c.args.plan.now no_stage c.requires.plan.last c.requires.plan.possible tt,
+      are_variables formula (in_order c.args.self.now.table.graph.order c.args.plan.now) no_stage c.requires.plan.last
+          c.requires.plan.possible tt,
       sym c.moves.invariant.ready.over.vars,
     )
 
@@ -232,15 +282,22 @@ pub returns-clause-found : goal.returns-clause-found
 returns-clause-found g c =
     let table = c.moves.self.table in
     let formula = c.args.formula.now in
-    let held = at_last formula c.args.plan.now c.moves.i table.graph table.book.state.live c.moves.self.out.items c.moves.self.trail
-    c.requires.plan.last (omega (arith, c.moves-test.false, c.len-i-end.ensures)) c.requires.plan.possible c.moves.invariant.between in
-    subst (λ (order : List ℕ). IsRecovered formula order c.args.plan.now c.in_ok-model.model) c.moves.invariant.continues.order
-    (recovered formula table.graph c.args.plan.now c.requires.plan c.formula_law.ensures.literals c.moves.invariant.ready.over.vars c.top-node.result
+    let held = at_last formula (in_order c.args.self.now.table.graph.order c.args.plan.now) c.moves.i table.graph table.book.state.live
+    c.moves.self.out.items c.moves.self.trail
+    c.requires.plan.last (omega (
+      arith,
+      c.moves-test.false,
+      c.len-i-end.ensures,
+      length-map c.args.plan.now
+          (move_in_order c.args.self.now.table.graph.order),
+    )) c.requires.plan.possible c.moves.invariant.between in
+    recovered formula table.graph c.args.self.now.table.graph.order c.args.plan.now c.moves.invariant.continues.order c.requires.plan
+    c.formula_law.ensures.literals c.moves.invariant.ready.over.vars c.top-node.result
     (λ a. (λ k. value_of table.graph (by_level table.graph.order a)
     ((c.top-node.ensures ∙ (λ m. top_node (reverse (c.as_slice.ensures.value m)))) k))
     ∙ top_value formula table.graph table.book.state.live (reverse c.moves.self.out.items) c.requires.plan.last.stack held.held
     c.requires.plan.one_term a)
-    c.in_ok-model.model (c.in_ok-model.ensures formula c.requires.plan.last.trail held.kept))
+    c.in_ok-model.model (c.in_ok-model.ensures formula c.requires.plan.last.trail held.kept)
 
 pub returns-clause-leaves : goal.returns-clause-leaves
 returns-clause-leaves g c = c.moves.invariant.continues
@@ -259,7 +316,8 @@ returns-in_err-take_move-clause-leaves g c =
     subst (λ (error : Option TableError). Leaves old new error)
     (sym (error_handed _ c.in_err-take_move.field-0.0 c.from_residual.ensures.1))
     (c.steps_law.ensures.leave old mid new
-    (Some c.in_err-take_move.field-0.0) c.moves.invariant.continues (moved_here g (goal.at.returns-in_err-take_move-clause-leaves g c).After-take_move _ c.in_err-take_move.ensures.moved).leaves)
+    (Some c.in_err-take_move.field-0.0) c.moves.invariant.continues (moved_here g
+    (goal.at.returns-in_err-take_move-clause-leaves g c).After-take_move _ c.in_err-take_move.ensures.moved).leaves)
 
 pub returns-in_err-take_move-clause-short : goal.returns-in_err-take_move-clause-short
 returns-in_err-take_move-clause-short g c is =
@@ -268,18 +326,20 @@ returns-in_err-take_move-clause-short g c is =
     let order = c.args.self.now.table.graph.order in
     let new = c.take_move.new.self.table.graph in
     let between = c.moves.invariant.between in
-    let at : slice_get plan c.moves.i ≡ Some c.in-Some.step = sym c.get.ensures ∙ c.in-Some.is in
-    let next = next_at formula plan c.moves.i c.moves.self.table.graph c.moves.self.table.book.state.live c.moves.self.out.items c.moves.self.trail
-    c.requires.plan.last c.in-Some.step c.requires.plan.possible at between in
+    let next = next_here g (goal.at.returns-in_err-take_move-clause-short g c).After-take_move in
     let limit = ap Err (came_from _ c.in_err-take_move.field-0.0 NodeLimit c.from_residual.ensures.1 is) in
-    let same_order = c.moves.invariant.continues.order in
-    let own = c.in_err-take_move.ensures.moved between.stage next.next between.at next.is in
-    let full = own.full limit in
-    let lacks = own.lacks limit in
-    subst (λ (o : List ℕ). RunsShort formula o plan new) same_order
-    (short_at_limit c.subfunction_law.ensures formula c.moves.self.table.graph.order c.moves.invariant.ready.over.sound.tied.ordered plan c.moves.i
-    between.stage next.next
-    (record { step = c.in-Some.step; is = at; reached = between.front; leads = next.is }) c.take_move.new.self.left full.0 new full.1 lacks)
+    let same = c.moves.invariant.continues.order in
+    let own = moved_here g (goal.at.returns-in_err-take_move-clause-short g c).After-take_move _ c.in_err-take_move.ensures.moved in
+    let full = subst (λ (o : List ℕ). (were : WereLeft formula o between.stage c.take_move.new.self.left)
+    × KeepsOrMakes were.graph new (IsGivenPart formula o between.stage next.next)) same (own.full limit) in
+    let lacks = subst (λ (o : List ℕ). LacksOneOf new (IsGivenPart formula o between.stage next.next)) same (own.lacks limit) in
+    short_at_limit c.subfunction_law.ensures formula order c.requires.ready.over.sound.tied.ordered plan c.moves.i between.stage next.next
+    (record {
+      step = (move_in_order c.args.self.now.table.graph.order c.in-Some.step.now);
+      is = step_at order plan c.moves.i c.in-Some.step.now c.in-Some.ensures.some;
+      reached = between.front;
+      leads = next.is;
+    }) c.take_move.new.self.left full.0 new full.1 lacks
 
 pub returns-then-branch-clause-leaves : goal.returns-then-branch-clause-leaves
 returns-then-branch-clause-leaves g c =
@@ -305,11 +365,14 @@ nodes_so_far g c width has =
     let plan = c.args.plan.now in
     let table = c.moves.self.table in
     let between = c.moves.invariant.between in
-    let at : slice_get plan c.moves.i ≡ Some c.in-Some.step = sym c.get.ensures ∙ c.in-Some.is in
+    let at : slice_get (in_order c.args.self.now.table.graph.order c.args.plan.now) c.moves.i ≡ Some
+    (move_in_order c.args.self.now.table.graph.order c.in-Some.step.now) = step_at c.args.self.now.table.graph.order c.args.plan.now
+    c.moves.i c.in-Some.step.now c.in-Some.ensures.some in
     let next = next_here g c in
     let most : HoldsAtMost formula table.graph.order between.stage next.next width =
     subst (λ (o : List ℕ). HoldsAtMost formula o between.stage next.next width) (sym c.moves.invariant.continues.order)
-    (at_move formula plan c.args.self.now.table.graph.order c.moves.i c.in-Some.step between.stage next.next at between.front next.is width has)
+    (at_move formula plan c.args.self.now.table.graph.order c.moves.i (move_in_order c.args.self.now.table.graph.order c.in-Some.step.now)
+    between.stage next.next at between.front next.is width has)
     in
     moved_few (live_nodes table.graph) (live_nodes c.take_move.new.self.table.graph) c.moves.self.left width c.moves.invariant.tidy
     (c.moves.invariant.left width has)
@@ -327,7 +390,8 @@ paid_so_far g c width price has is error leaves =
     let mid = c.moves.self.table in
     let new = c.take_move.new.self.table in
     let added =
-    added_between c.args.formula.now c.args.plan.now c.moves.i mid (all_entries c.moves.self.caches) c.moves.self.out.items c.moves.self.trail (2
+    added_between c.args.formula.now (in_order c.args.self.now.table.graph.order c.args.plan.now) c.moves.i mid
+    (all_entries c.moves.self.caches) c.moves.self.out.items c.moves.self.trail (2
     * c.args.capacity) (c.few_law.ensures c.args.capacity c.moves.invariant.size)
     c.moves.invariant.settled c.moves.invariant.own c.moves.invariant.between in
     let all = within_all (c.moves.i + 1) (length c.args.plan.now) price first.book.state.top new.book.state.top
@@ -342,9 +406,11 @@ returns-in_err-take_move-clause-paid g c width price has is =
     let first = c.args.self.now.table in
     let new = c.take_move.new.self.table in
     let kind = IsPaid (levels first.graph) first.inputs (length c.args.plan.now) c.args.capacity width price in
-    subst (λ (error : Option TableError). LeavesKind first new kind error) (sym (error_handed _ c.in_err-take_move.field-0.0 c.from_residual.ensures.1))
+    subst (λ (error : Option TableError). LeavesKind first new kind error) (sym
+    (error_handed _ c.in_err-take_move.field-0.0 c.from_residual.ensures.1))
     (paid_so_far g (goal.at.returns-in_err-take_move-clause-paid g c).After-take_move width price has is
-    (Some c.in_err-take_move.field-0.0) (moved_here g (goal.at.returns-in_err-take_move-clause-paid g c).After-take_move _ c.in_err-take_move.ensures.moved).leaves)
+    (Some c.in_err-take_move.field-0.0) (moved_here g (goal.at.returns-in_err-take_move-clause-paid g c).After-take_move _
+    c.in_err-take_move.ensures.moved).leaves)
 
 pub returns-then-branch-clause-paid : goal.returns-then-branch-clause-paid
 returns-then-branch-clause-paid g c width price has is = paid_so_far g
@@ -361,7 +427,8 @@ paid_at_last g c width price has is =
     let first = c.args.self.now.table in
     let mid = c.moves.self.table in
     let added =
-    added_between c.args.formula.now c.args.plan.now c.moves.i mid (all_entries c.moves.self.caches) c.moves.self.out.items c.moves.self.trail (2
+    added_between c.args.formula.now (in_order c.args.self.now.table.graph.order c.args.plan.now) c.moves.i mid
+    (all_entries c.moves.self.caches) c.moves.self.out.items c.moves.self.trail (2
     * c.args.capacity) (c.few_law-2.ensures c.args.capacity c.moves.invariant.size)
     c.moves.invariant.settled c.moves.invariant.own c.moves.invariant.between in
     let all = within_all c.moves.i (length c.args.plan.now) price first.book.state.top mid.book.state.top c.moves.invariant.few
@@ -388,8 +455,15 @@ returns-clause-lean g c some =
     let first = c.args.self.now.table in
     let table = c.moves.self.table in
     let so_far = c.moves.invariant.continues in
-    let held = at_last formula c.args.plan.now c.moves.i table.graph table.book.state.live c.moves.self.out.items c.moves.self.trail
-    c.requires.plan.last (omega (arith, c.moves-test.false, c.len-i-end.ensures)) c.requires.plan.possible c.moves.invariant.between in
+    let held = at_last formula (in_order c.args.self.now.table.graph.order c.args.plan.now) c.moves.i table.graph table.book.state.live
+    c.moves.self.out.items c.moves.self.trail
+    c.requires.plan.last (omega (
+      arith,
+      c.moves-test.false,
+      c.len-i-end.ensures,
+      length-map c.args.plan.now
+          (move_in_order c.args.self.now.table.graph.order),
+    )) c.requires.plan.possible c.moves.invariant.between in
     let one = held_length formula table.graph table.book.state.live (reverse c.moves.self.out.items) c.requires.plan.last.stack held.held in
     let added = has_added table (all_entries c.moves.self.caches) (reverse c.moves.self.out.items) (2
     * c.args.capacity) (c.few_law-2.ensures c.args.capacity c.moves.invariant.size) c.moves.invariant.settled c.moves.invariant.own in
@@ -405,7 +479,9 @@ returns-in_err-take_move-clause-no_empty g c =
     let came = c.in_err-take_move.field-0.0 in
     if_handed _ came _ c.from_residual.ensures.1
     (λ whole. further_empty c.args.self.now.table c.moves.self.table c.take_move.new.self.table c.moves.invariant.no_empty
-    ((moved_here g (goal.at.returns-in_err-take_move-clause-no_empty g c).After-take_move _ c.in_err-take_move.ensures.moved).no_empty (λ torn. whole (same_error torn)) (λ is. no_error (sym is))))
+    ((moved_here g (goal.at.returns-in_err-take_move-clause-no_empty g c).After-take_move _ c.in_err-take_move.ensures.moved).no_empty
+    (λ torn. whole (same_error torn)) (λ is. no_error (sym is))))
 
 pub returns-in_err-model-clause-no_empty : goal.returns-in_err-model-clause-no_empty
-returns-in_err-model-clause-no_empty g c = if_handed _ OutOfMemory _ c.from_residual-in_err-model.ensures.1 (λ whole. c.moves.invariant.no_empty)
+returns-in_err-model-clause-no_empty g c = if_handed _ OutOfMemory _ c.from_residual-in_err-model.ensures.1
+    (λ whole. c.moves.invariant.no_empty)

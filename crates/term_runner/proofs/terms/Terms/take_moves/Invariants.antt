@@ -3,6 +3,7 @@ use Rattle.std.proofs.Common.{◌≡◌, ℕ, ◌+◌, ◌*◌, ◌≤◌, [], l
 use Rattle.node_table.specs.Diagram.{levels}
 use Rattle.node_table.specs.Progress.{Continues}
 use Rattle.node_table.specs.Table.{AddsNoEmpty, live_nodes}
+use Rattle.schedule_plan.specs.SetMove.{in_order}
 use Rattle.term_runner.specs.Caches.{HaveSize, all_entries}
 use Rattle.term_runner.specs.Held.{IsReady, HasUnits}
 use Rattle.term_runner.specs.Price.{IsMovePrice}
@@ -18,9 +19,11 @@ invariant-moves g l = record {
   tidy : IsTidy (live_nodes l.self.table.graph) l.self.left;
   left : (width : ℕ) → HasWidth l.formula l.fn.self.table.graph.order l.plan width → l.self.left ≤ width;
   price : (width price : ℕ) → HasWidth l.formula l.fn.self.table.graph.order l.plan width
-      → IsMovePrice (levels l.fn.self.table.graph) l.capacity width price → l.self.table.book.state.top ≤ l.fn.self.table.book.state.top + l.i * price;
+      → IsMovePrice (levels l.fn.self.table.graph) l.capacity width price → l.self.table.book.state.top ≤ l.fn.self.table.book.state.top +
+      l.i * price;
   size : HaveSize l.self.caches l.capacity;
-  between : IsBetween l.formula l.plan l.i l.self.table.graph l.self.table.book.state.live l.self.out.items l.self.trail;
+  between : IsBetween l.formula (in_order l.fn.self.table.graph.order l.plan) l.i l.self.table.graph l.self.table.book.state.live
+      l.self.out.items l.self.trail;
   ready : IsReady l.formula l.self.table (all_entries l.self.caches);
   settled : l.self.table.retired ≡ [];
   own : HasUnits l.self.table (all_entries l.self.caches) (reverse l.self.out.items);

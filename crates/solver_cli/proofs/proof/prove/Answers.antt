@@ -1,9 +1,0 @@
--- What is left to show of `prove`.
-use Rattle.std.proofs.Common.{rules}
-use Rattle.solver_cli.proofs.proof.prove.Goals as goal
-
--- src/proof.rt:27:1
-pub returns-clause-kept : goal.returns-clause-kept
-returns-clause-kept g c =
-    let made = c.new-sink.ensures in
-    (c.beside_kept.ensures.sink made.same_reference made.same_value made.role c.decide.ensures.beside (search rules)).kept
