@@ -4,7 +4,7 @@ use Rattle.std.proofs.Common.{append_assoc, drop-cons, rules}
 use Rattle.std.specs.Prelude.{decimal, codes}
 use Rattle.std.proofs.lemmas.List.{drop_all}
 use Rattle.answer_text.specs.Model.{literal, max_width, words_from, has_room, separator, width_behind, wrapped}
-use Rattle.answer_text.specs.Status.{unknown_line, not_verified_line, board_line, last_line}
+use Rattle.answer_text.specs.Status.{unknown_line, not_verified_line, board_line, kept_line, last_line}
 
 -- whether the line has room
 room : (width : ℕ) (word : List ℕ) → width + 1 + length word ≤ max_width → has_room width word ≡ true
@@ -56,6 +56,9 @@ count words n = words ++ decimal n
 pub board_parts : (size variables clauses : ℕ) → board_line size variables clauses
     ≡ count (codes "c board ") size ++ (count (codes " variables ") variables ++ (count (codes " clauses ") clauses ++ codes "\n"))
 board_parts size variables clauses = simp append_assoc
+
+pub kept_parts : (kept total : ℕ) → kept_line kept total ≡ count (codes "c kept ") kept ++ (count (codes " of ") total ++ codes "\n")
+kept_parts kept total = simp append_assoc
 
 pub last_parts : (id : ℕ) → last_line id ≡ count (codes "c last identifier ") id ++ codes "\n"
 last_parts id = simp append_assoc

@@ -63,3 +63,11 @@ board_line size variables clauses =
 -- the greatest identifier of its proof
 abbrev pub last_line : ℕ → List ℕ
 last_line id = codes "c last identifier " ++ decimal id ++ codes "\n"
+
+-- how many additions of a proof were kept, and of how many
+abbrev pub kept_line : ℕ → ℕ → List ℕ
+kept_line kept total = codes "c kept " ++ decimal kept ++ codes " of " ++ decimal total ++ codes "\n"
+
+-- verified, and trimmed
+abbrev pub trimmed_text : ℕ → ℕ → List ℕ
+trimmed_text kept total = kept_line kept total ++ verified_line

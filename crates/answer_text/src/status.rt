@@ -2,7 +2,7 @@
 ghost use Rattle.std.specs.Prelude.{◌≡◌, ◌++◌, decimal, codes};
 ghost use Rattle.host_io.specs.Channel.{WritesAll};
 ghost use Rattle.answer_text.specs.Status.{unsat_line, verified_line, sat_text, node_limit_text, id_limit_text, refused_text, reason_name};
-ghost use Rattle.answer_text.specs.Status.{board_line, last_line};
+ghost use Rattle.answer_text.specs.Status.{board_line, kept_line, last_line, trimmed_text};
 
 use crate::model::write_model;
 use host_io::{Failed, Sink, write_all};
@@ -84,6 +84,25 @@ pub fn write_last_identifier<S: Sink>(sink: &mut S, id: u64) -> Result<(), Faile
     ensures beside { S.beside sink.new ≡ S.beside sink.old }
 {
     write_count(sink, b"c last identifier ", id)?;
+    write_all(sink, b"\n")
+}
+
+/// Writes that a proof was verified, behind how many of its additions were kept.
+pub fn write_trimmed<S: Sink>(sink: &mut S, kept: u64, total: u64) -> Result<(), Failed>
+    ensures writes { WritesAll S.tells (S.channel sink.old) (S.channel sink.new) (trimmed_text kept total) result }
+    ensures beside { S.beside sink.new ≡ S.beside sink.old }
+{
+    write_kept(sink, kept, total)?;
+    write_verified(sink)
+}
+
+// Writes how many additions of a proof were kept, and of how many.
+fn write_kept<S: Sink>(sink: &mut S, kept: u64, total: u64) -> Result<(), Failed>
+    ensures writes { WritesAll S.tells (S.channel sink.old) (S.channel sink.new) (kept_line kept total) result }
+    ensures beside { S.beside sink.new ≡ S.beside sink.old }
+{
+    write_count(sink, b"c kept ", kept)?;
+    write_count(sink, b" of ", total)?;
     write_all(sink, b"\n")
 }
 

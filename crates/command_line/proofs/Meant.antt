@@ -19,11 +19,11 @@ use Rattle.dimacs_reader.specs.declared.mode.Mode.{Mode}
 use Rattle.schedule_plan.specs.declared.limits.Limits.{Limits}
 use Rattle.command_line.specs.Parser.{the_app}
 use Rattle.command_line.specs.Command.{Command, Meaning, Asks, AsksHelp, Misuse, IsOneOf, MayMean, Planned, bench_means, check_means, command}
-use Rattle.command_line.specs.Command.{convert_means, format_given}
+use Rattle.command_line.specs.Command.{rewrite_among, format_given}
 use Rattle.command_line.specs.Command.{is_set, limits_among, make_means, means, meanings, method_named, mode_given, names_among}
 use Rattle.command_line.specs.Command.{only_command, order_means, part_named, plan_among, plan_given, progress_among, refusal_means}
 use Rattle.command_line.specs.Command.{size_among}
-use Rattle.command_line.specs.Command.{solve_means, taken_means, to_bench, to_check, to_convert, to_make, to_order, to_solve, two_names}
+use Rattle.command_line.specs.Command.{solve_means, taken_means, to_bench, to_check, to_rewrite, to_make, to_order, to_solve, two_names}
 
 -- the parser is one whose meaning is known
 simple : is_simple the_app ≡ true
@@ -153,18 +153,18 @@ three_alone (Some file) None (Some third) = refl
 three_alone (Some file) (Some other) None = refl
 three_alone (Some file) (Some other) (Some third) = refl
 
-pub convert_values : (values : ArgMatches) (file proof out lax : Option Text)
+pub rewrite_values : (values : ArgMatches) (file proof out lax : Option Text)
     → file ≡ first_value (found_of values) (codes "FILE") → proof ≡ first_value (found_of values) (codes "PROOF") → out
     ≡ first_value (found_of values) (codes "out")
     → lax ≡ first_value (found_of values) (codes "lax")
-    → convert_means (rows_of (found_of values)) ≡ to_convert (two_names file proof (out ∷ None ∷ None ∷ [])) out (mode_given lax)
-convert_values values file proof out lax file_is proof_is out_is lax_is =
-    let read : convert_means (rows_of (found_of values)) ≡ to_convert (two_names file proof (out ∷ [])) out (mode_given lax) = λ i.
-    to_convert (two_names (of_row values (codes "FILE") file file_is i) (of_row values (codes "PROOF") proof proof_is i)
+    → rewrite_among (rows_of (found_of values)) ≡ to_rewrite (two_names file proof (out ∷ None ∷ None ∷ [])) out (mode_given lax)
+rewrite_values values file proof out lax file_is proof_is out_is lax_is =
+    let read : rewrite_among (rows_of (found_of values)) ≡ to_rewrite (two_names file proof (out ∷ [])) out (mode_given lax) = λ i.
+    to_rewrite (two_names (of_row values (codes "FILE") file file_is i) (of_row values (codes "PROOF") proof proof_is i)
     (of_row values (codes "out") out out_is i ∷ []))
     (of_row values (codes "out") out out_is i)
     (mode_given (of_row values (codes "lax") lax lax_is i)) in
-    read ∙ ap (λ (names : Option (Text × Text)). to_convert names out (mode_given lax)) (three_alone file proof out)
+    read ∙ ap (λ (names : Option (Text × Text)). to_rewrite names out (mode_given lax)) (three_alone file proof out)
 
 pub order_values : (values : ArgMatches) (file out method lax : Option Text)
     → file ≡ first_value (found_of values) (codes "FILE") → out ≡ first_value (found_of values) (codes "out") → method

@@ -51,8 +51,8 @@ pub record ToCheck : Type 0 where
   pub mode : Mode
   pub progress : Bool
 
--- to judge the LRAT proof in a file over the formula in another one, read in a mode, and to write the DRAT proof that it becomes to a third one
-pub record ToConvert : Type 0 where
+-- to judge the LRAT proof in a file over the formula in another one, read in a mode, and to write what it becomes to a third one
+pub record ToRewrite : Type 0 where
   pub file : Text
   pub proof : Text
   pub mode : Mode
@@ -85,7 +85,8 @@ pub data Command : Type 0 where
   Bench : ToBench → Command
   Make : ToMake → Command
   Arrange : ToOrder → Command
-  Convert : ToConvert → Command
+  Convert : ToRewrite → Command
+  Trim : ToRewrite → Command
 
 -- the formula's file, where one is named
 abbrev pub formula_file : Command → Option Text
@@ -95,6 +96,7 @@ formula_file (Bench task) = None
 formula_file (Make task) = None
 formula_file (Arrange task) = Some task.file
 formula_file (Convert task) = Some task.file
+formula_file (Trim task) = Some task.file
 
 -- the mode in which the formula's file is read, where one is named
 abbrev pub mode_of : Command → Mode
@@ -104,6 +106,7 @@ mode_of (Bench task) = Strict
 mode_of (Make task) = Strict
 mode_of (Arrange task) = task.mode
 mode_of (Convert task) = task.mode
+mode_of (Trim task) = task.mode
 
 -- the format of the proof that is judged, where one is
 abbrev pub format_of : Command → ProofFormat
@@ -113,6 +116,7 @@ format_of (Bench task) = Lrat
 format_of (Make task) = Lrat
 format_of (Arrange task) = Lrat
 format_of (Convert task) = Lrat
+format_of (Trim task) = Lrat
 
 -- the limits where the words give none
 abbrev pub default_limits : Limits
@@ -126,6 +130,7 @@ limits_of (Bench task) = task.limits
 limits_of (Make task) = default_limits
 limits_of (Arrange task) = default_limits
 limits_of (Convert task) = default_limits
+limits_of (Trim task) = default_limits
 
 -- a command is to tell of its progress
 abbrev pub is_told : Command → Bool
@@ -135,6 +140,7 @@ is_told (Bench task) = task.progress
 is_told (Make task) = false
 is_told (Arrange task) = false
 is_told (Convert task) = false
+is_told (Trim task) = false
 
 -- the sizes of boards
 abbrev pub IsSize : ℕ → Type 0
@@ -148,6 +154,7 @@ size_of (Bench task) = Some task.size
 size_of (Make task) = Some task.size
 size_of (Arrange task) = None
 size_of (Convert task) = None
+size_of (Trim task) = None
 
 -- the plan where the words name none
 abbrev pub default_plan : PlanName
@@ -275,11 +282,10 @@ to_check (Some names) (Some format) mode progress =
     Asks (Check (record { file = names.0; proof = names.1; format = format; mode = mode; progress = progress }))
 to_check _ _ _ _ = Misuse
 
--- two files, one to write the DRAT proof to, and a mode
-abbrev pub to_convert : Option (Text × Text) → Option Text → Mode → Meaning
-to_convert (Some names) (Some out) mode =
-    Asks (Convert (record { file = names.0; proof = names.1; mode = mode; out = out }))
-to_convert _ _ _ = Misuse
+-- two files, one to write a proof to, and a mode
+abbrev pub to_rewrite : Option (Text × Text) → Option Text → Mode → Option ToRewrite
+to_rewrite (Some names) (Some out) mode = Some (record { file = names.0; proof = names.1; mode = mode; out = out })
+to_rewrite _ _ _ = None
 
 -- a formula's file and an order's, a method, and a mode
 abbrev pub to_order : Option (Text × Text) → Option OrderMethod → Mode → Meaning
@@ -326,10 +332,16 @@ abbrev pub check_means : List Row → Meaning
 check_means rows = to_check (two_names (first_of (codes "FILE") rows) (first_of (codes "PROOF") rows) [])
     (format_given (first_of (codes "format") rows)) (mode_given (first_of (codes "lax") rows)) (progress_among rows)
 
-abbrev pub convert_means : List Row → Meaning
-convert_means rows =
-    to_convert (two_names (first_of (codes "FILE") rows) (first_of (codes "PROOF") rows) (first_of (codes "out") rows ∷ []))
+-- what is to be rewritten, among these values
+abbrev pub rewrite_among : List Row → Option ToRewrite
+rewrite_among rows =
+    to_rewrite (two_names (first_of (codes "FILE") rows) (first_of (codes "PROOF") rows) (first_of (codes "out") rows ∷ []))
     (first_of (codes "out") rows) (mode_given (first_of (codes "lax") rows))
+
+-- a command, where its task is given
+abbrev pub asks_for : (ToRewrite → Command) → Option ToRewrite → Meaning
+asks_for command None = Misuse
+asks_for command (Some task) = Asks (command task)
 
 abbrev pub order_means : List Row → Meaning
 order_means rows =
@@ -355,7 +367,8 @@ board_means name rows = if bytes_eq name (codes "bench") then bench_means rows e
 abbrev pub command_means : Text → List Row → Meaning
 command_means name rows =
     if bytes_eq name (codes "solve") then solve_means rows else if bytes_eq name (codes "check") then check_means rows else if bytes_eq name
-    (codes "order") then order_means rows else if bytes_eq name (codes "drat") then convert_means rows else board_means name rows
+    (codes "order") then order_means rows else if bytes_eq name (codes "drat") then asks_for Convert (rewrite_among rows) else if bytes_eq name
+    (codes "trim") then asks_for Trim (rewrite_among rows) else board_means name rows
 
 -- what words mean that the parser takes; a command must be among them
 abbrev pub taken_means : Option (Text × List Row) → Meaning

@@ -63,9 +63,9 @@ abbrev pub check_app : App
 check_app = with_rules (new_app (codes "check"))
     (file_rule ∷ proof_file_rule ∷ option_rule (codes "format") ∷ lax_rule ∷ progress_rule ∷ [])
 
--- `drat FILE PROOF --out P [--lax]`
-abbrev pub drat_app : App
-drat_app = with_rules (new_app (codes "drat")) (file_rule ∷ proof_file_rule ∷ needed_rule (codes "out") ∷ lax_rule ∷ [])
+-- `drat FILE PROOF --out P [--lax]`, and `trim` so
+abbrev pub rewrite_app : Text → App
+rewrite_app name = with_rules (new_app name) (file_rule ∷ proof_file_rule ∷ needed_rule (codes "out") ∷ lax_rule ∷ [])
 
 -- `order FILE --by METHOD --out F [--lax]`
 abbrev pub order_app : App
@@ -96,14 +96,18 @@ with_version app = record app { top = record app.top { has_version = true } }
 abbrev pub program_app : App
 program_app = with_version (new_app (codes "bddsat"))
 
--- the commands about a proof's file, `solve`, `check` and `drat`, after the program's name
+-- `solve` and `check` after the program's name
+abbrev pub first_commands : App
+first_commands = with_subcommand (with_subcommand program_app solve_app.top) check_app.top
+
+-- the commands about a proof's file, those and `drat` and `trim`
 abbrev pub proof_commands : App
-proof_commands = with_subcommand (with_subcommand (with_subcommand program_app solve_app.top) check_app.top) drat_app.top
+proof_commands = with_subcommand (with_subcommand first_commands (rewrite_app (codes "drat")).top) (rewrite_app (codes "trim")).top
 
 -- those about a formula's file, with `order`
 abbrev pub file_commands : App
 file_commands = with_subcommand proof_commands order_app.top
 
--- the program: one of six commands after its name
+-- the program: one of seven commands after its name
 abbrev pub the_app : App
 the_app = with_subcommand (with_subcommand file_commands bench_app.top) make_app.top

@@ -7,11 +7,12 @@ use Rattle.clap.specs.declared.error.ErrorKind.TheVariants as kind
 use Rattle.schedule_plan.specs.Limits.{AreLimits}
 use Rattle.command_line.specs.declared.plan.PlanSource.{PlanSource}
 use Rattle.command_line.specs.declared.plan.PlanSource.TheVariants as source
+use Rattle.command_line.specs.declared.rewrite.RewriteTask.{RewriteTask}
 use Rattle.command_line.specs.declared.words.Asked.{Asked}
 use Rattle.command_line.specs.declared.words.Asked.TheVariants as asked
 use Rattle.command_line.specs.declared.words.Refusal.{Refusal}
 use Rattle.command_line.specs.declared.words.Refusal.TheVariants as refusal
-use Rattle.command_line.specs.Command.{Command, Solve, Check, Bench, Make, Arrange, Convert, Planned, ByName, ByFile, ByBuckets, Found}
+use Rattle.command_line.specs.Command.{Command, Solve, Check, Bench, Make, Arrange, Convert, Trim, ToRewrite, Planned, ByName, ByFile, ByBuckets, Found}
 use Rattle.command_line.specs.Command.{Asks, AsksHelp, Misuse, MayMean, IsSize, limits_of, refusal_means, size_of, taken_means}
 
 -- the text behind a reference that may be there
@@ -24,6 +25,10 @@ planned_of (source.Name name) = ByName name
 planned_of (source.Schedule file) = ByFile file.now
 planned_of (source.Buckets file) = ByBuckets file.now
 planned_of source.Search = Found
+
+-- what is to be rewritten
+abbrev pub rewrite_of : RewriteTask → ToRewrite
+rewrite_of task = record { file = task.files.formula.now; proof = task.files.proof.now; mode = task.mode; out = task.out.now }
 
 -- the command with its values
 abbrev pub command_of : Asked → Command
@@ -50,8 +55,8 @@ command_of (asked.Bench task) =
 command_of (asked.Make task) = Make (record { size = task.size; part = task.part; file = task.file.now })
 command_of (asked.Order task) =
     Arrange (record { file = task.formula.now; method = task.method; mode = task.mode; out = task.out.now })
-command_of (asked.Convert task) =
-    Convert (record { file = task.files.formula.now; proof = task.files.proof.now; mode = task.mode; out = task.out.now })
+command_of (asked.Convert task) = Convert (rewrite_of task)
+command_of (asked.Trim task) = Trim (rewrite_of task)
 
 -- its limits are ones that a run may have, and the board that it is about has one of the sizes
 abbrev pub IsWithin : Command → Type 0

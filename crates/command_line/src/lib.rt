@@ -5,8 +5,6 @@
 mod args;
 mod board;
 mod board_parser;
-mod drat;
-mod drat_parser;
 mod format;
 mod limits;
 mod method;
@@ -17,14 +15,16 @@ mod order_parser;
 mod parser;
 mod part;
 mod plan;
+mod rewrite;
+mod rewrite_parser;
 mod words;
 
 pub use board::{BenchTask, MakeTask};
-pub use drat::ConvertTask;
 pub use format::ProofFormat;
 pub use method::OrderMethod;
 pub use names::FileNames;
 pub use order::OrderTask;
 pub use part::BoardText;
 pub use plan::{PlanName, PlanSource};
+pub use rewrite::RewriteTask;
 pub use words::{Asked, CheckTask, Refusal, SolveTask, gather, read_words};

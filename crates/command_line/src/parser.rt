@@ -2,16 +2,16 @@
 ghost use Rattle.std.specs.Prelude.{◌≡◌, IfOk, MatchResult, false};
 ghost use Rattle.clap.specs.Words.{app_of, shape_of, with_subcommand};
 ghost use Rattle.clap.specs.declared.Command.TheViews.{out-Command};
-ghost use Rattle.command_line.specs.Parser.{check_app, file_commands, order_rules, plan_rules, program_app, proof_commands, solve_app};
-ghost use Rattle.command_line.specs.Parser.{the_app, with_rules};
+ghost use Rattle.command_line.specs.Parser.{check_app, file_commands, first_commands, order_rules, plan_rules, program_app};
+ghost use Rattle.command_line.specs.Parser.{proof_commands, solve_app, the_app, with_rules};
 
 use crate::args::{
     Texts, command, flag_arg, formula_arg, lax_arg, option_arg, proof_arg, proof_file_arg,
     with_limits, with_progress,
 };
 use crate::board_parser::{bench_parser, make_parser};
-use crate::drat_parser::drat_parser;
 use crate::order_parser::order_parser;
+use crate::rewrite_parser::{drat_parser, trim_parser};
 use clap::Command;
 use std::alloc::{AllocError, Global};
 
@@ -26,6 +26,7 @@ bddsat solve FILE --proof P [--lax] [--order F]
                     [--max-nodes N] [--max-ids N] [--cache N] [--progress]
        bddsat check FILE PROOF [--format FORMAT] [--lax] [--progress]
        bddsat drat FILE PROOF --out P [--lax]
+       bddsat trim FILE PROOF --out P [--lax]
        bddsat order FILE --by METHOD --out F [--lax]
        bddsat bench board N --proof P [--max-nodes N] [--max-ids N] [--cache N]
                     [--progress]
@@ -35,8 +36,8 @@ Exit codes:
   10  solve: satisfiable; the values are on standard output
   20  solve, bench: unsatisfiable; the proof is in P
    0  solve, bench: undecided, since a limit was reached; P has the steps so far
-   0  check, drat: the proof is verified
-   1  check, drat: it is not verified; standard output has the line and why
+   0  check, drat, trim: the proof is verified
+   1  check, drat, trim: it isn't verified; standard output has the line and why
    0  make, order: the text is in F
    0  help or the version was shown
    2  a file's text is not of its format, or too large
@@ -49,6 +50,7 @@ Example:
   bddsat solve formula.cnf --search --proof formula.lrat
   bddsat check formula.cnf formula.lrat
   bddsat drat formula.cnf formula.lrat --out formula.drat
+  bddsat trim formula.cnf formula.lrat --out trimmed.lrat
   bddsat order formula.cnf --by degree --out formula.order
   bddsat bench board 8 --proof board.lrat
   bddsat make board 8 --part cnf --out board.cnf",
@@ -88,7 +90,7 @@ const SCHEDULE_HELP: &str = "A file with the plan, as lines of commands c, a and
 
 const PLAN_HELP: &str = "bucket quantifies early, conjoin never [default: bucket]";
 
-/// The parser: one of six commands after the program's name.
+/// The parser: one of seven commands after the program's name.
 pub fn parser<'a>(alloc: Global) -> Result<Command<'a>, AllocError>
     ensures { IfOk result (λ command. app_of command ≡ the_app) }
 {
@@ -101,17 +103,24 @@ pub fn parser<'a>(alloc: Global) -> Result<Command<'a>, AllocError>
 fn file_commands<'a>(alloc: Global) -> Result<Command<'a>, AllocError>
     ensures { IfOk result (λ command. app_of command ≡ file_commands) }
 {
-    let drat = proof_commands(alloc)?;
-    with_command(drat, order_parser(alloc))
+    let trim = proof_commands(alloc)?;
+    with_command(trim, order_parser(alloc))
 }
 
 // The program's name with those of them that are about a proof's file too.
 fn proof_commands<'a>(alloc: Global) -> Result<Command<'a>, AllocError>
     ensures { IfOk result (λ command. app_of command ≡ proof_commands) }
 {
+    let check = first_commands(alloc)?;
+    let drat = with_command(check, drat_parser(alloc))?;
+    with_command(drat, trim_parser(alloc))
+}
+
+fn first_commands<'a>(alloc: Global) -> Result<Command<'a>, AllocError>
+    ensures { IfOk result (λ command. app_of command ≡ first_commands) }
+{
     let solve = with_command(program(alloc), solve_parser(alloc))?;
-    let check = with_command(solve, check_parser(alloc))?;
-    with_command(check, drat_parser(alloc))
+    with_command(solve, check_parser(alloc))
 }
 
 // The program's name, with the version.

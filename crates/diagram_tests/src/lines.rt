@@ -3,7 +3,7 @@ ghost use Rattle.node_table.specs.Table.{IsSound};
 ghost use Rattle.diagram_tests.specs.Plain.{IsPlain};
 
 use crate::retired::delete;
-use crate::runner::give_and_release;
+use crate::runner::{give_and_release, give_and_run};
 use crate::script::{play, push_left};
 use crate::support::{ProofText, expect_same, halves, opened, part};
 use crate::swept::{purge, sweep};
@@ -19,6 +19,7 @@ fn tell(rt: &impl Abort, alloc: Global, script: &str, text: &mut String) -> Resu
         "retire" => delete(alloc, script, text),
         "trial" => run_and_try(alloc, script, text),
         "runner" => give_and_release(alloc, script, text),
+        "behind" => give_and_run(alloc, script, text),
         _ => tell_table(rt, alloc, script, text),
     }
 }
@@ -253,6 +254,25 @@ const TERMS: &str = "\
 #[test]
 fn terms(rt: HostRuntime) -> Result<(), Fail> {
     expect_rows(&rt, rt.alloc(), TERMS)
+}
+
+// A plan run behind such terms, with a limit of numbers. In the first row one node is left, with the clauses of three units: they go
+// before the first move, which takes the same variable again; the proof goes on behind their numbers. In the second one the terms
+// refute the formula, and the plan adds nothing; in the third one its first clause is empty. Then too few numbers are left, and all
+// clauses are tautologies.
+const BEHIND: &str = "\
+    behind|1,1|99;Sat 11 Refused { line: 13, reason: NoEmptyClause };3 3 -1 0 0/4 -3 1 0 -3 0/5 3 0 3 1 0/6 3 0 3 2 0/7 3 \
+    0 5 0/7 d 5 6 7 0/7 d 3 4 0/8 3 -1 0 0/9 -3 1 0 -8 0/10 3 0 8 1 0/11 3 0 8 2 0/11 d 11 0/\n\
+    behind|1,-1|99;Unsat 11 Verified;3 3 -1 0 0/4 -3 1 0 -3 0/5 3 0 3 1 0/6 4 1 0 0/7 -4 -1 0 -6 0/8 4 0 6 2 0/9 -1 -3 \
+    -4 0 7 0/10 -3 -4 0 9 4 0/11 0 5 8 10 0/11 d 9 0/\n\
+    behind|,1|99;Unsat 7 Verified;3 0 1 0/4 3 -1 0 0/5 -3 1 0 -4 0/6 3 0 4 2 0/7 0 3 0/\n\
+    behind|1,1|9;IdLimit 9 Refused { line: 10, reason: NoEmptyClause };3 3 -1 0 0/4 -3 1 0 -3 0/5 3 0 3 1 0/6 3 0 3 2 0/7 3 \
+    0 5 0/7 d 5 6 7 0/7 d 3 4 0/8 3 -1 0 0/9 -3 1 0 -8 0/\n\
+    behind|1 -1,2 -2|99;Sat 2 Refused { line: 1, reason: NoEmptyClause };";
+
+#[test]
+fn behind_terms(rt: HostRuntime) -> Result<(), Fail> {
+    expect_rows(&rt, rt.alloc(), BEHIND)
 }
 
 /// The refusal that no script comes to.

@@ -11,7 +11,8 @@ use Rattle.std.proofs.lemmas.List.Elements.{filter_more}
 use Rattle.std.proofs.lemmas.List.Folds.{list_any-append, list_all-append, list_all_at, list_all_more}
 use Rattle.lrat_rules.specs.Chain.{FalseSet, literals_of}
 use Rattle.lrat_rules.specs.Trail.{with_last}
-use Rattle.drat_checker.specs.Propagation.{Clashes, IsApart}
+use Rattle.drat_checker.specs.Propagation.{Clashes}
+use Rattle.drat_checker.specs.Trail.{IsApart}
 
 pub int_eq-true : (x y : ℤ) → int_eq x y ≡ true → x ≡ y
 int_eq-true x y h = (Decides-int_eq x y).0 h

@@ -1,25 +1,24 @@
 -- What one clause, a pass over all clauses, and passes to the end do to the quiet sets that have the false literals. The laws on
 -- quiet sets and on propagation are given.
-use Rattle.std.proofs.Common.{◌≡◌, ℕ, ◌+◌, ◌<◌, ◌≤◌, Bool, true, false, cond, not, ◌||◌, ◌&&◌, ℤ, neg_ℤ, List, [], ◌∷◌, ◌++◌, length, take}
-use Rattle.std.proofs.Common.{get_or, Option, None, Some, if◌then◌else◌, refl, sym, ap, ◌∙◌, subst, append_assoc, length-append, arith}
+use Rattle.std.proofs.Common.{◌≡◌, ◌≤◌, Bool, true, false, cond, not, ◌||◌, ◌&&◌, ℤ, neg_ℤ, List, [], ◌∷◌, ◌++◌, length, take}
+use Rattle.std.proofs.Common.{Option, None, Some, if◌then◌else◌, refl, sym, ap, ◌∙◌, subst, append_assoc, length-append, arith}
 use Rattle.std.specs.List.{list_all}
 use Rattle.std.proofs.Math.Seq.{take-append_seam}
-use Rattle.std.proofs.lemmas.Bool.{and_from, both_ways}
-use Rattle.std.proofs.lemmas.Bool.Decides.{Decides-int_eq}
+use Rattle.std.proofs.lemmas.Bool.{both_ways}
 use Rattle.std.proofs.lemmas.List.{append-nil}
-use Rattle.std.proofs.lemmas.List.Folds.{list_any_at, list_all_more, list_all-append}
-use Rattle.std.proofs.lemmas.Slice.Eq.{slice_eq-Decides}
+use Rattle.std.proofs.lemmas.List.Folds.{list_all-append}
 use Rattle.lrat_rules.specs.declared.outcome.Effect.TheVariants.{Conflict, Unit as Forced}
 use Rattle.lrat_rules.specs.declared.outcome.Reason.{Reason}
 use Rattle.lrat_rules.specs.declared.outcome.Reason.TheVariants.{CandidateOpen}
 use Rattle.lrat_rules.specs.Chain.{FalseSet, literals_of, effect}
 use Rattle.lrat_rules.specs.Addition.{holds_negated}
 use Rattle.lrat_rules.specs.Trail.{with_last}
-use Rattle.drat_rules.specs.Clauses.{same_list, is_among}
-use Rattle.drat_rules.specs.Quiet.{adds_nothing, closed_under, IsQuiet, Includes, Falsifies, has_quiet}
+use Rattle.drat_rules.specs.Clauses.{is_among}
+use Rattle.drat_rules.specs.Quiet.{closed_under, IsQuiet, Includes, Falsifies, has_quiet}
 use Rattle.drat_rules.specs.Addition.{others_of, passes_candidate, open_fault, drat_fault}
-use Rattle.drat_checker.specs.Propagation.{Clashes, Extends, HasAlso, IsApart, SameQuiet, fault_under}
-use Rattle.drat_checker.proofs.FalseSets.{at_member, has_own, all-with_last, and_known}
+use Rattle.drat_checker.specs.Propagation.{Clashes, Extends, HasAlso, SameQuiet, fault_under}
+use Rattle.drat_checker.specs.Trail.{IsApart}
+use Rattle.drat_checker.proofs.FalseSets.{at_member, has_own}
 
 -- what the laws say
 abbrev pub NoneLaw : Type 0
@@ -121,12 +120,6 @@ same-also clauses clause old new h = record { same = λ q quiet. list_all-append
 includes : (q : FalseSet) (xs : List ℤ) → list_all q xs ≡ true → Includes q (literals_of xs)
 includes q xs has = record { includes = λ x m. at_member q xs x has m }
 
-pub among-at : (clauses : List (List ℤ)) (i : ℕ) (clause : List ℤ) → i < length clauses → clause ≡ get_or clauses i clause
-    → is_among clauses clause ≡ true
-among-at clauses i clause within at =
-    list_any_at (same_list clause) clauses i clause within
-    ((slice_eq-Decides Decides-int_eq clause (get_or clauses i clause) (same_list clause (get_or clauses i clause)) refl).1 at)
-
 -- one clause
 module _ (fails : FailsLaw) (forced : ForcedLaw) (conflict : ConflictLaw) (xs clause : List ℤ) where
   pub false_clause : effect (literals_of xs) clause ≡ Conflict → (clauses : List (List ℤ)) → is_among clauses clause ≡ true
@@ -140,43 +133,6 @@ module _ (fails : FailsLaw) (forced : ForcedLaw) (conflict : ConflictLaw) (xs cl
       fails clauses xs (λ q quiet has. both_ways (q (neg_ℤ (neg_ℤ literal)))
       (quiet.apart (neg_ℤ literal) (forced clauses q (literals_of xs) clause literal quiet (includes q xs has) among e))
       (at_member q xs (neg_ℤ (neg_ℤ literal)) has there))
-
-  pub forced_same : (literal : ℤ) → effect (literals_of xs) clause ≡ Forced literal → (clauses : List (List ℤ))
-      → is_among clauses clause ≡ true → SameQuiet clauses xs (with_last (neg_ℤ literal) xs)
-  forced_same literal e clauses among = record {
-    same = λ q quiet. and_known (list_all q xs) (q (neg_ℤ literal))
-        (λ has. forced clauses q (literals_of xs) clause literal quiet (includes q xs has) among e)
-        ∙ sym (all-with_last q xs (neg_ℤ literal));
-  }
-
-there_already : (x : ℤ) (xs : List ℤ) → length (with_last x xs) ≡ length xs → (literals_of xs x ≡ true) × (with_last x xs ≡ xs)
-there_already x xs same =
-    elim (literals_of xs x)
-    as (λ b. length (cond b xs (xs ++ x ∷ [])) ≡ length xs → (b ≡ true) × (cond b xs (xs ++ x ∷ []) ≡ xs)) [
-      | true ↦ λ e. (refl, refl)
-      | false ↦ λ e. absurd (omega (arith, e, length-append xs (x ∷ [])))
-    ] same
-
-pub forced_closed : (xs clause : List ℤ) (literal : ℤ) → effect (literals_of xs) clause ≡ Forced literal
-    → length (with_last (neg_ℤ literal) xs) ≡ length xs → closed_under (literals_of (with_last (neg_ℤ literal) xs)) clause ≡ true
-forced_closed xs clause literal e same =
-    let there = there_already (neg_ℤ literal) xs same in
-    ap (λ l. closed_under (literals_of l) clause) there.1 ∙ ap (adds_nothing (literals_of xs)) e ∙ there.0
-
--- one clause more of a pass
-pub closed-more : (clauses : List (List ℤ)) (i : ℕ) (clause start old new : List ℤ) → i < length clauses → clause ≡ get_or clauses i clause
-    → Extends start old → Extends old new
-    → (length old ≡ length start → list_all (closed_under (literals_of old)) (take i clauses) ≡ true)
-    → (length new ≡ length old → closed_under (literals_of new) clause ≡ true)
-    → length new ≡ length start → list_all (closed_under (literals_of new)) (take (i + 1) clauses) ≡ true
-closed-more clauses i clause start old new within at e f before here same =
-    let least = extends-longer e in
-    let more = extends-longer f in
-    let kept : length new ≡ length old = omega (arith, least, more, same) in
-    let first : length old ≡ length start = omega (arith, least, more, same) in
-    list_all_more (closed_under (literals_of new)) clauses i clause within
-    ∙ and_from _ _ (ap (λ l. list_all (closed_under (literals_of l)) (take i clauses)) (extends-same f kept) ∙ before first)
-    (ap (closed_under (literals_of new)) (sym at) ∙ here kept)
 
 -- a pass that comes to a false clause, from literals that the same quiet sets have
 pub none-before : (none : NoneLaw) (fails : FailsLaw) (clauses : List (List ℤ)) (start old : List ℤ) → SameQuiet clauses start old
@@ -242,12 +198,3 @@ some-has false e = cc
 pub none-has : (b : Bool) → true ≡ not b → b ≡ false
 none-has true e = cc
 none-has false e = refl
-
--- a candidate in a list, by the test of its literals
-pub pass-at : (clauses : List (List ℤ)) (pivot : ℤ) (start trail : List ℤ) (i : ℕ) (item own : List ℤ) (good b : Bool)
-    → item ≡ get_or clauses i item → own ≡ item → trail ≡ start → good ≡ passes_candidate clauses pivot trail own → good ≡ b
-    → passes_candidate clauses pivot start (get_or clauses i item) ≡ b
-pass-at clauses pivot start trail i item own good b at is same tests e =
-    ap (passes_candidate clauses pivot start) (sym (is ∙ at))
-    ∙ ap (λ (t : List ℤ). passes_candidate clauses pivot t own) (sym same)
-    ∙ sym tests ∙ e

@@ -1,3 +1,12 @@
+pub mod Places
+pub mod Numbers
+pub mod LiteralLists
+pub mod Flags
+pub mod Trail
 pub mod Propagation
+pub mod Database
+pub mod Watches
+pub mod Visits
+pub mod Roots
 pub mod DratVerdict
 pub mod Memory

@@ -1,20 +1,50 @@
--- What unit propagation does to the false literals of an addition, told by the quiet sets that have them.
-use Rattle.std.specs.Prelude.{◌≡◌, true, false, ◌&&◌, ℤ, neg_ℤ, List, [], ◌∷◌, ◌++◌, Option, None, Some, if◌then◌else◌}
-use Rattle.std.specs.List.{list_all}
+-- What unit propagation does to the false literals of an addition: which are forced, and which clauses it has taken.
+use Rattle.std.specs.Prelude.{◌≡◌, ℕ, Bool, true, false, ◌||◌, ◌&&◌, ℤ, neg_ℤ, List, [], ◌∷◌, ◌++◌, drop, Option, None, Some, if◌then◌else◌}
+use Rattle.std.specs.List.{list_any, list_all}
+use Rattle.std.specs.Ordering.{int_eq}
+use Rattle.lrat_rules.specs.declared.outcome.Effect.{Effect}
+use Rattle.lrat_rules.specs.declared.outcome.Effect.TheVariants.{Conflict, Unit as Forced, NotUnit}
 use Rattle.lrat_rules.specs.declared.outcome.Reason.{Reason}
 use Rattle.lrat_rules.specs.declared.outcome.Reason.TheVariants.{NoConflict, CandidateOpen}
-use Rattle.lrat_rules.specs.Chain.{FalseSet, literals_of}
-use Rattle.drat_rules.specs.Quiet.{IsQuiet, Falsifies}
+use Rattle.lrat_rules.specs.Chain.{FalseSet, literals_of, effect}
+use Rattle.drat_rules.specs.Quiet.{closed_under, IsQuiet, Falsifies}
 use Rattle.drat_rules.specs.Addition.{passes_candidate}
-
--- no literal stands beside its negation
-pub record IsApart (literals : List ℤ) : Type 0 where
-  pub apart : (x : ℤ) → literals_of literals x ≡ true → literals_of literals (neg_ℤ x) ≡ false
+use Rattle.drat_checker.specs.Places.{Place, Places, place_at}
 
 -- literals were put behind those that were there
 pub record Extends (old new : List ℤ) : Type 0 where
   pub rest : List ℤ
   pub parts : new ≡ old ++ rest
+
+-- this effect makes this literal false
+abbrev pub makes_false : ℤ → Effect → Bool
+makes_false x Conflict = false
+makes_false x (Forced literal) = int_eq x (neg_ℤ literal)
+makes_false x NotUnit = false
+
+-- each literal behind a front is the negation of what a clause forces under those before it
+abbrev pub derived : List (List ℤ) → List ℤ → List ℤ → Bool
+derived clauses front [] = true
+derived clauses front (x ∷ rest) =
+    list_any (λ c. makes_false x (effect (literals_of front) c)) clauses && derived clauses (front ++ x ∷ []) rest
+
+-- literals were put behind those that were there by propagation
+pub record Derives (clauses : List (List ℤ)) (old new : List ℤ) : Type 0 where
+  pub rest : List ℤ
+  pub parts : new ≡ old ++ rest
+  pub derived : derived clauses old rest ≡ true
+
+-- propagation on the clause finds nothing new, or the clause has a literal that stands behind so many and may still be propagated
+abbrev pub is_taken : ℕ → List ℤ → List ℤ → Bool
+is_taken count literals clause = closed_under (literals_of literals) clause || list_any (literals_of clause) (drop count literals)
+
+-- so it is for each clause that stands
+pub record AreTaken (places : Places) (count : ℕ) (literals : List ℤ) : Type 0 where
+  pub taken : (number : ℕ) (clause : List ℤ) → place_at places number ≡ Some clause → is_taken count literals clause ≡ true
+
+-- propagation finds nothing new on any clause
+pub record IsClosed (clauses : List (List ℤ)) (literals : List ℤ) : Type 0 where
+  pub closed : list_all (closed_under (literals_of literals)) clauses ≡ true
 
 -- a quiet set has the literals of the one list where it has those of the other
 pub record SameQuiet (clauses : List (List ℤ)) (old new : List ℤ) : Type 0 where
@@ -27,6 +57,11 @@ pub record HasAlso (clause old new : List ℤ) : Type 0 where
 -- a set that has these literals has one beside its negation
 pub record Clashes (literals : List ℤ) : Type 0 where
   pub clash : (q : FalseSet) → ((x : ℤ) → q x ≡ true → q (neg_ℤ x) ≡ false) → Falsifies q literals → ⊥
+
+-- the same of a number's clause as of a candidate, where it has one
+abbrev pub place_passes : List (List ℤ) → ℤ → List ℤ → Place → Bool
+place_passes clauses pivot literals None = true
+place_passes clauses pivot literals (Some other) = passes_candidate clauses pivot literals other
 
 -- why an addition isn't good where propagation from its clause comes to no conflict, by the literals that are false then
 abbrev pub candidates_fault : List (List ℤ) → List ℤ → ℤ → Option Reason

@@ -1,36 +1,54 @@
-// Additions that need no propagation: each clause is no candidate, or has a literal besides the pivot's negation whose negation is in the
-// added clause. (Such a clause is blocked: Järvisalo, Biere, Heule: Blocked Clause Elimination, TACAS 2010.)
+// Additions that need no propagation: each candidate has a literal besides the pivot's negation whose negation is in the added clause. (Such a
+// clause is blocked: Järvisalo, Biere, Heule: Blocked Clause Elimination, TACAS 2010.) Definitions of extension variables are of this kind.
 ghost use Rattle.std.specs.Prelude.{◌≡◌, ◌++◌, ℤ, List, None, IsTrue};
 ghost use Rattle.std.specs.List.{list_all};
 ghost use Rattle.drat_rules.specs.Addition.{drat_fault, others_of, passes_candidate};
-ghost use Rattle.drat_checker.specs.Propagation.{Clashes};
+ghost use Rattle.drat_checker.specs.Places.{place_at, standing};
+ghost use Rattle.drat_checker.specs.Propagation.{Clashes, place_passes};
 
 use crate::addition::holds_negated;
-use crate::clause::Clause;
+use crate::database::Database;
 use cnf_base::Lit;
 use drat_rules::quiet_law;
 use lrat_rules::is_among;
 
-/// Whether the addition of a clause is good by the literals of the candidates alone.
-pub fn is_blocked(clauses: &[Clause], clause: &[Lit]) -> bool
-    ensures { IsTrue result → drat_fault clauses.now clause.now ≡ None }
+// More numbers aren't looked at: where a clause has more candidates, propagation is the likelier way.
+const MOST_NUMBERS: usize = 8;
+
+/// Whether the addition of a clause is good by the literals of its few candidates alone.
+pub fn is_blocked(db: &Database, clause: &[Lit]) -> bool
+    ensures { IsTrue result → drat_fault (standing db.now) clause.now ≡ None }
 {
     match clause {
         [] => false,
-        [pivot, ..] => all_blocked(clauses, *pivot, clause),
+        [pivot, ..] => all_blocked(db, *pivot, clause),
     }
 }
 
-fn all_blocked(clauses: &[Clause], pivot: Lit, clause: &[Lit]) -> bool
-    ensures { IsTrue result → IsTrue (list_all (passes_candidate clauses.now pivot clause.now) clauses.now) }
+fn all_blocked(db: &Database, pivot: Lit, clause: &[Lit]) -> bool
+    ensures { IsTrue result → IsTrue (list_all (passes_candidate (standing db.now) pivot clause.now) (standing db.now)) }
 {
-    for other in clauses {
-        let blocked = is_blocked_by(pivot, clause, other.literals());
+    let numbers = db.numbers(pivot.negated());
+    if numbers.len() > MOST_NUMBERS {
+        return false;
+    }
+    for number in numbers {
+        let blocked = is_number_blocked(db, pivot, clause, *number);
         if !blocked {
             return false;
         }
     }
     true
+}
+
+// Whether the clause of a number is blocked, where it stands.
+fn is_number_blocked(db: &Database, pivot: Lit, clause: &[Lit], number: u32) -> bool
+    ensures { IsTrue result → (clauses : List (List ℤ)) → IsTrue (place_passes clauses pivot clause.now (place_at db.now number)) }
+{
+    match db.clause(number) {
+        None => true,
+        Some(other) => is_blocked_by(pivot, clause, other),
+    }
 }
 
 // Whether the clause is no candidate, or clashes with the added one.

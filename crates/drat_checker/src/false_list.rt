@@ -1,30 +1,36 @@
-// The literals that are false while an addition is judged, in the order in which they became false, each once: those of its
-// clause, those of a candidate, and the negations of what is forced. None stands beside its negation.
-ghost use Rattle.std.specs.Prelude.{◌≡◌, [], neg_ℤ, OnErr, IfOk, take, length, if◌then◌else◌};
+// The literals that are false while an addition is judged, in the order in which they became false, each once: the roots, those of the
+// clause, those of a candidate, and the negations of what is forced. None stands beside its negation. A flag tells of each literal whether it
+// is one of them.
+ghost use Rattle.std.specs.Prelude.{◌≡◌, ◌<◌, ◌&&◌, ℤ, [], neg_ℤ, not, OnErr, IfOk, take, length, if◌then◌else◌, slice_index_or};
 ghost use Rattle.lrat_rules.specs.Chain.{literals_of, effect};
+ghost use Rattle.lrat_rules.specs.Pass.{effect_of_forced, forced_with, agrees};
+ghost use Rattle.drat_checker.specs.Flags.{is_set, has_flag};
 ghost use Rattle.lrat_rules.specs.Trail.{with_last};
-ghost use Rattle.drat_checker.specs.Propagation.{IsApart};
+ghost use Rattle.drat_checker.specs.Trail.{IsApart};
 
+use crate::flags::Flags;
 use cnf_base::{Lit, OutOfMemory};
-use lrat_rules::{Effect, effect_on, is_among};
+use lrat_rules::Effect;
 use std::alloc::Global;
+use std::fmt;
 use std::marker::Model;
 
 /// Literals, each once, in the order in which they came, none beside its negation.
-#[derive(Debug, Drop)]
+#[derive(Drop)]
 pub struct FalseList {
     literals: Vec<Lit>,
+    flags: Flags,
 }
 
 impl Model for FalseList {
     ghost use Rattle.std.specs.Prelude.{List, ℤ};
-    ghost use Rattle.drat_checker.specs.Propagation.{IsApart};
+    ghost use Rattle.drat_checker.specs.Trail.{IsFalseList};
 
     ghost Value = { List ℤ };
 
     ghost view = { λ f. f.literals.items };
 
-    ghost invariant = { λ f. IsApart f.literals.items };
+    ghost invariant = { λ f. IsFalseList f.flags f.literals.items };
 }
 
 impl FalseList {
@@ -33,6 +39,7 @@ impl FalseList {
     {
         FalseList {
             literals: Vec::new(alloc),
+            flags: Flags::new(alloc),
         }
     }
 
@@ -42,20 +49,38 @@ impl FalseList {
         self.literals.len()
     }
 
+    /// The literal at a place.
+    pub fn literal(&self, place: usize) -> Lit
+        requires { place < length self.now }
+        ensures { result ≡ slice_index_or self.now place result }
+    {
+        self.literals[place]
+    }
+
+    #[inline(always)]
+    pub fn contains(&self, literal: Lit) -> bool
+        ensures { result ≡ literals_of self.now literal }
+    {
+        self.flags.is_set(literal)
+    }
+
     /// Makes a literal false, unless its negation is: then the answer is true, and nothing changes.
+    #[inline(always)]
     pub fn falsify(&mut self, literal: Lit) -> Result<bool, OutOfMemory>
         ensures clash { IfOk result (λ clash. clash ≡ literals_of self.old (neg_ℤ literal)) }
         ensures literals { IfOk result (λ clash. self.new ≡ (if clash then self.old else with_last literal self.old)) }
         ensures err { OnErr result (self.new ≡ self.old) }
     {
         let _var = literal.var();
-        if is_among(self.literals.as_slice(), literal.negated()) {
+        if self.flags.is_set(literal.negated()) {
             return Ok(true);
         }
-        if is_among(self.literals.as_slice(), literal) {
+        if self.flags.is_set(literal) {
             return Ok(false);
         }
+        self.flags.reserve(literal)?;
         self.literals.push(literal)?;
+        self.flags.set(literal);
         Ok(false)
     }
 
@@ -63,14 +88,27 @@ impl FalseList {
     pub fn truncate(&mut self, count: usize)
         ensures { self.new ≡ take count self.old }
     {
-        self.literals.truncate(count);
+        if count < self.literals.len() {
+            clear_all(&mut self.flags, &self.literals.as_slice()[count..]);
+            self.literals.truncate(count);
+        }
     }
 
     /// What a clause does under these false literals.
+    #[inline(always)]
     pub fn effect_of(&self, clause: &[Lit]) -> Effect
         ensures { result ≡ effect (literals_of self.now) clause.now }
     {
-        effect_on(self.literals.as_slice(), clause)
+        let mut forced = None;
+        for literal in clause {
+            if self.contains(*literal) {
+                continue;
+            }
+            if !force(&mut forced, *literal) {
+                return Effect::NotUnit;
+            }
+        }
+        effect_of_forced(forced)
     }
 
     /// For the prover alone: none stands beside its negation.
@@ -78,5 +116,46 @@ impl FalseList {
         ensures { IsApart self.now }
     {
         let _len = self.literals.len();
+    }
+}
+
+impl fmt::Debug for FalseList {
+    fn fmt<W: fmt::Write>(&self, f: &mut fmt::Formatter<W>) -> fmt::Result {
+        f.debug_list().entries(&self.literals).finish()
+    }
+}
+
+#[inline(always)]
+fn clear_all(flags: &mut Flags, literals: &[Lit])
+    ensures cleared { (x : ℤ) → is_set flags.new x ≡ (not (literals_of literals.now x) && is_set flags.old x) }
+    ensures flags { (x : ℤ) → has_flag flags.new x ≡ has_flag flags.old x }
+{
+    for literal in literals {
+        flags.clear(*literal);
+    }
+}
+
+// Forces a literal that isn't false. The answer is whether no other one was forced before.
+#[inline(always)]
+fn force(forced: &mut Option<Lit>, literal: Lit) -> bool
+    ensures forced { forced.new ≡ forced_with forced.old literal }
+    ensures alone { result ≡ agrees forced.old literal }
+{
+    match *forced {
+        None => {
+            *forced = Some(literal);
+            true
+        }
+        Some(first) => first == literal,
+    }
+}
+
+#[inline(always)]
+fn effect_of_forced(forced: Option<Lit>) -> Effect
+    ensures { result ≡ effect_of_forced forced }
+{
+    match forced {
+        None => Effect::Conflict,
+        Some(literal) => Effect::Unit(literal),
     }
 }

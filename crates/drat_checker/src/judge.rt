@@ -1,16 +1,19 @@
-// The judge of a proof's steps. It keeps the clauses that stand, in their order.
-ghost use Rattle.std.specs.Prelude.{◌≡◌, ◌<◌, ℤ, List, [], ◌∷◌, ◌++◌, None, length, IfOk, OnErr, IfNone, OnSome, IfSome, IsTrue};
-ghost use Rattle.std.specs.List.{remove};
+// The judge of a proof's steps. It keeps the clauses that stand, in their order, and what is known of the roots.
+ghost use Rattle.std.specs.Prelude.{◌≡◌, [], ◌∷◌, ◌++◌, IfOk, OnErr, IfNone, OnSome, OnOk, IsTrue};
 ghost use Rattle.drat_text.specs.declared.step.DratStep.TheVariants.{Add};
-ghost use Rattle.drat_rules.specs.Clauses.{same_list, without_first};
+ghost use Rattle.drat_rules.specs.Clauses.{without_first};
 ghost use Rattle.drat_rules.specs.Addition.{drat_fault};
 ghost use Rattle.drat_rules.specs.Run.{drat_step_fault, after};
 ghost use Rattle.drat_checker.specs.Memory.{is_addition};
 
 use crate::addition::addition_fault;
-use crate::clause::Clause;
+use crate::blocked::is_blocked;
+use crate::database::Database;
 use crate::false_list::FalseList;
+use crate::roots::{Roots, lowered, raised, settle};
+use crate::watches::Watches;
 use cnf_base::{Cnf, Lit, OutOfMemory};
+use drat_rules::quiet_law;
 use drat_text::DratStep;
 use lrat_rules::Reason;
 use std::alloc::Global;
@@ -19,18 +22,22 @@ use std::marker::Model;
 /// Judges the steps of a DRAT proof in turn, from a formula's clauses on.
 #[derive(Debug, Drop)]
 pub struct DratJudge {
-    alloc: Global,
-    clauses: Vec<Clause>,
-    // of the addition that is judged, for its memory alone
+    db: Database,
+    kept: Watches,
     trail: FalseList,
+    roots: Roots,
 }
 
 impl Model for DratJudge {
     ghost use Rattle.std.specs.Prelude.{List, ℤ};
+    ghost use Rattle.drat_checker.specs.Places.{standing};
+    ghost use Rattle.drat_checker.specs.Roots.{AreKept};
 
     ghost Value = { List (List ℤ) };
 
-    ghost view = { λ judge. judge.clauses.items };
+    ghost view = { λ judge. standing judge.db };
+
+    ghost invariant = { λ judge. AreKept judge.roots judge.db judge.kept judge.trail };
 }
 
 impl DratJudge {
@@ -38,10 +45,12 @@ impl DratJudge {
     pub fn open(alloc: Global, formula: &Cnf) -> Result<DratJudge, OutOfMemory>
         ensures { IfOk result (λ judge. judge ≡ formula.now.clauses) }
     {
+        let db = Database::open(alloc, formula)?;
         Ok(DratJudge {
-            alloc,
-            clauses: clauses_of(alloc, formula)?,
+            db,
+            kept: Watches::new(alloc),
             trail: FalseList::new(alloc),
+            roots: Roots::Lost,
         })
     }
 
@@ -57,7 +66,7 @@ impl DratJudge {
         match step {
             DratStep::Add { lits } => self.add(lits.as_slice()),
             DratStep::Delete { lits } => {
-                remove_first(&mut self.clauses, lits.as_slice());
+                self.delete(lits.as_slice());
                 Ok(None)
             }
         }
@@ -70,54 +79,56 @@ impl DratJudge {
         ensures err { OnErr result (self.new ≡ self.old) }
         ensures memory { OnErr result (IsTrue (is_addition (Add clause.now))) }
     {
-        let fault = addition_fault(self.clauses.as_slice(), &mut self.trail, clause)?;
+        let fault = self.fault_of(clause)?;
         if let Some(reason) = fault {
             return Ok(Some(reason));
         }
-        let added = Clause::of(self.alloc, clause)?;
-        self.clauses.push(added)?;
+        self.put(clause)?;
         Ok(None)
     }
-}
 
-// Takes out the first clause with these literals in this order, where there is one.
-fn remove_first(clauses: &mut Vec<Clause>, clause: &[Lit])
-    ensures { clauses.new.items ≡ without_first clause.now clauses.old.items }
-{
-    let Some(place) = place_of(clauses.as_slice(), clause) else {
-        return;
-    };
-    clauses.remove(place);
-}
-
-// Where the first clause with these literals in this order stands.
-fn place_of(clauses: &[Clause], clause: &[Lit]) -> Option<usize>
-    ensures within { IfSome result (λ place. place < length clauses.now) }
-    ensures first { IfSome result (λ place. without_first clause.now clauses.now ≡ remove clauses.now place) }
-    ensures none { result ≡ None → without_first clause.now clauses.now ≡ clauses.now }
-{
-    for i in 0..clauses.len() {
-        if is_same(clause, &clauses[i]) {
-            return Some(i);
+    fn fault_of(&mut self, clause: &[Lit]) -> Result<Option<Reason>, OutOfMemory>
+        ensures fault { IfOk result (λ fault. fault ≡ drat_fault self.old clause.now) }
+        ensures same { self.new ≡ self.old }
+    {
+        quiet_law();
+        if is_blocked(&self.db, clause) {
+            return Ok(None);
         }
+        let roots = self.roots;
+        self.roots = Roots::Lost;
+        let clash = settle(&self.db, &mut self.kept, &mut self.trail, roots)?;
+        if clash {
+            self.roots = Roots::Clash;
+            return Ok(None);
+        }
+        let fault = addition_fault(&self.db, &mut self.kept, &mut self.trail, clause)?;
+        self.roots = Roots::Settled;
+        Ok(fault)
     }
-    None
-}
 
-// Whether a clause has these literals in this order.
-fn is_same(clause: &[Lit], own: &Clause) -> bool
-    ensures { result ≡ same_list clause.now own.now }
-{
-    clause == own.literals()
-}
-
-fn clauses_of(alloc: Global, formula: &Cnf) -> Result<Vec<Clause>, OutOfMemory>
-    ensures { IfOk result (λ clauses. clauses.items ≡ formula.now.clauses) }
-{
-    let mut clauses = Vec::new(alloc);
-    for i in 0..formula.len() {
-        let clause = Clause::of(alloc, formula.clause(i + 1))?;
-        clauses.push(clause)?;
+    fn put(&mut self, clause: &[Lit]) -> Result<(), OutOfMemory>
+        ensures ok { OnOk result (self.new ≡ self.old ++ clause.now ∷ []) }
+        ensures err { OnErr result (self.new ≡ self.old) }
+    {
+        self.db.push(clause)?;
+        self.roots = raised(
+            &self.db,
+            &mut self.kept,
+            &mut self.trail,
+            self.roots,
+            clause,
+        );
+        Ok(())
     }
-    Ok(clauses)
+
+    fn delete(&mut self, clause: &[Lit])
+        ensures { self.new ≡ without_first clause.now self.old }
+    {
+        let found = self.db.remove(clause);
+        if !found {
+            return;
+        }
+        self.roots = lowered(&self.trail, self.roots, clause);
+    }
 }

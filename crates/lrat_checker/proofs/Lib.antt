@@ -7,6 +7,7 @@ pub mod Walks
 pub mod Kept
 pub mod Indexed
 pub mod GroupFaults
+pub mod Cutting
 pub mod Verdicts
 pub mod Turns
 pub mod Wanted

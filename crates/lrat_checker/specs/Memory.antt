@@ -1,47 +1,20 @@
 -- Which steps may want memory: for the literals that a chain of hints keeps, and for a clause that becomes live.
 use Rattle.std.specs.Prelude.{ℕ, Bool, false, not, ◌||◌, ◌&&◌, ℤ, List, [], ◌∷◌, is_none, nat_lt}
-use Rattle.cnf_base.specs.declared.list.Group.{Group}
 use Rattle.cnf_base.specs.declared.step.Step.{Step}
 use Rattle.cnf_base.specs.declared.step.Step.TheVariants.{Add, Delete}
 use Rattle.cnf_base.specs.ProofText.{is_empty}
 use Rattle.lrat_text.specs.Steps.{Steps, no_more, overlong, no_step, next_step}
 use Rattle.lrat_text.specs.Wants.{Wants, no_further, for_number, for_step, is_near, wants_of}
 use Rattle.lrat_rules.specs.State.{State, Live, clause_at, start}
-use Rattle.lrat_rules.specs.Chain.{FalseSet, literals_of, effect, is_unit, Outcome, Open, Closed, Bad}
+use Rattle.lrat_rules.specs.Chain.{FalseSet, literals_of, effect, is_unit}
 use Rattle.lrat_rules.specs.Run.{step_fault, after_step}
 use Rattle.lrat_checker.specs.TextVerdict.{max_bytes}
-use Rattle.lrat_rules.specs.Addition.{if_live, holds_negated, has_other, is_blocked_by, with_candidate, group_fault, fault}
+use Rattle.lrat_rules.specs.Addition.{if_live, fault}
 
 -- The first of these hints forces a literal, which is kept. Where it forces none, no later hint is taken.
 abbrev pub forces_literal : Live → FalseSet → List ℕ → Bool
 forces_literal live n [] = false
 forces_literal live n (hint ∷ hints) = if_live (λ clause. is_unit (effect n clause)) (clause_at live hint)
-
--- A candidate's group is opened: the candidate's literals other than the pivot's negation are kept, and what the
--- group's hints force.
-abbrev pub candidate_keeps : Live → FalseSet → ℤ → List ℤ → List ℕ → Bool
-candidate_keeps live n pivot clause hints = has_other pivot clause || forces_literal live (with_candidate n pivot clause) hints
-
--- only the group of a candidate that isn't blocked is opened
-abbrev pub opened_keeps : Live → FalseSet → ℤ → List ℕ → List ℤ → Bool
-opened_keeps live n pivot hints clause = holds_negated pivot clause
-    && (not (is_blocked_by n pivot clause) && candidate_keeps live n pivot clause hints)
-
-abbrev pub group_keeps : Live → FalseSet → ℤ → Group → Bool
-group_keeps live n pivot group = if_live (opened_keeps live n pivot group.hints) (clause_at live group.id)
-
--- some group keeps literals, and those before it have no fault
-abbrev pub groups_keep : Live → FalseSet → ℤ → List Group → Bool
-groups_keep live n pivot [] = false
-groups_keep live n pivot (group ∷ groups) = group_keeps live n pivot group
-    || (is_none (group_fault live n pivot group) && groups_keep live n pivot groups)
-
--- after the addition's own hints: groups are looked at only behind hints without a conflict, where there is a pivot
-abbrev pub kept_after_hints : Live → List ℤ → List Group → Outcome → Bool
-kept_after_hints live clause groups (Bad reason) = false
-kept_after_hints live clause groups Closed = false
-kept_after_hints live [] groups (Open n) = false
-kept_after_hints live (pivot ∷ clause) groups (Open n) = groups_keep live n pivot groups
 
 -- while an addition is judged: its clause's literals are kept, or one that its hints force
 abbrev pub judging_keeps : Live → List ℤ → List ℕ → Bool

@@ -1,18 +1,23 @@
 // When an addition is good: its number is greater than all earlier ones, and its hints refute the clause's negation,
 // or its first literal, the pivot, has a refutation for each candidate. (LRAT: RUP and RAT steps.)
-ghost use Rattle.std.specs.Prelude.{◌≡◌, ◌<◌, None, IfOk, OnErr, IsTrue};
+ghost use Rattle.std.specs.Prelude.{◌≡◌, ◌<◌, not, [], None, IfOk, IfNone, OnOk, OnErr, IsTrue};
+ghost use Rattle.cnf_base.specs.ProofText.{is_empty};
+ghost use Rattle.lrat_rules.specs.Chain.{chain as chain_of, literals_of};
 ghost use Rattle.lrat_rules.specs.Addition.{fault, fault_after_hints};
 ghost use Rattle.lrat_rules.specs.FalseLiterals.{set_of, before_of};
 ghost use Rattle.lrat_checker.specs.Ends.{outcome_at};
-ghost use Rattle.lrat_checker.specs.Memory.{judging_keeps, kept_after_hints};
+ghost use Rattle.lrat_checker.specs.Cuts.{group_uses, uses_of};
+ghost use Rattle.lrat_checker.specs.Memory.{judging_keeps};
 
+use crate::cut::Uses;
 use crate::live::IndexedClauses;
 use crate::propagation::{HintsEnd, run_hints};
-use crate::resolvents::resolvents_fault;
+use crate::resolvents::{groups_fault, resolvents_fault};
 use cnf_base::{Group, Id, Lit, OutOfMemory};
 use lrat_rules::{Chain, Reason};
+use std::alloc::Global;
 
-/// Why the addition of this clause under this number isn't good, if it isn't.
+/// Why the addition of this clause under this number isn't good; where it is, which hints its check took.
 pub fn addition_fault(
     live: &mut IndexedClauses,
     top: Id,
@@ -21,8 +26,10 @@ pub fn addition_fault(
     clause: &[Lit],
     hints: &[Id],
     groups: &[Group],
+    uses: &mut Uses,
 ) -> Result<Option<Reason>, OutOfMemory>
     ensures fault { IfOk result (λ answer. answer ≡ fault (record { live = live.old; top = top }) id clause.now hints.now groups.now) }
+    ensures uses { IfOk result (λ answer. IfNone answer (uses.new ≡ uses_of live.old clause.now hints.now groups.now)) }
     ensures number { OnErr result (top < id) }
     ensures memory { OnErr result (IsTrue (judging_keeps live.old clause.now hints.now)) }
     ensures same { live.new ≡ live.old }
@@ -31,8 +38,30 @@ pub fn addition_fault(
         return Ok(Some(Reason::IdNotGreater));
     }
     chain.restart(clause)?;
-    let end = run_hints(live, chain, hints)?;
-    fault_after_hints(live, chain, clause, groups, end)
+    let (end, used) = run_hints(live, chain, hints)?;
+    uses.restart(used);
+    fault_after_hints(live, chain, clause, groups, end, uses)
+}
+
+/// Which hints the check of a good addition takes.
+pub fn addition_uses(
+    alloc: Global,
+    live: &IndexedClauses,
+    clause: &[Lit],
+    hints: &[Id],
+    groups: &[Group],
+    uses: &mut Uses,
+) -> Result<(), OutOfMemory>
+    requires { fault_after_hints live.now clause.now groups.now (chain_of live.now (literals_of clause.now) hints.now) ≡ None }
+    ensures { OnOk result (uses.new ≡ uses_of live.now clause.now hints.now groups.now) }
+{
+    let mut chain = Chain::start(alloc, clause)?;
+    let (end, used) = run_hints(live, &mut chain, hints)?;
+    uses.restart(used);
+    if let (HintsEnd::NoConflict, [pivot, ..]) = (end, clause) {
+        groups_fault(live, &mut chain, *pivot, groups, uses)?;
+    }
+    Ok(())
 }
 
 // After the addition's own hints.
@@ -42,10 +71,14 @@ fn fault_after_hints(
     clause: &[Lit],
     groups: &[Group],
     end: HintsEnd,
+    uses: &mut Uses,
 ) -> Result<Option<Reason>, OutOfMemory>
-    requires { before_of chain.old ≡ None }
+    requires open { before_of chain.old ≡ None }
+    requires none { uses.old.groups ≡ [] }
     ensures fault { IfOk result (λ answer. answer ≡ fault_after_hints live.old clause.now groups.now (outcome_at (set_of chain.old) end)) }
-    ensures memory { OnErr result (IsTrue (kept_after_hints live.old clause.now groups.now (outcome_at (set_of chain.old) end))) }
+    ensures uses { IfOk result (λ answer. IfNone answer (uses.new
+        ≡ record { hints = uses.old.hints; groups = group_uses live.old clause.now groups.now (outcome_at (set_of chain.old) end) })) }
+    ensures memory { OnErr result (IsTrue (not (is_empty clause.now))) }
     ensures same { live.new ≡ live.old }
 {
     match end {
@@ -53,7 +86,7 @@ fn fault_after_hints(
         HintsEnd::Conflict => Ok(None),
         HintsEnd::NoConflict => match clause {
             [] => Ok(Some(Reason::NoConflict)),
-            [pivot, ..] => resolvents_fault(live, chain, *pivot, groups),
+            [pivot, ..] => resolvents_fault(live, chain, *pivot, groups, uses),
         },
     }
 }

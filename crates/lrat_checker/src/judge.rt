@@ -5,13 +5,16 @@ ghost use Rattle.std.specs.FinMap as map;
 ghost use Rattle.std.specs.Option.{option_copied};
 ghost use Rattle.cnf_base.specs.declared.step.Step.TheVariants.{Add};
 ghost use Rattle.lrat_rules.specs.State.{start, clause_at, with_clause, numbered_from};
-ghost use Rattle.lrat_rules.specs.Addition.{fault};
+ghost use Rattle.lrat_rules.specs.Chain.{chain, literals_of};
+ghost use Rattle.lrat_rules.specs.Addition.{fault, fault_after_hints};
 ghost use Rattle.lrat_rules.specs.Run.{step_fault, after_step};
+ghost use Rattle.lrat_checker.specs.Cuts.{cut_of, cut_of_step, uses_of, uses_of_step};
 ghost use Rattle.lrat_checker.specs.Memory.{may_want_memory};
 
-use crate::addition::addition_fault;
+use crate::addition::{addition_fault, addition_uses};
+use crate::cut::{Cut, Uses};
 use crate::live::IndexedClauses;
-use cnf_base::{Cnf, Group, Id, Lit, OutOfMemory, Step};
+use cnf_base::{Cnf, Group, GroupList, Id, IdList, Lit, OutOfMemory, Step};
 use lrat_rules::{Chain, Reason};
 use std::alloc::Global;
 use std::marker::Model;
@@ -19,6 +22,7 @@ use std::marker::Model;
 /// Judges the steps of a proof in turn, from a formula's clauses on.
 #[derive(Debug, Drop)]
 pub struct Judge {
+    alloc: Global,
     live: IndexedClauses,
     top: Id,
     chain: Chain,
@@ -42,7 +46,12 @@ impl Judge {
         let chain = Chain::start(alloc, &[])?;
         let live = numbered(alloc, formula)?;
         let top = Id(formula.len() as u64);
-        Ok(Judge { live, top, chain })
+        Ok(Judge {
+            alloc,
+            live,
+            top,
+            chain,
+        })
     }
 
     /// Why the step isn't good, or nothing: then it is taken. A bad step and a refusal change nothing.
@@ -55,17 +64,63 @@ impl Judge {
         // that are kept while it is judged, and where it is good.
         ensures memory { OnErr result (IsTrue (may_want_memory self.old step.now)) }
     {
+        let mut uses = Uses::new(self.alloc);
+        self.step_with(step, &mut uses)
+    }
+
+    /// The same, and where the step is good, how many hints of each of its lists were taken. After a bad step or a refusal
+    /// these are some numbers.
+    pub fn step_with(&mut self, step: &Step, uses: &mut Uses) -> Result<Option<Reason>, OutOfMemory>
+        ensures fault { IfOk result (λ fault. fault ≡ step_fault self.old step.now) }
+        ensures good { IfOk result (λ fault. IfNone fault (self.new ≡ after_step self.old step.now)) }
+        ensures bad { IfOk result (λ fault. OnSome fault (self.new ≡ self.old)) }
+        ensures err { OnErr result (self.new ≡ self.old) }
+        ensures uses { IfOk result (λ fault. IfNone fault (uses.new ≡ uses_of_step self.old step.now)) }
+        ensures memory { OnErr result (IsTrue (may_want_memory self.old step.now)) }
+    {
         match step {
             Step::Add {
                 id,
                 lits,
                 pos,
                 groups,
-            } => self.add(*id, lits.as_slice(), pos.as_slice(), groups.as_slice()),
+            } => self.add(
+                *id,
+                lits.as_slice(),
+                pos.as_slice(),
+                groups.as_slice(),
+                uses,
+            ),
             Step::Delete { ids, .. } => {
                 self.live.remove_all(ids.as_slice());
+                uses.restart(0);
                 Ok(None)
             }
+        }
+    }
+
+    /// What a step that is good now needs: of an addition the hints that its check takes, of a deletion none.
+    pub fn needs(&self, step: &Step) -> Result<Cut, OutOfMemory>
+        requires good { step_fault self.now step.now ≡ None }
+        ensures { IfOk result (λ cut. cut ≡ cut_of_step self.now step.now) }
+    {
+        match step {
+            Step::Add {
+                lits,
+                pos,
+                groups,
+                ..
+            } => addition_needs(
+                self.alloc,
+                &self.live,
+                lits.as_slice(),
+                pos.as_slice(),
+                groups.as_slice(),
+            ),
+            Step::Delete { .. } => Ok(Cut {
+                pos: IdList::new(self.alloc),
+                groups: GroupList::new(self.alloc),
+            }),
         }
     }
 
@@ -89,12 +144,14 @@ impl Judge {
         clause: &[Lit],
         hints: &[Id],
         groups: &[Group],
+        uses: &mut Uses,
     ) -> Result<Option<Reason>, OutOfMemory>
         ensures fault { IfOk result (λ answer. answer ≡ fault self.old id clause.now hints.now groups.now) }
         ensures good { IfOk result (λ answer. IfNone answer (self.new
             ≡ record { live = with_clause self.old.live id clause.now; top = id })) }
         ensures bad { IfOk result (λ answer. OnSome answer (self.new ≡ self.old)) }
         ensures err { OnErr result (self.new ≡ self.old) }
+        ensures uses { IfOk result (λ answer. IfNone answer (uses.new ≡ uses_of self.old.live clause.now hints.now groups.now)) }
         ensures memory { OnErr result (IsTrue (may_want_memory self.old (Add id clause.now hints.now groups.now))) }
     {
         let fault = addition_fault(
@@ -105,6 +162,7 @@ impl Judge {
             clause,
             hints,
             groups,
+            uses,
         )?;
         if let Some(reason) = fault {
             return Ok(Some(reason));
@@ -113,6 +171,22 @@ impl Judge {
         self.top = id;
         Ok(None)
     }
+}
+
+// What an addition that is good, but maybe for its number, needs.
+fn addition_needs(
+    alloc: Global,
+    live: &IndexedClauses,
+    clause: &[Lit],
+    hints: &[Id],
+    groups: &[Group],
+) -> Result<Cut, OutOfMemory>
+    requires good { fault_after_hints live.now clause.now groups.now (chain live.now (literals_of clause.now) hints.now) ≡ None }
+    ensures { IfOk result (λ cut. cut ≡ cut_of live.now clause.now hints.now groups.now) }
+{
+    let mut uses = Uses::new(alloc);
+    addition_uses(alloc, live, clause, hints, groups, &mut uses)?;
+    Cut::by(alloc, &uses, hints, groups)
 }
 
 // The clauses of a formula under 1, 2, ..

@@ -1,10 +1,12 @@
 // What the verdict on a text says by the rules, as clauses of a function without work.
 ghost use Rattle.std.specs.Prelude.{◌≡◌, ℕ, ◌<◌, ◌≤◌, ℤ, List, length, None, Some};
+ghost use Rattle.cnf_base.specs.declared.list.Group.{Group};
 ghost use Rattle.lrat_rules.specs.declared.outcome.Reason.{Reason};
-ghost use Rattle.lrat_rules.specs.State.{start};
+ghost use Rattle.lrat_rules.specs.State.{Live, start};
 ghost use Rattle.lrat_rules.specs.Run.{run, verdict, Refutes};
 ghost use Rattle.lrat_text.specs.Steps.{lines_within};
 ghost use Rattle.lrat_checker.specs.declared.verdict.Verdict.TheVariants.{Verified, Refused};
+ghost use Rattle.lrat_checker.specs.Cuts.{cut_by, cut_of, uses_of};
 ghost use Rattle.lrat_checker.specs.TextVerdict.{max_bytes, text_verdict, verdict_as, verdict_within};
 
 use lrat_text::{long_text_law, whole_text_law};
@@ -27,3 +29,9 @@ pub fn check_law()
     whole_text_law();
     long_text_law();
 }
+
+/// Hints and groups cut to the numbers that the check of a good addition takes are what it needs.
+pub fn cut_law()
+    ensures { (live : Live) (clause : List ℤ) (hints : List ℕ) (groups : List Group)
+        → cut_by (uses_of live clause hints groups) hints groups ≡ cut_of live clause hints groups }
+{}

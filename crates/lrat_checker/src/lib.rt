@@ -10,6 +10,7 @@ mod chunk;
 mod clause;
 mod clauses;
 mod counts;
+mod cut;
 mod holders;
 mod judge;
 mod laws;
@@ -21,7 +22,8 @@ mod slot;
 mod text;
 mod verdict;
 
+pub use cut::{Cut, Uses};
 pub use judge::Judge;
-pub use laws::check_law;
+pub use laws::{check_law, cut_law};
 pub use text::{answer_to, check, or_adds_empty, verdict_at_end};
 pub use verdict::{CheckError, Verdict};

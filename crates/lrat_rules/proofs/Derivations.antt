@@ -102,32 +102,35 @@ module _ (appended : (bytes : List ℕ) (step : Step) → are_whole_lines bytes 
       ∙ (λ i. appended bytes step h parts.0 i ++ lines_from (ends bytes step parts.0 i + 1) steps)
       ∙ append_assoc (proof_lines bytes) (next ∷ []) (lines_from (line_ends bytes + 1 + 1) steps)
 
-  lines_of_text : (clauses : List (List ℤ)) (steps : List Step) (state : State) → IsDerivation clauses steps state
-      → proof_lines (text_of steps) ≡ lines_from 1 steps
-  lines_of_text clauses steps state d = proof_lines-text_of [] steps refl d.printable
+  pub lines_of_text : (steps : List Step) → list_all is_printable steps ≡ true → proof_lines (text_of steps) ≡ lines_from 1 steps
+  lines_of_text steps printable = proof_lines-text_of [] steps refl printable
 
-  Spells-text_of : (clauses : List (List ℤ)) (steps : List Step) (state : State) → IsDerivation clauses steps state
-      → Spells clauses (text_of steps) state
-  Spells-text_of clauses steps state d = record {
+  Spells-text_of : (clauses : List (List ℤ)) (steps : List Step) (state : State) → run (start clauses) (lines_from 1 steps) ≡ Reached state
+      → list_all is_printable steps ≡ true → Spells clauses (text_of steps) state
+  Spells-text_of clauses steps state reached printable = record {
     whole = whole-text_of [] steps refl;
-    reached = ap (run (start clauses)) (lines_of_text clauses steps state d) ∙ d.reached;
+    reached = ap (run (start clauses)) (lines_of_text steps printable) ∙ reached;
   }
 
   pub Spells-IsWritten : (clauses : List (List ℤ)) (bytes : List ℕ) (state : State) → IsWritten clauses bytes state
       → Spells clauses bytes state
   Spells-IsWritten clauses bytes state w = subst (λ (b : List ℕ). Spells clauses b state) (sym w.text)
-      (Spells-text_of clauses w.steps state w.derived)
+      (Spells-text_of clauses w.steps state w.derived.reached w.derived.printable)
 
-  pub Refutes-by_step : (clauses : List (List ℤ)) (steps : List Step) (state : State) → IsDerivation clauses steps state
-      → list_any step_adds_empty steps ≡ true → Refutes clauses (text_of steps)
-  Refutes-by_step clauses steps state d empty =
-      Refutes-Spells clauses (text_of steps) state (Spells-text_of clauses steps state d)
-      (ap (list_any (λ (line : Line). line_adds_empty line.step)) (lines_of_text clauses steps state d) ∙ lines_add_empty 1 steps ∙ empty)
+  pub Refutes-run : (clauses : List (List ℤ)) (steps : List Step) (state : State) → run (start clauses) (lines_from 1 steps) ≡ Reached state
+      → list_all is_printable steps ≡ true → list_any step_adds_empty steps ≡ true → Refutes clauses (text_of steps)
+  Refutes-run clauses steps state reached printable empty =
+      Refutes-Spells clauses (text_of steps) state (Spells-text_of clauses steps state reached printable)
+      (ap (list_any (λ (line : Line). line_adds_empty line.step)) (lines_of_text steps printable) ∙ lines_add_empty 1 steps ∙ empty)
     where
       lines_add_empty : (line : ℕ) (xs : List Step) → list_any (λ (l : Line). line_adds_empty l.step) (lines_from line xs)
           ≡ list_any step_adds_empty xs
       lines_add_empty line [] = refl
       lines_add_empty line (x ∷ xs) = ap (λ b. step_adds_empty x || b) (lines_add_empty (line + 1) xs)
+
+  pub Refutes-by_step : (clauses : List (List ℤ)) (steps : List Step) (state : State) → IsDerivation clauses steps state
+      → list_any step_adds_empty steps ≡ true → Refutes clauses (text_of steps)
+  Refutes-by_step clauses steps state d empty = Refutes-run clauses steps state d.reached d.printable empty
 
   -- a live clause without literals was added, where the formula has none
   pub Refutes-live : (clauses : List (List ℤ)) (bytes : List ℕ) (state : State) (id : ℕ) → IsWritten clauses bytes state

@@ -10,7 +10,7 @@ ghost use Rattle.lrat_rules.specs.State.{State, Live, clause_at, start, with_cla
 ghost use Rattle.lrat_rules.specs.Chain.{Closes, literals_of};
 ghost use Rattle.lrat_rules.specs.Addition.{fault};
 ghost use Rattle.lrat_rules.specs.Strict.{RefutesStrictly, IsDefinition};
-ghost use Rattle.lrat_rules.specs.Derivation.{IsDerivation, IsWritten, deletes_added, text_of};
+ghost use Rattle.lrat_rules.specs.Derivation.{IsDerivation, IsWritten, deletes_added, lines_from, text_of};
 ghost use Rattle.lrat_rules.specs.Run.{Reached, Refutes, Spells, run, step_fault, after_step, step_adds_empty, adds_empty_clause};
 
 /// An addition by a strict refutation is good: its hints close, and each of them names a live clause.
@@ -78,6 +78,17 @@ pub fn derivation_law()
     ensures refutes { (clauses : List (List ℤ)) (bytes : List ℕ) (state : State) (id : ℕ) → IsWritten clauses bytes state
         → IsFalse (list_any is_empty clauses)
         → clause_at state.live id ≡ Some [] → Refutes clauses bytes }
+{
+    cnf_base::one_more_line_law();
+}
+
+/// Steps whose lines can be read again, whatever they delete: their text gives them again, and refutes the formula where they
+/// are good and one of them adds the empty clause.
+pub fn steps_text_law()
+    ensures lines { (steps : List Step) → IsTrue (list_all is_printable steps) → proof_lines (text_of steps) ≡ lines_from 1 steps }
+    ensures refutes { (clauses : List (List ℤ)) (steps : List Step) (state : State) → run (start clauses) (lines_from 1 steps)
+        ≡ Reached state
+        → IsTrue (list_all is_printable steps) → IsTrue (list_any step_adds_empty steps) → Refutes clauses (text_of steps) }
 {
     cnf_base::one_more_line_law();
 }

@@ -19,7 +19,7 @@ pub use effect::{effect_on, is_among};
 pub use examples::{refutation_example, resolvent_example};
 pub use laws::{
     conflict_law, definition_law, derivation_law, live_law, marks_law, refuted_law, start_law,
-    strict_addition_law,
+    steps_text_law, strict_addition_law,
 };
 pub use outcome::{Effect, Reason};
 pub use soundness::soundness_law;

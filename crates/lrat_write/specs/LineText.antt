@@ -1,5 +1,5 @@
 -- The text of a line by its parts.
-use Rattle.std.specs.Prelude.{ℕ, ℤ, Bool, if◌then◌else◌, List, [], ◌∷◌, ◌++◌, map, decimal}
+use Rattle.std.specs.Prelude.{ℕ, ℤ, Bool, if◌then◌else◌, List, [], ◌∷◌, ◌++◌, map, decimal, nat_lt}
 use Rattle.std.specs.Fmt.{signed_decimal}
 use Rattle.std.specs.List.{flat_map}
 use Rattle.cnf_base.specs.declared.list.Group.{Group}
@@ -36,3 +36,16 @@ deletion_text id ids = decimal id ++ 32 ∷ 100 ∷ [] ++ ids_text (32 ∷ []) i
 -- the groups of candidates that want no hints
 abbrev pub bare_groups : List ℕ → List Group
 bare_groups candidates = map (λ candidate. record { id = candidate; hints = [] }) candidates
+
+-- a group: the number of its candidate behind a minus sign, and its hints. (0, which names no clause, has no sign.)
+abbrev pub group_text : Group → List ℕ
+group_text group = led_number (nat_lt 0 group.id) group.id ++ ids_text (32 ∷ []) group.hints
+
+-- positive hints, and groups behind them
+abbrev pub hints_text : List ℕ → List Group → List ℕ
+hints_text hints groups = ids_text (32 ∷ []) hints ++ flat_map group_text groups
+
+-- the parts of the line of an addition with hints and groups
+abbrev pub addition_text : ℕ → List ℤ → List ℕ → List Group → List ℕ
+addition_text id clause hints groups =
+    decimal id ++ literals_text clause ++ 32 ∷ 48 ∷ [] ++ hints_text hints groups ++ 32 ∷ 48 ∷ 10 ∷ []

@@ -5,5 +5,7 @@
 mod backward;
 mod line;
 mod numbers;
+mod step;
 
 pub use line::{write_add, write_define, write_delete};
+pub use step::write_step;

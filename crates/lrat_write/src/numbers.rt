@@ -1,10 +1,11 @@
-// The numbers of a long line: literals, and the numbers of clauses.
+// The numbers of a long line: literals, the numbers of clauses, and groups.
 ghost use Rattle.std.specs.Prelude.{◌≡◌};
+ghost use Rattle.std.specs.List.{flat_map};
 ghost use Rattle.host_io.specs.Emitted.{Emits};
-ghost use Rattle.lrat_write.specs.LineText.{lead, led_number, literals_text, ids_text};
+ghost use Rattle.lrat_write.specs.LineText.{lead, led_number, literals_text, ids_text, group_text, hints_text};
 
 use crate::backward::{BUFFER, put_ids, put_number};
-use cnf_base::{Id, Lit};
+use cnf_base::{Group, Id, Lit};
 use host_io::{Failed, HeldBytes, Sink, emit};
 
 // So many numbers a buffer holds, however long they are.
@@ -52,6 +53,43 @@ pub fn emit_ids<S: Sink>(
         rest = more;
     }
     Ok(())
+}
+
+/// Puts positive hints, and groups behind them: of each its candidate's number with a minus sign, and its hints.
+pub fn emit_hints<S: Sink>(
+    sink: &mut S,
+    held: &mut HeldBytes,
+    hints: &[Id],
+    groups: &[Group],
+) -> Result<(), Failed>
+    ensures emits { Emits S.tells (S.channel sink.old) (S.channel sink.new) held.old.items held.new.items
+        (hints_text hints.now groups.now) result }
+    ensures beside { S.beside sink.new ≡ S.beside sink.old }
+{
+    emit_ids(sink, held, false, hints)?;
+    emit_groups(sink, held, groups)
+}
+
+fn emit_groups<S: Sink>(sink: &mut S, held: &mut HeldBytes, groups: &[Group]) -> Result<(), Failed>
+    ensures emits { Emits S.tells (S.channel sink.old) (S.channel sink.new) held.old.items held.new.items
+        (flat_map group_text groups.now) result }
+    ensures beside { S.beside sink.new ≡ S.beside sink.old }
+{
+    for group in groups {
+        emit_group(sink, held, group)?;
+    }
+    Ok(())
+}
+
+fn emit_group<S: Sink>(sink: &mut S, held: &mut HeldBytes, group: &Group) -> Result<(), Failed>
+    ensures emits { Emits S.tells (S.channel sink.old) (S.channel sink.new) held.old.items held.new.items
+        (group_text group.now) result }
+    ensures beside { S.beside sink.new ≡ S.beside sink.old }
+{
+    let mut buffer = [0; BUFFER];
+    let id = group.id.get();
+    emit_led(sink, held, &mut buffer, 0 < id, id)?;
+    emit_ids(sink, held, false, group.hints.as_slice())
 }
 
 // Puts as many of them as one buffer holds, in a buffer whose bytes are of no use.

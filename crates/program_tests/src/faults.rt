@@ -80,6 +80,18 @@ ProofIn 3;ReadFault|||error: read failed/
 ProofIn 4;ReadFault||0/|error: read failed/
 ProofIn 5;ReadFault||0/|error: read failed/
 ProofIn 6;NotVerified(2, HintNotLive)|c line 2 HintNotLive/s NOT VERIFIED/|0/|
+bddsat trim both good --out out.lrat
+Cnf 5;ReadFault||none|error: read failed/
+ProofIn 1;ReadFault||none|error: read failed/
+ProofIn 2;ReadFault||none|error: read failed/
+ProofIn 3;ReadFault||none|error: read failed/
+ProofIn 4;ReadFault||none|error: read failed/
+ProofOut 1;WriteFault||none|error: write failed/
+ProofOut 2;WriteFault|||error: write failed/
+Out 1;WriteFault||3 0 1 2 0/|error: write failed/
+bddsat trim both worse --out out.lrat
+ProofIn 5;ReadFault||none|error: read failed/
+ProofIn 6;NotVerified(2, HintNotLive)|c line 2 HintNotLive/s NOT VERIFIED/|none|
 bddsat make board 2 --part cnf --out out.lrat
 Made 1;WriteFault||none|error: write failed/
 Made 2;WriteFault|||error: write failed/

@@ -1,4 +1,4 @@
-//! Tests of the layers of proofs: `lrat_rules`, `lrat_checker`, `hint_chain`, `clause_ledger`.
+//! Tests of the layers of proofs: `lrat_rules`, `lrat_checker`, `hint_chain`, `clause_ledger`, `proof_trim`.
 #![tactic(auto)]
 
 #[cfg(test)]
@@ -9,3 +9,5 @@ mod hints;
 mod ledger;
 #[cfg(test)]
 mod support;
+#[cfg(test)]
+mod trim;

@@ -121,7 +121,8 @@ pub steps_stand : (run : Run) {problem : Formula} {order : List ℕ} {moves : Li
     → ProofStands run → WrittenStands run
 steps_stand run posed stands = record {
   converted = λ given. absurd (decided_apart posed.gives posed.decides given.1 refl);
-  proved = λ _. stands;
+  trimmed = λ given. absurd (decided_apart posed.gives posed.decides given.1 refl);
+  proved = λ _ _. stands;
 }
 
 -- statuses that no accepted text leads to

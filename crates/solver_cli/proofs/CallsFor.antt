@@ -13,8 +13,8 @@ use Rattle.schedule_plan.specs.ScheduleText.{schedule}
 use Rattle.schedule_plan.specs.declared.plan.Move.{Move}
 use Rattle.command_line.specs.declared.format.ProofFormat.{ProofFormat}
 use Rattle.command_line.specs.declared.format.ProofFormat.TheVariants.{Lrat}
-use Rattle.command_line.specs.Command.{Command, ToOrder, ToConvert, Solve, Check, Bench, Make, Arrange, Convert, Planned, ByName, ByFile}
-use Rattle.command_line.specs.Command.{ByBuckets, Found}
+use Rattle.command_line.specs.Command.{Command, ToOrder, ToRewrite, Solve, Check, Bench, Make, Arrange, Convert, Planned, ByName, ByFile}
+use Rattle.command_line.specs.Command.{ByBuckets, Found, Trim}
 use Rattle.command_line.specs.Command.{command, format_of, formula_file, mode_of}
 use Rattle.solver_cli.specs.declared.status.Status.{Status}
 use Rattle.solver_cli.specs.declared.status.Status.TheVariants.{Sat, Unsat, Unknown, Verified, NotVerified, Done, Help, Usage, CnfRefused}
@@ -79,6 +79,7 @@ after_formula run (Make task) problem = None
 after_formula run (Arrange task) problem = None
 after_formula run (Check task) problem = in_file (run.files task.proof) (λ bytes. by_proof (verdict_in task.format problem.clauses bytes))
 after_formula run (Convert task) problem = in_file (run.files task.proof) (λ bytes. by_proof (verdict_in Lrat problem.clauses bytes))
+after_formula run (Trim task) problem = in_file (run.files task.proof) (λ bytes. by_proof (verdict_in Lrat problem.clauses bytes))
 
 abbrev pub by_words : Run → Option Command → Option Status
 by_words run None = None
@@ -155,6 +156,7 @@ after_judged run (Make task) problem named stands = cc
 after_judged run (Arrange task) problem named stands = cc
 after_judged run (Check task) problem named stands = in_named run task.format task.proof problem named stands
 after_judged run (Convert task) problem named stands = in_named run Lrat task.proof problem named stands
+after_judged run (Trim task) problem named stands = in_named run Lrat task.proof problem named stands
 
 to_judge : (run : Run) (problem : Formula) (bytes : List ℕ) (a : AsksToJudge run problem bytes) → refusal_due run
     ≡ by_proof (verdict_in (format_of a.asked) problem.clauses bytes)
@@ -220,6 +222,7 @@ no_call run problem a status is = some_none (called run status is) (due a.by.ask
   due (Make task) gives given = absurd given
   due (Arrange task) gives given = absurd given
   due (Convert task) gives given = absurd given
+  due (Trim task) gives given = absurd given
 
 -- or where an order is made of a formula that is accepted
 pub no_call_arranged : (run : Run) (task : ToOrder) (problem : Formula) → AsksOver run (Arrange task) (formula problem) → (status : Status)
@@ -245,7 +248,7 @@ long_only (Some bytes) verdict e = inner (verdict bytes) e where
   inner None e = cc
   inner (Some judged) e = cc
 
-pub calls_long : (run : Run) (task : ToConvert) (problem : Formula) → AsksOver run (Convert task) (formula problem) → (status : Status)
+pub calls_long : (run : Run) (task : ToRewrite) (problem : Formula) → AsksOver run (Convert task) (formula problem) → (status : Status)
     → CallsFor run status → status ≡ TooLong ProofIn
 calls_long run task problem a status is = long_only (run.files task.proof) (λ bytes. verdict_in Lrat problem.clauses bytes)
     (sym (asks run (Convert task) (formula problem) a) ∙ called run status is)

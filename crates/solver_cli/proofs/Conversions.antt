@@ -10,7 +10,7 @@ use Rattle.lrat_checker.specs.declared.verdict.CheckError.TheVariants as check_e
 use Rattle.drat_proof.specs.Drat.{drat}
 use Rattle.drat_proof.specs.declared.error.ConvertError.{ConvertError}
 use Rattle.drat_proof.specs.declared.error.ConvertError.TheVariants as error
-use Rattle.command_line.specs.Command.{ToConvert, Convert, command}
+use Rattle.command_line.specs.Command.{ToRewrite, Convert, Trim, command}
 use Rattle.solver_cli.specs.declared.status.Status.TheVariants.{WriteFault}
 use Rattle.solver_cli.specs.ErrorText.{is_answer}
 use Rattle.solver_cli.specs.ExitCode.{status_of_convert}
@@ -18,7 +18,7 @@ use Rattle.solver_cli.specs.DratProof.{RewritesProof}
 use Rattle.solver_cli.specs.Stages.{streams_of, Converted, Unconverted}
 use Rattle.solver_cli.specs.Headline.{WrittenStands}
 use Rattle.solver_cli.specs.Run.{Run, GivesConversion, HasFault, OutputFailed, AsksOver, AsksToJudge, IsConverted}
-use Rattle.solver_cli.proofs.Facts.{no_answer}
+use Rattle.solver_cli.proofs.Facts.{no_answer, same_command}
 use Rattle.solver_cli.proofs.Reading.{ok_err}
 use Rattle.solver_cli.proofs.CallsFor.{calls_long}
 use Rattle.solver_cli.proofs.Promised.{Core, due, no_text, no_verdict, quiet_output, same_written}
@@ -26,10 +26,10 @@ use Rattle.solver_cli.proofs.Untaken.{took}
 use Rattle.solver_cli.proofs.Accepted.{Accepts, accepts_write}
 use Rattle.solver_cli.proofs.VerdictLaws.{Laws}
 use Rattle.solver_cli.proofs.Unjudged.{Judging, check_complete, unjudged}
-use Rattle.solver_cli.proofs.Verdicts.{judged}
+use Rattle.solver_cli.proofs.Verdicts.{judged, plainly}
 
 -- what was written of the DRAT proof stands
-stands : (run : Run) (task : ToConvert) {problem : Formula} {result : Result Verdict ConvertError} → command run.words ≡ Some (Convert task)
+stands : (run : Run) (task : ToRewrite) {problem : Formula} {result : Result Verdict ConvertError} → command run.words ≡ Some (Convert task)
     → (IsTrue run.tells → AsksOver run (Convert task) (formula problem))
     → RewritesProof run.tells (run.before ProofIn) (run.after ProofIn) (run.before ProofOut) (run.after ProofOut) run.files task.proof task.out
     problem.clauses result
@@ -56,13 +56,17 @@ stands run task {problem = problem} asked read rewrites unharmed = record {
       })
     ];
   };
-  proved = λ others. absurd (others (task, asked));
+  trimmed = λ given. absurd (apart (same_command asked given.1));
+  proved = λ others _. absurd (others (task, asked));
 } where
   to_judge : IsTrue run.tells → (bytes : List ℕ) → run.files task.proof ≡ Some bytes → AsksToJudge run problem bytes
   to_judge t bytes stands = record { asked = Convert task; asks = read t; file = task.proof; named = refl; stands = stands }
 
+  apart : {other : ToRewrite} → Convert task ≡ Trim other → ⊥
+  apart e = cc
+
 -- what the proof is judged for
-abbrev judging : (run : Run) (task : ToConvert) {problem : Formula} → command run.words ≡ Some (Convert task)
+abbrev judging : (run : Run) (task : ToRewrite) {problem : Formula} → command run.words ≡ Some (Convert task)
     → (IsTrue run.tells → AsksOver run (Convert task) (formula problem)) → AreClausesOf problem.vars problem.clauses
     → run.after Made ≡ run.before Made → WrittenStands run → Judging run problem
 judging run task asked read literals made stands = record {
@@ -77,7 +81,7 @@ judging run task asked read literals made stands = record {
 }
 
 -- the proof was not converted
-pub unconverted : Laws → (run : Run) (task : ToConvert) → command run.words ≡ Some (Convert task)
+pub unconverted : Laws → (run : Run) (task : ToRewrite) → command run.words ≡ Some (Convert task)
     → Unconverted run.tells (streams_of run.before) (streams_of run.after) run.files task run.status → Core run
 unconverted laws run task asked u = go u.error u.rewrites u.ends where
   read : IsTrue run.tells → AsksOver run (Convert task) (formula u.problem)
@@ -130,11 +134,16 @@ unconverted laws run task asked u = go u.error u.rewrites u.ends where
   go error.WriteFault rewrites ends = torn rewrites ends
 
 -- the proof was converted
-pub converted : Laws → (run : Run) (task : ToConvert) → command run.words ≡ Some (Convert task)
+pub converted : Laws → (run : Run) (task : ToRewrite) → command run.words ≡ Some (Convert task)
     → Converted run.tells (streams_of run.before) (streams_of run.after) run.files task run.status → Core run
 converted laws run task asked c =
     judged laws run (judging run task asked read c.takes.fits.literals c.made (stands run task asked read c.rewrites (λ _ e. ok_err e)))
-    c.verdict (c.rewrites.judges (Ok c.verdict) refl) whole c.printed c.puts c.ends where
+    c.verdict (c.rewrites.judges (Ok c.verdict) refl)
+    (λ t bytes stands. record { converted = λ given. whole t given bytes stands; trimmed = λ _ given. absurd (apart (same_command asked given.1)) })
+    (λ t bytes stands. plainly run c.problem bytes asked refl c.verdict) c.printed c.puts c.ends where
+      apart : {other : ToRewrite} → Convert task ≡ Trim other → ⊥
+      apart e = cc
+
       read : IsTrue run.tells → AsksOver run (Convert task) (formula c.problem)
       read = took run (Convert task) task.file c.problem asked refl c.takes
 

@@ -12,7 +12,8 @@ use Rattle.dimacs_reader.specs.Cnf.{CnfText, formula}
 use Rattle.solver_cli.specs.declared.status.Status.{Status}
 use Rattle.solver_cli.specs.declared.status.Status.TheVariants.{WriteFault, OutOfMemory}
 use Rattle.solver_cli.specs.ErrorText.{is_answer}
-use Rattle.command_line.specs.Command.{Command, ToSolve, ToCheck, ToMake, ToOrder, Solve, Check, Bench, Make, Arrange, Convert, formula_file}
+use Rattle.command_line.specs.Command.{Command, ToSolve, ToCheck, ToMake, ToOrder, Solve, Check, Bench, Make, Arrange, Convert, Trim}
+use Rattle.command_line.specs.Command.{formula_file}
 use Rattle.command_line.specs.Command.{Meaning, Asks}
 use Rattle.command_line.specs.Command.{AsksHelp, Misuse, IsOneOf, MayMean, CanOnlyMean, meanings, only_command, command}
 use Rattle.solver_cli.specs.ExitCode.{status_of_run}
@@ -91,6 +92,7 @@ decided_unjudged (Bench task) is = refl
 decided_unjudged (Make task) is = refl
 decided_unjudged (Arrange task) is = refl
 decided_unjudged (Convert task) is = cc
+decided_unjudged (Trim task) is = cc
 
 pub makes_no_order : {words : Option Command} {task : ToMake} {other : ToOrder} → words ≡ Some (Make task) → words ≡ Some (Arrange other) → ⊥
 makes_no_order {task = task} {other = other} here there = apart (sym here ∙ there) where

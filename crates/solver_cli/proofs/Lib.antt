@@ -18,6 +18,9 @@ pub mod Deciding
 pub mod Unjudged
 pub mod Verdicts
 pub mod Conversions
+pub mod Cut
+pub mod StagedTrim
+pub mod Trimmings
 pub mod Texts
 pub mod Served
 pub mod Named

@@ -7,8 +7,8 @@ use Rattle.host_io.specs.declared.role.Role.{Role}
 use Rattle.host_io.specs.declared.role.Role.TheVariants.{Cnf, Order, Buckets, Schedule, ProofIn, ProofOut, Made, Out, Err as ErrRole}
 use Rattle.host_io.specs.declared.source.Failed.{Failed}
 use Rattle.cnf_base.specs.Formula.{Formula}
-use Rattle.command_line.specs.Command.{Command, ToSolve, ToCheck, ToBench, ToMake, ToOrder, ToConvert, Solve, Check, Bench, Make, Arrange}
-use Rattle.command_line.specs.Command.{Convert, formula_file, mode_of}
+use Rattle.command_line.specs.Command.{Command, ToSolve, ToCheck, ToBench, ToMake, ToOrder, ToRewrite, Solve, Check, Bench, Make, Arrange}
+use Rattle.command_line.specs.Command.{Convert, Trim, formula_file, mode_of}
 use Rattle.command_line.specs.Command.{command, progress_asked}
 use Rattle.term_runner.specs.declared.outcome.Outcome.{Outcome}
 use Rattle.term_runner.specs.declared.outcome.Outcome.TheVariants as outcome
@@ -16,7 +16,7 @@ use Rattle.term_runner.specs.declared.outcome.Run.{Run as Ending}
 use Rattle.term_runner.specs.declared.error.RunError.{RunError}
 use Rattle.term_runner.specs.declared.error.RunError.TheVariants as run_error
 use Rattle.solver_cli.specs.declared.status.Status.{Status}
-use Rattle.solver_cli.specs.declared.status.Status.TheVariants.{Done, WriteFault}
+use Rattle.solver_cli.specs.declared.status.Status.TheVariants.{Done, Verified, WriteFault}
 use Rattle.solver_cli.specs.Answer.{status_of}
 use Rattle.solver_cli.specs.ExitCode.{status_of_convert, status_of_run}
 use Rattle.solver_cli.specs.Verdict.{status_of_verdict}
@@ -32,15 +32,16 @@ use Rattle.schedule_plan.specs.declared.schedule.error.PlanError.{PlanError}
 use Rattle.solver_cli.specs.declared.basis.Basis.{Basis}
 use Rattle.solver_cli.specs.Phases.{HasOrder, HasBuckets, HasPlan, Complains, buckets_file}
 use Rattle.solver_cli.specs.Stages.{Streams, FilesBeside, Helped, Job, NoneRead, Untaken, streams_of, Came, CameToAnswer, CameToArrange}
-use Rattle.solver_cli.specs.Stages.{CameToBench, CameToCheck, CameToConvert, CameToMake, CameToWrite, Stages, status_after}
-use Rattle.solver_cli.specs.Stages.{status_of_printed, status_of_written}
+use Rattle.solver_cli.specs.Stages.{CameToBench, CameToCheck, CameToConvert, CameToKeep, CameToMake, CameToTrim, CameToWrite, Stages}
+use Rattle.solver_cli.specs.Stages.{status_after, status_of_printed, status_of_written}
 use Rattle.drat_proof.specs.TwoRoles.{added}
 use Rattle.solver_cli.specs.Comments.{are_comments, are_comments_so_far}
 use Rattle.solver_cli.specs.Progress.{Comments, IsTold}
 use Rattle.solver_cli.specs.Headline.{ErrorStands, NamesAreGiven, ends_before_proof}
-use Rattle.solver_cli.specs.Run.{Run, GivesConversion, GivesDecision, AsksFor, AsksToConvert, name_given}
+use Rattle.solver_cli.specs.Run.{Run, GivesConversion, GivesDecision, GivesTrimming, AsksFor, AsksToConvert, HasVerdict, name_given}
 use Rattle.solver_cli.specs.Faults.{ConvertsAsItReads, ends_in_proof}
-use Rattle.solver_cli.proofs.Facts.{behind, decided_apart, grown_by}
+use Rattle.solver_cli.proofs.Facts.{behind, decided_apart, grown_by, same_command}
+use Rattle.solver_cli.proofs.Cut.{verified}
 use Rattle.solver_cli.proofs.Untaken.{took}
 use Rattle.solver_cli.proofs.Served.{order_name, buckets_name, plan_name}
 use Rattle.solver_cli.proofs.Accepted.{Posed, asks_for, decision, posed_by_board, posed_by_files}
@@ -53,15 +54,21 @@ IsNamed run role = ((run.after role).name ≡ None) ⊎ ((asked : Command) × (c
 -- the proof has a name only where the words give a command that writes one and the formula was accepted
 abbrev pub IsAccepted : Run → Type 0
 IsAccepted run = (run.after ProofOut).name ≢ None → (GivesDecision run × (IsTrue run.tells → (problem : Formula) × AsksFor run problem))
-    ⊎ (GivesConversion run × (IsTrue run.tells → AsksToConvert run))
+    ⊎ ((GivesConversion run × (IsTrue run.tells → AsksToConvert run))
+    ⊎ (GivesTrimming run × (IsTrue run.tells → (problem : Formula) × (bytes : List ℕ) × HasVerdict run problem bytes judgement.Verified)))
 
 -- and where it is a DRAT proof, only where the proof that it is made of was opened
 abbrev pub IsOpened : Run → Type 0
 IsOpened run = (run.after ProofOut).name ≢ None → GivesConversion run → (run.after ProofIn).name ≢ None
 
--- it has none yet, by how the run ended, or a proof is being converted
+-- and where it is a trimmed proof, only where the run ends with that verdict or a failed write
+abbrev pub IsOfVerified : Run → Type 0
+IsOfVerified run = (run.after ProofOut).name ≢ None → GivesTrimming run → (run.status ≡ Verified) ⊎ (run.status ≡ WriteFault)
+
+-- it has none yet, by how the run ended, or a proof is being converted, or was trimmed
 abbrev pub IsReadFirst : Run → Type 0
-IsReadFirst run = IsTrue (ends_before_proof run.status) → ((run.after ProofOut).name ≡ None) ⊎ ConvertsAsItReads run
+IsReadFirst run = IsTrue (ends_before_proof run.status) → ((run.after ProofOut).name ≡ None) ⊎ (ConvertsAsItReads run
+    ⊎ (GivesTrimming run × (run.status ≡ Verified)))
 
 -- the made file has a name only where the text was written, or a call failed
 abbrev pub IsFinished : Run → Type 0
@@ -79,6 +86,7 @@ pub record StreamNames (run : Run) : Type 0 where
   pub read_first : IsReadFirst run
   pub accepted : IsAccepted run
   pub opened : IsOpened run
+  pub trimmed : IsOfVerified run
   pub finished : IsFinished run
 
 name_of : {old new : Channel} → new ≡ old → old.name ≡ None → new.name ≡ None
@@ -104,6 +112,9 @@ unnamed_proof run none named = absurd (named none)
 
 unnamed_opened : (run : Run) → (run.after ProofOut).name ≡ None → IsOpened run
 unnamed_opened run none named _ = absurd (named none)
+
+unnamed_trimmed : (run : Run) → (run.after ProofOut).name ≡ None → IsOfVerified run
+unnamed_trimmed run none named _ = absurd (named none)
 
 unnamed_made : (run : Run) → (run.after Made).name ≡ None → IsFinished run
 unnamed_made run none named = absurd (named none)
@@ -192,6 +203,10 @@ opened_for : (run : Run) {problem : Formula} {order : List ℕ} {moves : List Mo
     → IsOpened run
 opened_for run posed named given = absurd (decided_apart posed.gives posed.decides given.1 refl)
 
+trimmed_for : (run : Run) {problem : Formula} {order : List ℕ} {moves : List Move} {job : Job} → Posed run problem order moves job
+    → IsOfVerified run
+trimmed_for run posed named given = absurd (decided_apart posed.gives posed.decides given.1 refl)
+
 -- nothing was created, and nothing printed
 record NoneCreated (run : Run) : Type 0 where
   pub proof : run.after ProofOut ≡ run.before ProofOut
@@ -222,6 +237,7 @@ quiet_names run unnamed none inputs =
       read_first = λ _. inl proof;
       accepted = unnamed_proof run proof;
       opened = unnamed_opened run proof;
+      trimmed = unnamed_trimmed run proof;
       finished = unmade.finished;
     }
 
@@ -257,6 +273,7 @@ answered_names run unnamed posed asked gives named inputs came =
       read_first = names.read_first;
       accepted = accepted_for run posed;
       opened = opened_for run posed;
+      trimmed = trimmed_for run posed;
       finished = unmade.finished;
     }
 
@@ -298,6 +315,7 @@ helped_names run unnamed h =
       read_first = λ _. inl (name_of h.proof (unnamed ProofOut));
       accepted = unnamed_proof run (name_of h.proof (unnamed ProofOut));
       opened = unnamed_opened run (name_of h.proof (unnamed ProofOut));
+      trimmed = unnamed_trimmed run (name_of h.proof (unnamed ProofOut));
       finished = unmade.finished;
     }
 
@@ -377,6 +395,7 @@ check_names run task unnamed asked (inr (inr j)) =
       read_first = λ _. inl (name_of j.proof (unnamed ProofOut));
       accepted = unnamed_proof run (name_of j.proof (unnamed ProofOut));
       opened = unnamed_opened run (name_of j.proof (unnamed ProofOut));
+      trimmed = unnamed_trimmed run (name_of j.proof (unnamed ProofOut));
       finished = unmade.finished;
     }
 
@@ -422,6 +441,7 @@ made_names run asked {file = file} unnamed gives named inputs proof out came = r
   read_first = λ _. inl (name_of proof (unnamed ProofOut));
   accepted = unnamed_proof run (name_of proof (unnamed ProofOut));
   opened = unnamed_opened run (name_of proof (unnamed ProofOut));
+  trimmed = unnamed_trimmed run (name_of proof (unnamed ProofOut));
   finished = λ _. write_ends came;
 }
 
@@ -454,13 +474,13 @@ arrange_names run task unnamed asked (inr (inr a)) = made_names run (Arrange tas
     a.alone.proof a.alone.out a.came
 
 -- how a conversion ends that came to no verdict, and one that did
-unconverted_first : (run : Run) {task : ToConvert} {clauses : List (List ℤ)} → command run.words ≡ Some (Convert task)
+unconverted_first : (run : Run) {task : ToRewrite} {clauses : List (List ℤ)} → command run.words ≡ Some (Convert task)
     → (error : ConvertError)
     → RewritesProof run.tells (run.before ProofIn) (run.after ProofIn) (run.before ProofOut) (run.after ProofOut) run.files task.proof task.out
     clauses (Err error) → run.status ≡ status_of_convert error → IsReadFirst run
 unconverted_first run {task = task} asked convert_error.ReadFault rewrites ends before =
-    inr ((task, asked), inl ((rewrites.judges (Err check_error.ReadFault) refl).fault refl))
-unconverted_first run {task = task} asked convert_error.TooLong rewrites ends before = inr ((task, asked), inr (ap ends_in_proof ends))
+    inr (inl ((task, asked), inl ((rewrites.judges (Err check_error.ReadFault) refl).fault refl)))
+unconverted_first run {task = task} asked convert_error.TooLong rewrites ends before = inr (inl ((task, asked), inr (ap ends_in_proof ends)))
 unconverted_first run asked convert_error.OutOfMemory rewrites ends before = later run.status (ap ends_before_proof ends) before
 unconverted_first run asked convert_error.WriteFault rewrites ends before = later run.status (ap ends_before_proof ends) before
 
@@ -468,12 +488,16 @@ ends_judged : (verdict : Verdict) → ends_in_proof (status_of_verdict verdict) 
 ends_judged judgement.Verified = refl
 ends_judged (judgement.Refused line reason) = refl
 
-converted_first : (run : Run) {task : ToConvert} → command run.words ≡ Some (Convert task) → (verdict : Verdict)
+converted_first : (run : Run) {task : ToRewrite} → command run.words ≡ Some (Convert task) → (verdict : Verdict)
     → (printed : Result ⊤ Failed) → run.status ≡ status_of_printed verdict printed → IsReadFirst run
-converted_first run {task = task} asked verdict (Ok x) ends before = inr ((task, asked), inr (ap ends_in_proof ends ∙ ends_judged verdict))
+converted_first run {task = task} asked verdict (Ok x) ends before =
+    inr (inl ((task, asked), inr (ap ends_in_proof ends ∙ ends_judged verdict)))
 converted_first run asked verdict (Err e) ends before = later run.status (ap ends_before_proof ends) before
 
-convert_names : (run : Run) (task : ToConvert) → ((role : Role) → (run.before role).name ≡ None) → command run.words ≡ Some (Convert task)
+no_trimming : {task other : ToRewrite} → Convert task ≡ Trim other → ⊥
+no_trimming e = cc
+
+convert_names : (run : Run) (task : ToRewrite) → ((role : Role) → (run.before role).name ≡ None) → command run.words ≡ Some (Convert task)
     → CameToConvert run.tells (streams_of run.before) (streams_of run.after) run.files task run.status → StreamNames run
 convert_names run task unnamed asked (inl u) = untaken_names run (Convert task) task.file unnamed asked refl u
 convert_names run task unnamed asked (inr (inl u)) =
@@ -488,8 +512,9 @@ convert_names run task unnamed asked (inr (inl u)) =
       made = unmade.named;
       out = inl (name_of u.out (unnamed Out));
       read_first = unconverted_first run asked u.error u.rewrites u.ends;
-      accepted = λ _. inr ((task, asked), λ t. (task, u.problem, took run (Convert task) task.file u.problem asked refl u.takes t));
+      accepted = λ _. inr (inl ((task, asked), λ t. (task, u.problem, took run (Convert task) task.file u.problem asked refl u.takes t)));
       opened = λ named _. u.rewrites.opened named;
+      trimmed = λ _ given. absurd (no_trimming (same_command asked given.1));
       finished = unmade.finished;
     }
 convert_names run task unnamed asked (inr (inr c)) =
@@ -504,8 +529,99 @@ convert_names run task unnamed asked (inr (inr c)) =
       made = unmade.named;
       out = inl (c.puts.only.name ∙ unnamed Out);
       read_first = converted_first run asked c.verdict c.printed c.ends;
-      accepted = λ _. inr ((task, asked), λ t. (task, c.problem, took run (Convert task) task.file c.problem asked refl c.takes t));
+      accepted = λ _. inr (inl ((task, asked), λ t. (task, c.problem, took run (Convert task) task.file c.problem asked refl c.takes t)));
       opened = λ named _. c.rewrites.opened named;
+      trimmed = λ _ given. absurd (no_trimming (same_command asked given.1));
+      finished = unmade.finished;
+    }
+
+-- how the verdict on a trimmed proof ends the run
+verified_first : (run : Run) {task : ToRewrite} → command run.words ≡ Some (Trim task) → (printed : Result ⊤ Failed)
+    → run.status ≡ status_of_printed judgement.Verified printed → IsReadFirst run
+verified_first run {task = task} asked (Ok x) ends before = inr (inr ((task, asked), ends))
+verified_first run asked (Err e) ends before = later run.status (ap ends_before_proof ends) before
+
+verified_ends : {status : Status} (printed : Result ⊤ Failed) → status ≡ status_of_printed judgement.Verified printed
+    → (status ≡ Verified) ⊎ (status ≡ WriteFault)
+verified_ends (Ok x) ends = inl ends
+verified_ends (Err e) ends = inr ends
+
+-- the names of the two streams that a trimmed proof and the verdict are written to
+record KeptNames (run : Run) : Type 0 where
+  pub proof : IsNamed run ProofOut
+  pub out : IsNamed run Out
+  pub read_first : IsReadFirst run
+  pub trimmed : (run.status ≡ Verified) ⊎ (run.status ≡ WriteFault)
+
+kept_names : (run : Run) (task : ToRewrite) {text : List ℕ} {kept total : ℕ} → command run.words ≡ Some (Trim task)
+    → (run.before Out).name ≡ None
+    → CameToKeep run.tells (run.before ProofOut) (run.after ProofOut) (run.before Out) (run.after Out) task.out text kept total run.status
+    → KeptNames run
+kept_names run task asked unnamed (inl u) = record {
+  proof = given_proof run (Trim task) task.out asked refl u.puts.name;
+  out = inl (name_of u.same unnamed);
+  read_first = later run.status (ap ends_before_proof u.ends);
+  trimmed = inr u.ends;
+}
+kept_names run task asked unnamed (inr k) = record {
+  proof = given_proof run (Trim task) task.out asked refl k.puts.name;
+  out = inl (k.shows.puts.only.name ∙ unnamed);
+  read_first = verified_first run asked k.shows.printed k.shows.ends;
+  trimmed = verified_ends k.shows.printed k.shows.ends;
+}
+
+no_conversion : {task other : ToRewrite} → Trim task ≡ Convert other → ⊥
+no_conversion e = cc
+
+trim_names : (run : Run) (task : ToRewrite) → ((role : Role) → (run.before role).name ≡ None) → command run.words ≡ Some (Trim task)
+    → CameToTrim run.tells (streams_of run.before) (streams_of run.after) run.files task run.status → StreamNames run
+trim_names run task unnamed asked (inl u) = untaken_names run (Trim task) task.file unnamed asked refl u
+trim_names run task unnamed asked (inr (inl u)) = quiet_names run unnamed (record { proof = u.proof; made = u.made; out = u.out })
+    (record {
+      cnf = given run (Trim task) task.file asked refl u.takes.name;
+      order = inl (name_of u.order (unnamed Order));
+      buckets = inl (name_of u.buckets (unnamed Buckets));
+      schedule = inl (name_of u.schedule (unnamed Schedule));
+      judged = given_judged run (Trim task) task.proof asked refl u.trims.name;
+    })
+trim_names run task unnamed asked (inr (inr (inl r))) =
+    let unmade = left_made run r.made (unnamed Made) in
+    record {
+      cnf = given run (Trim task) task.file asked refl r.takes.name;
+      order = inl (name_of r.order (unnamed Order));
+      buckets = inl (name_of r.buckets (unnamed Buckets));
+      schedule = inl (name_of r.schedule (unnamed Schedule));
+      judged = given_judged run (Trim task) task.proof asked refl r.trims.name;
+      proof = inl (name_of r.proof (unnamed ProofOut));
+      made = unmade.named;
+      out = inl (r.shows.puts.only.name ∙ unnamed Out);
+      read_first = λ _. inl (name_of r.proof (unnamed ProofOut));
+      accepted = unnamed_proof run (name_of r.proof (unnamed ProofOut));
+      opened = unnamed_opened run (name_of r.proof (unnamed ProofOut));
+      trimmed = unnamed_trimmed run (name_of r.proof (unnamed ProofOut));
+      finished = unmade.finished;
+    }
+trim_names run task unnamed asked (inr (inr (inr c))) =
+    let unmade = left_made run c.made (unnamed Made) in
+    let names = kept_names run task asked (unnamed Out) c.came in
+    record {
+      cnf = given run (Trim task) task.file asked refl c.takes.name;
+      order = inl (name_of c.order (unnamed Order));
+      buckets = inl (name_of c.buckets (unnamed Buckets));
+      schedule = inl (name_of c.schedule (unnamed Schedule));
+      judged = given_judged run (Trim task) task.proof asked refl c.trims.name;
+      proof = names.proof;
+      made = unmade.named;
+      out = names.out;
+      read_first = names.read_first;
+      accepted = λ _. inr (inr (
+        (task, asked),
+        λ t.
+            let has = verified run task c.problem asked (took run (Trim task) task.file c.problem asked refl c.takes) c.trims t in
+            (c.problem, has.bytes, has.verdict),
+      ));
+      opened = λ _ given. absurd (no_conversion (same_command asked given.1));
+      trimmed = λ _ _. names.trimmed;
       finished = unmade.finished;
     }
 
@@ -518,7 +634,8 @@ stream_names run unnamed (inr (inr (inr (inl c)))) = check_names run c.task unna
 stream_names run unnamed (inr (inr (inr (inr (inl b))))) = bench_names run b.task unnamed b.asked b.came
 stream_names run unnamed (inr (inr (inr (inr (inr (inl m)))))) = make_names run m.task unnamed m.asked m.came
 stream_names run unnamed (inr (inr (inr (inr (inr (inr (inl a))))))) = arrange_names run a.task unnamed a.asked a.came
-stream_names run unnamed (inr (inr (inr (inr (inr (inr (inr d))))))) = convert_names run d.task unnamed d.asked d.came
+stream_names run unnamed (inr (inr (inr (inr (inr (inr (inr (inl d)))))))) = convert_names run d.task unnamed d.asked d.came
+stream_names run unnamed (inr (inr (inr (inr (inr (inr (inr (inr d)))))))) = trim_names run d.task unnamed d.asked d.came
 
 -- the names of all roles
 pub names : (run : Run) → StreamNames run → (run.after ErrRole).name ≡ None
@@ -529,6 +646,7 @@ names run streams error files = record {
   read_first = streams.read_first;
   accepted = streams.accepted;
   opened = streams.opened;
+  trimmed = streams.trimmed;
   made = streams.finished;
 } where
   each : (role : Role) → IsNamed run role

@@ -64,7 +64,8 @@ no_verdict run unanswered = record {
 pub no_proof : (run : Run) → written_in run ProofOut ≡ [] → WrittenStands run
 no_proof run none = record {
   converted = λ _. record { so_far = λ t. inl none; whole = λ _ t. inl none };
-  proved = λ _. record { so_far = λ t. inl none; whole = λ _ t. inl none; price = λ t. inl none };
+  trimmed = λ _. record { so_far = λ t. inl none; whole = λ _ t. inl none };
+  proved = λ _ _. record { so_far = λ t. inl none; whole = λ _ t. inl none; price = λ t. inl none };
 }
 
 out_of : {old new : Streams} → new ≡ old → new.out ≡ old.out

@@ -10,7 +10,7 @@ use Rattle.host_io.specs.Files.{Files, FilesBut, Kept}
 use Rattle.lrat_checker.specs.declared.verdict.Verdict.{Verdict}
 use Rattle.drat_proof.specs.TwoRoles.{KeptButTwo}
 use Rattle.drat_proof.specs.declared.error.ConvertError.{ConvertError}
-use Rattle.command_line.specs.Command.{ToConvert}
+use Rattle.command_line.specs.Command.{ToRewrite}
 use Rattle.solver_cli.specs.declared.status.Status.{Status}
 use Rattle.solver_cli.specs.ExitCode.{status_of_convert}
 use Rattle.solver_cli.specs.Verdict.{verdict_text}
@@ -34,7 +34,7 @@ rewritten_from {tells = tells} {in_start = in_start} {in_new = in_new} {in_now =
     (subst (λ (c : Channel). RewritesProof tells in_start c out_old out_new files file out clauses result) (sym in_to)
     (subst (λ (c : Channel). RewritesProof tells c in_new out_old out_new files file out clauses result) in_from rewrites))))
 
-pub unconverted : {tells : Bool} {task : ToConvert} {problem : Formula} {error : ConvertError} {own : Option (List ℕ)} {status : Status}
+pub unconverted : {tells : Bool} {task : ToRewrite} {problem : Formula} {error : ConvertError} {own : Option (List ℕ)} {status : Status}
     (old taken new : Role → Channel) (before files after : Files)
     → TakesFormula task.mode tells (old Cnf) (taken Cnf) before task.file (Ok problem) → Kept Cnf None old taken before files
     → RewritesProof tells (taken ProofIn) (new ProofIn) (taken ProofOut) (new ProofOut) files task.proof task.out problem.clauses (Err error)
@@ -55,7 +55,7 @@ unconverted {task = task} {problem = problem} {error = error} old taken new befo
       ends = ends;
     }))
 
-pub converted : {tells : Bool} {task : ToConvert} {problem : Formula} {verdict : Verdict} {printed : Result ⊤ Failed}
+pub converted : {tells : Bool} {task : ToRewrite} {problem : Formula} {verdict : Verdict} {printed : Result ⊤ Failed}
     {own name : Option (List ℕ)} {status : Status} (old taken rewritten new : Role → Channel) (before files after last : Files)
     → TakesFormula task.mode tells (old Cnf) (taken Cnf) before task.file (Ok problem) → Kept Cnf None old taken before files
     → RewritesProof tells (taken ProofIn) (rewritten ProofIn) (taken ProofOut) (rewritten ProofOut) files task.proof task.out problem.clauses

@@ -16,7 +16,7 @@ use Rattle.term_runner.specs.declared.outcome.Run.{Run as Ending}
 use Rattle.term_runner.specs.declared.error.RunError.{RunError}
 use Rattle.term_runner.specs.declared.error.RunError.TheVariants as run_error
 use Rattle.dimacs_reader.specs.declared.mode.Mode.{Mode}
-use Rattle.command_line.specs.Command.{ToSolve, ToCheck, ToBench, ToMake, ToOrder, ToConvert, Convert, command}
+use Rattle.command_line.specs.Command.{ToSolve, ToCheck, ToBench, ToMake, ToOrder, ToRewrite, Convert, command}
 use Rattle.solver_cli.specs.declared.status.Status.{Status}
 use Rattle.solver_cli.specs.declared.status.Status.TheVariants.{Usage, ReadFault, WriteFault, OutOfMemory}
 use Rattle.solver_cli.specs.ExitCode.{status_of_buckets, status_of_error, status_of_order, status_of_plan, status_of_run, status_of_check}
@@ -24,7 +24,7 @@ use Rattle.solver_cli.specs.ExitCode.{status_of_convert}
 use Rattle.solver_cli.specs.DratProof.{RewritesProof}
 use Rattle.solver_cli.specs.Stages.{Streams, streams_of, Misused, Helped, Untaken, Unordered, Unbucketed, Unplanned, NoneRead, Job, Solved}
 use Rattle.solver_cli.specs.Stages.{Benched, Unjudged, Judged, FormulaAlone, Came, CameToAnswer, CameToArrange, CameToBench, CameToCheck}
-use Rattle.solver_cli.specs.Stages.{CameToConvert, Converted, Unconverted}
+use Rattle.solver_cli.specs.Stages.{CameToConvert, CameToKeep, CameToTrim, Converted, Rejected, ShowsVerdict, Trimmed, Unconverted, Untrimmed}
 use Rattle.solver_cli.specs.Stages.{CameToMake, CameToWrite, Stages, status_of_help, status_after, status_of_printed, status_of_written}
 use Rattle.solver_cli.specs.Run.{Run, written_in}
 use Rattle.solver_cli.specs.Faults.{ConvertsAsItReads, FailuresAreTold, ends_in_proof}
@@ -386,10 +386,10 @@ judged j = record {
 
 -- a proof that was being converted, told of the streams
 abbrev pub IsConverting : List (List ℕ) → Streams → Streams → Status → Type 0
-IsConverting words old new status = ((task : ToConvert) × (command words ≡ Some (Convert task)))
+IsConverting words old new status = ((task : ToRewrite) × (command words ≡ Some (Convert task)))
     × (Rose old.judged.faults new.judged.faults ⊎ IsTrue (ends_in_proof status))
 
-unconverted : {tells : Bool} (words : List (List ℕ)) {old new : Streams} {files : Files} {task : ToConvert} {status : Status}
+unconverted : {tells : Bool} (words : List (List ℕ)) {old new : Streams} {files : Files} {task : ToRewrite} {status : Status}
     → command words ≡ Some (Convert task) → Unconverted tells old new files task status → Told (IsConverting words old new status) old new status
 unconverted {tells = tells} words {old = old} {new = new} {files = files} {task = task} {status = status} asked u = record {
   quiet = λ _. record {
@@ -419,7 +419,7 @@ unconverted {tells = tells} words {old = old} {new = new} {files = files} {task 
   failed convert_error.OutOfMemory rewrites ends e = cc
   failed convert_error.WriteFault rewrites ends e = cc
 
-converted : {converting : Type 0} {tells : Bool} {old new : Streams} {files : Files} {task : ToConvert} {status : Status}
+converted : {converting : Type 0} {tells : Bool} {old new : Streams} {files : Files} {task : ToRewrite} {status : Status}
     → Converted tells old new files task status → Told converting old new status
 converted c = record {
   quiet = λ e. absurd (verdict_read c.verdict c.printed c.ends e);
@@ -433,6 +433,80 @@ converted c = record {
   made = λ _. faults_of c.made;
   out = λ differs. c.puts.unfailed (verdict_ok c.verdict c.printed (λ e. differs (c.ends ∙ e)));
 }
+
+untrimmed : {converting : Type 0} {tells : Bool} {old new : Streams} {files : Files} {task : ToRewrite} {status : Status}
+    → Untrimmed tells old new files task status → Told converting old new status
+untrimmed u = record {
+  quiet = λ _. record {
+    cnf = u.takes.written;
+    order = written_of u.order;
+    buckets = written_of u.buckets;
+    schedule = written_of u.schedule;
+    judged = u.trims.written;
+    made = written_of u.made;
+    out = written_of u.out;
+  };
+  quiet_proof = λ _. inl (written_of u.proof);
+  cnf = λ _. u.takes.unfailed (λ e. ok_err e);
+  order = λ _. faults_of u.order;
+  buckets = λ _. faults_of u.buckets;
+  schedule = λ _. faults_of u.schedule;
+  judged = λ differs. u.trims.unfailed (λ e. differs (u.ends ∙ ap status_of_check (same_error e)));
+  proof = λ _. faults_of u.proof;
+  made = λ _. faults_of u.made;
+  out = λ _. faults_of u.out;
+}
+
+-- the verdict was printed, or the run ends with a write fault
+show_read : {tells : Bool} {old new : Channel} {text : List ℕ} {verdict : Verdict} {status : Status}
+    → ShowsVerdict tells old new text verdict status → status ≡ ReadFault → ⊥
+show_read {verdict = verdict} s e = verdict_read verdict s.printed s.ends e
+
+show_told : {tells : Bool} {old new : Channel} {text : List ℕ} {verdict : Verdict} {status : Status}
+    → ShowsVerdict tells old new text verdict status → status ≢ WriteFault → new.faults ≡ old.faults
+show_told {verdict = verdict} s differs = s.puts.unfailed (verdict_ok verdict s.printed (λ e. differs (s.ends ∙ e)))
+
+rejected : {converting : Type 0} {tells : Bool} {old new : Streams} {files : Files} {task : ToRewrite} {status : Status}
+    → Rejected tells old new files task status → Told converting old new status
+rejected r = record {
+  quiet = λ e. absurd (show_read r.shows e);
+  quiet_proof = λ e. absurd (show_read r.shows e);
+  cnf = λ _. r.takes.unfailed (λ e. ok_err e);
+  order = λ _. faults_of r.order;
+  buckets = λ _. faults_of r.buckets;
+  schedule = λ _. faults_of r.schedule;
+  judged = λ _. r.trims.unfailed (λ e. ok_err e);
+  proof = λ _. faults_of r.proof;
+  made = λ _. faults_of r.made;
+  out = λ differs. show_told r.shows differs;
+}
+
+-- the calls of the two streams that a trimmed proof and the verdict are written to
+keep_told : {tells : Bool} {old new old_out out : Channel} {file text : List ℕ} {kept total : ℕ} {status : Status}
+    → CameToKeep tells old new old_out out file text kept total status → AnswerTold old new old_out out status
+keep_told (inl u) = record { unread = no_writing u.ends; proof = λ differs. absurd (differs u.ends); out = λ _. faults_of u.same }
+keep_told (inr k) = record {
+  unread = show_read k.shows;
+  proof = λ _. k.puts.unfailed k.done;
+  out = λ differs. show_told k.shows differs;
+}
+
+trimmed : {converting : Type 0} {tells : Bool} {old new : Streams} {files : Files} {task : ToRewrite} {status : Status}
+    → Trimmed tells old new files task status → Told converting old new status
+trimmed c =
+    let answer = keep_told c.came in
+    record {
+      quiet = λ e. absurd (answer.unread e);
+      quiet_proof = λ e. absurd (answer.unread e);
+      cnf = λ _. c.takes.unfailed (λ e. ok_err e);
+      order = λ _. faults_of c.order;
+      buckets = λ _. faults_of c.buckets;
+      schedule = λ _. faults_of c.schedule;
+      judged = λ _. c.trims.unfailed (λ e. ok_err e);
+      proof = answer.proof;
+      made = λ _. faults_of c.made;
+      out = answer.out;
+    }
 
 came : {converting : Type 0} {tells : Bool} {old new : Streams} {files : Files} {task : ToSolve} {status : Status} → Came tells old new files task status
     → Told converting old new status
@@ -464,12 +538,19 @@ came_to_arrange (inl u) = untaken u
 came_to_arrange {task = task} (inr (inl u)) = formula_and_text task.mode u.takes u.alone (no_memory u.ends) (λ _. faults_of u.made)
 came_to_arrange {task = task} (inr (inr a)) = formula_and_text task.mode a.takes a.alone (write_unread a.came) (write_told a.came)
 
-came_to_convert : {tells : Bool} (words : List (List ℕ)) {old new : Streams} {files : Files} {task : ToConvert} {status : Status}
+came_to_convert : {tells : Bool} (words : List (List ℕ)) {old new : Streams} {files : Files} {task : ToRewrite} {status : Status}
     → command words ≡ Some (Convert task) → CameToConvert tells old new files task status
     → Told (IsConverting words old new status) old new status
 came_to_convert words asked (inl u) = untaken u
 came_to_convert words asked (inr (inl u)) = unconverted words asked u
 came_to_convert words asked (inr (inr c)) = converted c
+
+came_to_trim : {converting : Type 0} {tells : Bool} {old new : Streams} {files : Files} {task : ToRewrite} {status : Status}
+    → CameToTrim tells old new files task status → Told converting old new status
+came_to_trim (inl u) = untaken u
+came_to_trim (inr (inl u)) = untrimmed u
+came_to_trim (inr (inr (inl r))) = rejected r
+came_to_trim (inr (inr (inr c))) = trimmed c
 
 pub told : {tells : Bool} {words : List (List ℕ)} {old new : Streams} {files : Files} {status : Status}
     → Stages tells words old new files status → Told (IsConverting words old new status) old new status
@@ -480,7 +561,8 @@ told (inr (inr (inr (inl c)))) = came_to_check c.came
 told (inr (inr (inr (inr (inl b))))) = came_to_bench b.came
 told (inr (inr (inr (inr (inr (inl m)))))) = came_to_make m.came
 told (inr (inr (inr (inr (inr (inr (inl a))))))) = came_to_arrange a.came
-told {words = words} (inr (inr (inr (inr (inr (inr (inr d))))))) = came_to_convert words d.asked d.came
+told {words = words} (inr (inr (inr (inr (inr (inr (inr (inl d)))))))) = came_to_convert words d.asked d.came
+told (inr (inr (inr (inr (inr (inr (inr (inr d)))))))) = came_to_trim d.came
 
 pub failures : (run : Run) → Told (ConvertsAsItReads run) (streams_of run.before) (streams_of run.after) run.status → FailuresAreTold run
 failures run counts = record { read = read; write = write } where

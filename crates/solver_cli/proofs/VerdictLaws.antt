@@ -1,11 +1,12 @@
--- What the verdict on a proof says, of both formats.
-use Rattle.std.proofs.Common.{◌≡◌, ◌<◌, ℕ, ℤ, List, length, Some, None}
+-- What the verdict on a proof says, of both formats, and what trimming leaves.
+use Rattle.std.proofs.Common.{◌≡◌, ◌<◌, ◌≤◌, ℕ, ℤ, List, length, Some, None, IsTrue}
 use Rattle.cnf_base.specs.Truth.{Assignment, AreClausesOf, Satisfies}
 use Rattle.term_runner.specs.Proofs.{AreUnsatisfiable}
 use Rattle.lrat_rules.specs.Run.{Refutes, verdict}
 use Rattle.lrat_rules.specs.declared.outcome.Reason.{Reason}
 use Rattle.lrat_checker.specs.TextVerdict.{max_bytes, text_verdict}
 use Rattle.lrat_checker.specs.declared.verdict.Verdict.TheVariants as judgement
+use Rattle.proof_trim.specs.Trimmed.{each_named, trim, trimmed}
 use Rattle.drat_text.specs.declared.step.DratStep.{DratStep}
 use Rattle.drat_text.specs.DratText.{drat_lines}
 use Rattle.drat_rules.specs.Run.{DratRefutes}
@@ -31,6 +32,16 @@ pub record DratLaws : Type 0 where
       → (steps : List DratStep) × (steps_of_lines (drat_lines bytes) ≡ Some steps) × DratRefutes clauses steps
   pub overlong : (clauses : List (List ℤ)) (bytes : List ℕ) → drat_text_verdict clauses bytes ≡ None → max_bytes < length bytes
 
+-- those of trimming
+pub record TrimLaws : Type 0 where
+  pub refutes : (clauses : List (List ℤ)) (bytes : List ℕ) → text_verdict clauses bytes ≡ Some judgement.Verified
+      → Refutes clauses (trim clauses bytes)
+  pub named : (clauses : List (List ℤ)) (bytes : List ℕ) → IsTrue (each_named (trimmed clauses bytes))
+  pub verified : (clauses : List (List ℤ)) (bytes : List ℕ) → text_verdict clauses bytes ≡ Some judgement.Verified
+      → length (trim clauses bytes) ≤ max_bytes → text_verdict clauses (trim clauses bytes) ≡ Some judgement.Verified
+  pub again : (clauses : List (List ℤ)) (bytes : List ℕ) → text_verdict clauses bytes ≡ Some judgement.Verified
+      → length (trim clauses bytes) ≤ max_bytes → trim clauses (trim clauses bytes) ≡ trim clauses bytes
+
 -- those of a format
 pub record Laws : Type 0 where
   pub sound : (format : ProofFormat) (vars : ℕ) (clauses : List (List ℤ)) (bytes : List ℕ) → AreClausesOf vars clauses
@@ -41,9 +52,10 @@ pub record Laws : Type 0 where
       → verdict_in format clauses bytes ≡ Some (judgement.Refused line reason) → IsRefusedIn format clauses bytes line reason
   pub overlong : (format : ProofFormat) (clauses : List (List ℤ)) (bytes : List ℕ) → verdict_in format clauses bytes ≡ None
       → max_bytes < length bytes
+  pub trimming : TrimLaws
 
-pub both : LratLaws → DratLaws → Laws
-both lrat drat = record { sound = sound; verified = verified; refused = refused; overlong = overlong } where
+pub both : LratLaws → DratLaws → TrimLaws → Laws
+both lrat drat trims = record { sound = sound; verified = verified; refused = refused; overlong = overlong; trimming = trims } where
   sound : (format : ProofFormat) (vars : ℕ) (clauses : List (List ℤ)) (bytes : List ℕ) → AreClausesOf vars clauses
       → verdict_in format clauses bytes ≡ Some judgement.Verified → AreUnsatisfiable clauses
   sound Lrat vars clauses bytes are is = lrat.sound vars clauses bytes are (lrat.verified clauses bytes is)

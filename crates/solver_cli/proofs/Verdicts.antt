@@ -1,10 +1,11 @@
 -- What is promised of a run that judged its proof.
 use Rattle.std.proofs.Common.{◌≡◌, ℕ, true, false, List, [], ◌++◌, append-nil, refl, sym, ap, ◌∙◌, Some, Ok, Err, IsTrue, inl, inr}
 use Rattle.std.proofs.Common.{true≢false}
-use Rattle.std.specs.Prelude.{Result, ⊤}
+use Rattle.std.specs.Prelude.{Option, Result, ⊤}
 use Rattle.cnf_base.specs.Formula.{Formula}
 use Rattle.host_io.specs.declared.role.Role.TheVariants.{ProofIn, Out}
 use Rattle.host_io.specs.declared.source.Failed.{Failed}
+use Rattle.answer_text.specs.Status.{verified_line}
 use Rattle.lrat_rules.specs.declared.outcome.Reason.{Reason}
 use Rattle.lrat_checker.specs.declared.verdict.Verdict.{Verdict}
 use Rattle.lrat_checker.specs.declared.verdict.Verdict.TheVariants as judgement
@@ -14,12 +15,13 @@ use Rattle.solver_cli.specs.declared.status.Status.{Status}
 use Rattle.solver_cli.specs.declared.status.Status.TheVariants.{Sat, Unsat, Unknown, Verified, NotVerified, Done, WriteFault}
 use Rattle.solver_cli.specs.declared.status.Why.{Why}
 use Rattle.solver_cli.specs.ErrorText.{is_answer}
-use Rattle.solver_cli.specs.Verdict.{verdict_text, status_of_verdict}
+use Rattle.solver_cli.specs.Verdict.{verdict_text, verified_text, status_of_verdict}
 use Rattle.solver_cli.specs.Phases.{JudgesProof, JudgesText, PutsText}
 use Rattle.solver_cli.specs.Stages.{status_of_printed}
-use Rattle.command_line.specs.Command.{format_of}
+use Rattle.command_line.specs.Command.{Command, command, format_of}
 use Rattle.solver_cli.specs.Headline.{RefusalsAreDue, CallsFor, VerdictOn, IsTrueAnswer}
-use Rattle.solver_cli.specs.Run.{Run, written_in, taken_in, OutputFailed, HasVerdict, GivesConversion, IsConverted}
+use Rattle.solver_cli.specs.Run.{Run, written_in, taken_in, verdict_text_for, OutputFailed, HasVerdict, GivesConversion, GivesTrimming}
+use Rattle.solver_cli.specs.Run.{IsConverted, IsTrimmed}
 use Rattle.solver_cli.proofs.Facts.{behind, grown_by, no_answer}
 use Rattle.solver_cli.proofs.CallsFor.{no_call_judged}
 use Rattle.solver_cli.proofs.Promised.{Core, due, no_text, no_verdict}
@@ -67,16 +69,28 @@ verdict_due : (run : Run) (judged : Verdict) → run.status ≡ status_of_verdic
 verdict_due run judgement.Verified ends = due run ends tt
 verdict_due run (judgement.Refused line reason) ends = due run ends tt
 
+-- the other proof that was written, where the words ask for one
+pub record Rewritten (run : Run) (problem : Formula) (bytes : List ℕ) (verdict : Verdict) : Type 0 where
+  pub converted : GivesConversion run → IsConverted run problem bytes
+  pub trimmed : verdict ≡ judgement.Verified → GivesTrimming run → IsTrimmed run problem bytes
+
+-- a command that prints no more than the verdict
+pub plainly : (run : Run) (problem : Formula) (bytes : List ℕ) {asked : Command} → command run.words ≡ Some asked
+    → verified_text (Some asked) problem.clauses bytes ≡ verified_line → (verdict : Verdict)
+    → verdict_text verdict ≡ verdict_text_for run problem bytes verdict
+plainly run problem bytes gives plain judgement.Verified =
+    sym (ap (λ (c : Option Command). verified_text c problem.clauses bytes) gives ∙ plain)
+plainly run problem bytes gives plain (judgement.Refused line reason) = refl
+
 -- the proof was judged, and what it becomes was written where that is asked for
 pub judged : Laws → (run : Run) {problem : Formula} (j : Judging run problem) (verdict : Verdict)
     → JudgesProof (format_of j.asked) run.tells (run.before ProofIn) (run.after ProofIn) run.files j.file problem.clauses (Ok verdict)
-    → (IsTrue run.tells → GivesConversion run → (bytes : List ℕ) → run.files j.file ≡ Some bytes → IsConverted run problem bytes)
-    → (printed : Result ⊤ Failed) → PutsText run.tells (run.before Out) (run.after Out) (verdict_text verdict) printed
+    → (IsTrue run.tells → (bytes : List ℕ) → run.files j.file ≡ Some bytes → Rewritten run problem bytes verdict)
+    → {text : List ℕ} → (IsTrue run.tells → (bytes : List ℕ) → run.files j.file ≡ Some bytes
+    → text ≡ verdict_text_for run problem bytes verdict)
+    → (printed : Result ⊤ Failed) → PutsText run.tells (run.before Out) (run.after Out) text printed
     → run.status ≡ status_of_printed verdict printed → Core run
-judged laws run {problem = problem} j verdict judges converts = go where
-  text : List ℕ
-  text = verdict_text verdict
-
+judged laws run {problem = problem} j verdict judges rewrites {text = text} says = go where
   no_fault : (v : Verdict) → ◌≡◌ {A = Result Verdict CheckError} (Ok v) (Err error.ReadFault) → ⊥
   no_fault v e = cc
 
@@ -96,15 +110,22 @@ judged laws run {problem = problem} j verdict judges converts = go where
   same_verdict other bytes v given t = let here = has t in one_some verdict v (one_verdict run given.asked here.asked
       ∙ here.judged) given.judged
 
-  converted : (t : IsTrue run.tells) → GivesConversion run → IsConverted run problem (judged_text t).bytes
-  converted t given = converts t given (judged_text t).bytes (judged_text t).stands
+  written : (t : IsTrue run.tells) → Rewritten run problem (judged_text t).bytes verdict
+  written t = rewrites t (judged_text t).bytes (judged_text t).stands
+
+  same_text : (t : IsTrue run.tells) → text ≡ verdict_text_for run problem (judged_text t).bytes verdict
+  same_text t = says t (judged_text t).bytes (judged_text t).stands
 
   uncalled : IsTrue run.tells → (status : Status) → CallsFor run status → ⊥
   uncalled t = no_call_judged run problem (judged_text t).bytes verdict (has t)
 
   true_answer : (t : IsTrue run.tells) (rest : List ℕ) → text ≡ written_in run Out ++ rest
       → IsTrueAnswer run (VerdictOn problem (judged_text t).bytes verdict)
-  true_answer t rest front = record { found = record { has = has t; converted = converted t }; rest = rest; front = front }
+  true_answer t rest front = record {
+    found = record { has = has t; converted = (written t).converted; trimmed = (written t).trimmed };
+    rest = rest;
+    front = sym (same_text t) ∙ front;
+  }
 
   grows : (printed : Result ⊤ Failed) → PutsText run.tells (run.before Out) (run.after Out) text printed → IsTrue run.tells
       → (run.after Out).written ≡ (run.before Out).written ++ written_in run Out
@@ -135,10 +156,11 @@ judged laws run {problem = problem} j verdict judges converts = go where
                   problem = problem;
                   bytes = (judged_text t).bytes;
                   has = verified;
-                  converted = converted t;
+                  converted = (written t).converted;
+                  trimmed = (written t).trimmed is;
                   refuted = laws.verified (format_of j.asked) problem.clauses (judged_text t).bytes verified.judged;
                   unsatisfiable = laws.sound (format_of j.asked) problem.vars problem.clauses (judged_text t).bytes j.literals verified.judged;
-                  printed = all t ∙ ap verdict_text is;
+                  printed = all t ∙ same_text t ∙ ap (verdict_text_for run problem (judged_text t).bytes) is;
                 },
           );
           not_verified = λ line reason e. (
@@ -151,9 +173,9 @@ judged laws run {problem = problem} j verdict judges converts = go where
                   problem = problem;
                   bytes = (judged_text t).bytes;
                   has = refused;
-                  converted = converted t;
+                  converted = (written t).converted;
                   refused = laws.refused (format_of j.asked) problem.clauses (judged_text t).bytes line reason refused.judged;
-                  printed = all t ∙ ap verdict_text is;
+                  printed = all t ∙ same_text t ∙ ap (verdict_text_for run problem (judged_text t).bytes) is;
                 },
           );
         };

@@ -8,9 +8,9 @@ use Rattle.host_io.specs.declared.role.Role.TheVariants.{Cnf, Order, Buckets, Sc
 use Rattle.cnf_base.specs.Formula.{Formula}
 use Rattle.schedule_plan.specs.declared.plan.Move.{Move}
 use Rattle.solver_cli.specs.Phases.{Complains}
-use Rattle.command_line.specs.Command.{ToConvert, Solve, Check, Bench, Make, Arrange, Convert, command, progress_asked}
+use Rattle.command_line.specs.Command.{ToRewrite, Solve, Check, Bench, Make, Arrange, Convert, Trim, command, progress_asked}
 use Rattle.solver_cli.specs.Stages.{Streams, FilesBeside, Job, streams_of, Came, CameToAnswer, CameToArrange, CameToBench, CameToCheck}
-use Rattle.solver_cli.specs.Stages.{CameToConvert, CameToMake, Stages}
+use Rattle.solver_cli.specs.Stages.{CameToConvert, CameToMake, CameToTrim, Stages}
 use Rattle.solver_cli.specs.Headline.{ErrorStands, Promises}
 use Rattle.solver_cli.specs.Progress.{IsTold}
 use Rattle.solver_cli.specs.Run.{Run}
@@ -25,7 +25,8 @@ use Rattle.solver_cli.proofs.Printed.{answered}
 use Rattle.solver_cli.proofs.VerdictLaws.{Laws}
 use Rattle.solver_cli.proofs.Unjudged.{checks, unjudged}
 use Rattle.solver_cli.proofs.Conversions.{converted, unconverted}
-use Rattle.solver_cli.proofs.Verdicts.{judged}
+use Rattle.solver_cli.proofs.Trimmings.{rejected, trimmed, untrimmed}
+use Rattle.solver_cli.proofs.Verdicts.{judged, plainly}
 use Rattle.solver_cli.proofs.Texts.{arranged, made, unarranged, unmade}
 use Rattle.solver_cli.proofs.Named.{stream_names, names, error_stands}
 use Rattle.solver_cli.proofs.Told.{Told, told, failures, quiet}
@@ -56,9 +57,16 @@ core law run (inr (inr (inr (inl c)))) = came c.came where
   came (inr (inr j)) =
       let asks = took run (Check c.task) c.task.file j.problem c.asked refl j.takes in
       judged law run (checks run c.task c.asked asks j.takes.fits.literals j.made j.proof) j.verdict j.judges
-      (λ t given. absurd (apart (same_command c.asked given.1))) j.printed j.puts j.ends where
-        apart : {other : ToConvert} → Check c.task ≡ Convert other → ⊥
-        apart e = cc
+      (λ t bytes stands. record {
+        converted = λ given. absurd (no_conversion (same_command c.asked given.1));
+        trimmed = λ _ given. absurd (no_trimming (same_command c.asked given.1));
+      })
+      (λ t bytes stands. plainly run j.problem bytes c.asked refl j.verdict) j.printed j.puts j.ends where
+        no_conversion : {other : ToRewrite} → Check c.task ≡ Convert other → ⊥
+        no_conversion e = cc
+
+        no_trimming : {other : ToRewrite} → Check c.task ≡ Trim other → ⊥
+        no_trimming e = cc
 core law run (inr (inr (inr (inr (inl b))))) = came b.came where
   came : CameToBench run.tells (streams_of run.before) (streams_of run.after) b.task run.status → Core run
   came (inl u) = unmade run (Bench b.task) b.asked u
@@ -72,11 +80,17 @@ core law run (inr (inr (inr (inr (inr (inr (inl a))))))) = came a.came where
   came (inl u) = untaken run (Arrange a.task) a.task.file a.asked refl u
   came (inr (inl u)) = unarranged run a.task a.asked u
   came (inr (inr had)) = arranged run a.task a.asked had
-core law run (inr (inr (inr (inr (inr (inr (inr d))))))) = came d.came where
+core law run (inr (inr (inr (inr (inr (inr (inr (inl d)))))))) = came d.came where
   came : CameToConvert run.tells (streams_of run.before) (streams_of run.after) run.files d.task run.status → Core run
   came (inl u) = untaken run (Convert d.task) d.task.file d.asked refl u
   came (inr (inl u)) = unconverted law run d.task d.asked u
   came (inr (inr had)) = converted law run d.task d.asked had
+core law run (inr (inr (inr (inr (inr (inr (inr (inr d)))))))) = came d.came where
+  came : CameToTrim run.tells (streams_of run.before) (streams_of run.after) run.files d.task run.status → Core run
+  came (inl u) = untaken run (Trim d.task) d.task.file d.asked refl u
+  came (inr (inl u)) = untrimmed law run d.task d.asked u
+  came (inr (inr (inl r))) = rejected law run d.task d.asked r
+  came (inr (inr (inr had))) = trimmed law run d.task d.asked had
 
 whole : Laws → (run : Run) → ((role : Role) → (run.before role).name ≡ None)
     → Stages run.tells run.words (streams_of run.before) (streams_of run.after) run.files run.status

@@ -20,7 +20,7 @@ use Rattle.term_runner.specs.declared.outcome.Run.{Run as Ending}
 use Rattle.workload.specs.Board.{board_formula, column_order}
 use Rattle.workload.specs.Schedule.{board_moves}
 use Rattle.answer_text.specs.Status.{sat_text, unsat_line, node_limit_text, id_limit_text, board_line, last_line}
-use Rattle.command_line.specs.Command.{Command, ToSolve, Solve, Check, Bench, Make, Arrange, Convert, Planned, ByName, ByFile, ByBuckets}
+use Rattle.command_line.specs.Command.{Command, ToSolve, Solve, Check, Bench, Make, Arrange, Convert, Trim, Planned, ByName, ByFile, ByBuckets}
 use Rattle.command_line.specs.Command.{Found}
 use Rattle.command_line.specs.Command.{limits_asked}
 use Rattle.command_line.specs.declared.plan.PlanName.{PlanName}
@@ -93,6 +93,7 @@ AreGiven files (Bench task) problem order moves = AreOfBoard task.size problem o
 AreGiven files (Make task) problem order moves = ⊥
 AreGiven files (Arrange task) problem order moves = ⊥
 AreGiven files (Convert task) problem order moves = ⊥
+AreGiven files (Trim task) problem order moves = ⊥
 
 -- the outcome is true of the formula, and the proof that was written shows it
 pub record Holds (limits : Limits) (problem : Formula) (order : List ℕ) (moves : List Move) (bytes : List ℕ)

@@ -1,6 +1,6 @@
 -- What the program promises, over one run of it: its words, the host before and after, and how it ended. What it
 -- says of bytes is said of hosts that tell their bytes. What `solve` and `bench` are given is one sentence (`AreGiven`). Sentences that say
--- more of other commands than of `drat` have a second case (`ConvertsAsItReads`).
+-- more of other commands than of `drat` have a second case (`ConvertsAsItReads`), and `trim` creates its file after the verdict.
 use Rattle.std.specs.Prelude.{◌≡◌, ◌≢◌, ◌⊎◌, ◌++◌, ◌<◌, ℕ, Bool, true, false, List, [], None, Some, length, IsTrue, IsFalse}
 use Rattle.std.specs.Prelude.{⊤}
 use Rattle.cnf_base.specs.Truth.{Satisfies, assignment_of}
@@ -15,6 +15,7 @@ use Rattle.lrat_checker.specs.declared.verdict.Verdict.{Verdict}
 use Rattle.lrat_checker.specs.declared.verdict.Verdict.TheVariants as judgement
 use Rattle.drat_proof.specs.Drat.{drat, drat_steps}
 use Rattle.drat_proof.specs.Conversion.{AreFirstLines}
+use Rattle.proof_trim.specs.Trimmed.{trim}
 use Rattle.schedule_plan.specs.OrderText.{OrderText, order as given_order, refusal as order_refusal, overlong as overlong_order}
 use Rattle.schedule_plan.specs.OrderText.{order_text}
 use Rattle.schedule_plan.specs.ScheduleText.{ScheduleText, refusal as schedule_refusal, overlong as overlong_schedule, schedule}
@@ -27,7 +28,7 @@ use Rattle.term_runner.specs.Proofs.{AreUnsatisfiable, IsProof, IsProofOfKind, I
 use Rattle.term_runner.specs.Width.{HasWidth}
 use Rattle.term_runner.specs.Ends.{Says, Shows}
 use Rattle.term_runner.specs.Recovered.{IsRecovered}
-use Rattle.answer_text.specs.Status.{verified_line, refused_text}
+use Rattle.answer_text.specs.Status.{refused_text}
 use Rattle.command_line.specs.Command.{Command, ToSolve, ToMake, ToOrder, Solve, Make}
 use Rattle.command_line.specs.Command.{Arrange, ByFile, ByBuckets, format_of, formula_file, mode_of, AsksHelp, Misuse, MayMean, CanOnlyMean, command}
 use Rattle.command_line.specs.Command.{progress_asked}
@@ -42,11 +43,11 @@ use Rattle.solver_cli.specs.Answer.{IsRead, IsOrdered, IsOrderOf, Holds, outcome
 use Rattle.solver_cli.specs.Format.{verdict_in, RefutesIn, IsRefusedIn}
 use Rattle.solver_cli.specs.MadeText.{made_text, order_line}
 use Rattle.solver_cli.specs.Phases.{WantsProof, WantsRead, cnf_wants, order_wants, schedule_wants}
-use Rattle.solver_cli.specs.Verdict.{verdict_text, status_of_verdict}
+use Rattle.solver_cli.specs.Verdict.{status_of_verdict}
 use Rattle.solver_cli.specs.Run.{Run, written_in, taken_in, limits_given, HasFault, InputFailed, OutputFailed, IsUnharmed, GivesMake}
-use Rattle.solver_cli.specs.Run.{GivesConversion, GivesDecision, name_given, GivesFormula, GivesProof, GivesOrder, GivesBuckets}
+use Rattle.solver_cli.specs.Run.{GivesConversion, GivesDecision, GivesTrimming, name_given, GivesFormula, GivesProof, GivesOrder, GivesBuckets}
 use Rattle.solver_cli.specs.Run.{GivesSchedule, AsksOver, AsksByOrder, AsksByBuckets, AsksBySchedule, AsksBy, IsBoardAsked, IsPlanAsked}
-use Rattle.solver_cli.specs.Run.{AsksFor, AsksToJudge, HasVerdict, AsksToConvert, IsConverted, text_for}
+use Rattle.solver_cli.specs.Run.{AsksFor, AsksToJudge, HasVerdict, AsksToConvert, IsConverted, IsTrimmed, text_for, verdict_text_for}
 use Rattle.solver_cli.specs.Faults.{ConvertsAsItReads, FaultsAreCounted, FailuresAreTold}
 
 -- Unsatisfiable: the words give `solve` or `bench`, and no assignment satisfies the formula's clauses. It is the formula
@@ -116,15 +117,16 @@ abbrev pub LimitsAreReached : Run → Type 0
 LimitsAreReached run = (why : Why) → run.status ≡ Unknown why → IsUndecided run why
 
 -- Verified: the very bytes of the proof's file refute the formula's clauses, by the rules of LRAT, or with `check --format drat` by those of
--- DRAT, so that no assignment satisfies them. With `drat` the proof was converted, whole.
+-- DRAT, so that no assignment satisfies them. With `drat` the proof was converted, whole; with `trim` it was trimmed.
 pub record IsVerified (run : Run) : Type 0 where
   pub problem : Formula
   pub bytes : List ℕ
   pub has : HasVerdict run problem bytes judgement.Verified
   pub converted : GivesConversion run → IsConverted run problem bytes
+  pub trimmed : GivesTrimming run → IsTrimmed run problem bytes
   pub refuted : RefutesIn (format_of has.asked.asked) problem.clauses bytes
   pub unsatisfiable : AreUnsatisfiable problem.clauses
-  pub printed : written_in run Out ≡ verified_line
+  pub printed : written_in run Out ≡ verdict_text_for run problem bytes judgement.Verified
 
 -- Not verified: this is the first bad line of the proof by the same rules, or that of its end, and why it is refused. With `drat` what comes
 -- before it was converted, whole.
@@ -277,7 +279,8 @@ pub record DecisionWantsMemory (run : Run) : Type 0 where
   pub created : (run.after ProofOut).name ≢ None
   pub before_answer : run.after Out ≡ run.before Out
 
--- For judging a proof, once the formula was accepted: its text may want it, or none of it was taken yet. Or for making an order.
+-- For judging a proof, once the formula was accepted: its text may want it, or none of it was taken yet; `trim` keeps steps besides.
+-- Or for making an order.
 pub record VerdictWantsMemory (run : Run) : Type 0 where
   pub asked : Command
   pub given : command run.words ≡ Some asked
@@ -285,7 +288,7 @@ pub record VerdictWantsMemory (run : Run) : Type 0 where
   pub named : name_given ProofIn asked ≡ Some file
   pub problem : Formula
   pub asks : IsTrue run.tells → AsksOver run asked (formula problem)
-  pub wants : IsTrue run.tells → (bytes : List ℕ) × (run.files file ≡ Some bytes)
+  pub wants : (GivesTrimming run → ⊥) → IsTrue run.tells → (bytes : List ℕ) × (run.files file ≡ Some bytes)
       × WantsProof (format_of asked) problem.clauses bytes (taken_in run ProofIn)
   pub before_answer : run.after Out ≡ run.before Out
 
@@ -343,10 +346,12 @@ pub record IsAnswerTo (run : Run) (problem : Formula) (outcome : Outcome) : Type
   pub proof : IsProof problem (limits_given run) (written_in run ProofOut)
   pub flushed : (run.after ProofOut).flushed ≡ length (run.after ProofOut).written
 
--- the verdict on the proof that the words name, by `drat` after a flushed DRAT proof, which is whole
+-- the verdict on the proof that the words name, by `drat` after a flushed DRAT proof, which is whole, and by `trim` after the trimmed form
+-- of a verified one
 pub record IsJudged (run : Run) (problem : Formula) (bytes : List ℕ) (judged : Verdict) : Type 0 where
   pub has : HasVerdict run problem bytes judged
   pub converted : GivesConversion run → IsConverted run problem bytes
+  pub trimmed : judged ≡ judgement.Verified → GivesTrimming run → IsTrimmed run problem bytes
 
 -- it is true, and is what the words ask for
 abbrev pub IsFound : Run → Finding → Type 0
@@ -355,7 +360,7 @@ IsFound run (VerdictOn problem bytes judged) = IsJudged run problem bytes judged
 
 abbrev pub text_found : Run → Finding → List ℕ
 text_found run (AnswerTo problem outcome) = text_for run problem outcome
-text_found run (VerdictOn problem bytes judged) = verdict_text judged
+text_found run (VerdictOn problem bytes judged) = verdict_text_for run problem bytes judged
 
 abbrev pub status_found : Finding → Status
 status_found (AnswerTo problem outcome) = status_of outcome
@@ -437,12 +442,28 @@ pub record DratStands (run : Run) : Type 0 where
   pub so_far : IsTrue run.tells → (written_in run ProofOut ≡ []) ⊎ IsFrontOfDrat run
   pub whole : run.status ≢ WriteFault → IsTrue run.tells → (written_in run ProofOut ≡ []) ⊎ AreLinesOfDrat run
 
--- what stands in a written proof: of `drat`, and of every other command
+-- The proof that `trim` writes: nothing, or the trimmed form of the proof that the words name, which is verified. Only after a failed write
+-- is it a front of that.
+pub record IsFrontOfTrimmed (run : Run) : Type 0 where
+  pub problem : Formula
+  pub bytes : List ℕ
+  pub has : HasVerdict run problem bytes judgement.Verified
+  pub rest : List ℕ
+  pub front : trim problem.clauses bytes ≡ written_in run ProofOut ++ rest
+
+pub record TrimStands (run : Run) : Type 0 where
+  pub so_far : IsTrue run.tells → (written_in run ProofOut ≡ []) ⊎ IsFrontOfTrimmed run
+  pub whole : run.status ≢ WriteFault → IsTrue run.tells → (written_in run ProofOut ≡ [])
+      ⊎ ((trimmed : IsFrontOfTrimmed run) × (trimmed.rest ≡ []))
+
+-- what stands in a written proof: of `drat`, of `trim`, and of every other command
 pub record WrittenStands (run : Run) : Type 0 where
   pub converted : GivesConversion run → DratStands run
-  pub proved : (GivesConversion run → ⊥) → ProofStands run
+  pub trimmed : GivesTrimming run → TrimStands run
+  pub proved : (GivesConversion run → ⊥) → (GivesTrimming run → ⊥) → ProofStands run
 
--- a status with which a run ends that creates no file, or before it does; but `drat` creates its own before it reads the proof
+-- a status with which a run ends that creates no file, or before it does; but `drat` creates its own before it reads the proof, and `trim`
+-- once that is verified
 abbrev pub ends_before_proof : Status → Bool
 ends_before_proof Sat = false
 ends_before_proof Unsat = false
@@ -463,16 +484,20 @@ ends_before_proof OutOfMemory = false
 
 -- Names: a role has none, or the one that the words give it. Files: none changed but the proof's, which is created only
 -- once all reading is over and all texts were accepted, however the run ends, and the made one, which is created only
--- where its text was written or a call of it failed. `drat` creates its proof once the formula was accepted and the proof opened.
+-- where its text was written or a call of it failed. `drat` creates its proof once the formula was accepted and the proof opened, `trim`
+-- once the proof is verified; from then on only a failed write ends it otherwise than with that verdict.
 pub record NamesAreGiven (run : Run) : Type 0 where
   pub names : (role : Role) → ((run.after role).name ≡ None) ⊎ ((asked : Command) × (command run.words ≡ Some asked)
       × ((run.after role).name ≡ name_given role asked))
   pub files : (file : List ℕ) → (run.after ProofOut).name ≢ Some file → (run.after Made).name ≢ Some file → run.files_after file
       ≡ run.files file
-  pub read_first : IsTrue (ends_before_proof run.status) → ((run.after ProofOut).name ≡ None) ⊎ ConvertsAsItReads run
+  pub read_first : IsTrue (ends_before_proof run.status) → ((run.after ProofOut).name ≡ None) ⊎ (ConvertsAsItReads run
+      ⊎ (GivesTrimming run × (run.status ≡ Verified)))
   pub accepted : (run.after ProofOut).name ≢ None → (GivesDecision run × (IsTrue run.tells → (problem : Formula) × AsksFor run problem))
-      ⊎ (GivesConversion run × (IsTrue run.tells → AsksToConvert run))
+      ⊎ ((GivesConversion run × (IsTrue run.tells → AsksToConvert run))
+      ⊎ (GivesTrimming run × (IsTrue run.tells → (problem : Formula) × (bytes : List ℕ) × HasVerdict run problem bytes judgement.Verified)))
   pub opened : (run.after ProofOut).name ≢ None → GivesConversion run → (run.after ProofIn).name ≢ None
+  pub trimmed : (run.after ProofOut).name ≢ None → GivesTrimming run → (run.status ≡ Verified) ⊎ (run.status ≡ WriteFault)
   pub made : (run.after Made).name ≢ None → (run.status ≡ Done) ⊎ (run.status ≡ WriteFault)
 
 -- The words and the texts call for this refusal: it is that of the first text in turn that isn't accepted.

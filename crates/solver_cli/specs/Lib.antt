@@ -9,6 +9,7 @@ pub mod Faults
 pub mod Headline
 pub mod Phases
 pub mod DratProof
+pub mod TrimmedProof
 pub mod Stages
 pub mod Start
 pub mod SolveThenCheck

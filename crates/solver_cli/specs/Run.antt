@@ -1,25 +1,30 @@
 -- One run of the program, and what its words ask for.
-use Rattle.std.specs.Prelude.{◌≡◌, ◌⊎◌, ℕ, Bool, true, false, List, Option, None, Some, length, drop, IsTrue}
+use Rattle.std.specs.Prelude.{◌≡◌, ◌⊎◌, ◌≤◌, ℕ, Bool, true, false, List, Option, None, Some, length, drop, IsTrue}
 use Rattle.cnf_base.specs.Formula.{Formula}
 use Rattle.host_io.specs.declared.role.Role.{Role}
 use Rattle.host_io.specs.declared.role.Role.TheVariants.{Cnf, Order, Buckets, Schedule, ProofIn, ProofOut, Made, Out, Err}
 use Rattle.host_io.specs.Channel.{Channel, Rose}
 use Rattle.host_io.specs.Files.{Files, IsInput, IsCreated}
 use Rattle.dimacs_reader.specs.Cnf.{CnfText, formula, cnf}
+use Rattle.lrat_rules.specs.Run.{Refutes}
+use Rattle.lrat_checker.specs.TextVerdict.{max_bytes, text_verdict}
 use Rattle.lrat_checker.specs.declared.verdict.Verdict.{Verdict}
+use Rattle.lrat_checker.specs.declared.verdict.Verdict.TheVariants as judgement
 use Rattle.drat_proof.specs.Drat.{drat}
+use Rattle.proof_trim.specs.Trimmed.{each_named, trim, trimmed}
 use Rattle.schedule_plan.specs.OrderText.{OrderText, order_text}
 use Rattle.schedule_plan.specs.ScheduleText.{ScheduleText, schedule}
 use Rattle.schedule_plan.specs.declared.plan.Move.{Move}
 use Rattle.schedule_plan.specs.declared.limits.Limits.{Limits}
 use Rattle.term_runner.specs.declared.outcome.Outcome.{Outcome}
-use Rattle.command_line.specs.Command.{Command, ToSolve, ToBench, ToMake, ToConvert, Solve, Check, Bench, Make}
-use Rattle.command_line.specs.Command.{Arrange, Convert, Planned, ByName, ByFile, ByBuckets, Found}
+use Rattle.command_line.specs.Command.{Command, ToSolve, ToBench, ToMake, ToRewrite, Solve, Check, Bench, Make}
+use Rattle.command_line.specs.Command.{Arrange, Convert, Trim, Planned, ByName, ByFile, ByBuckets, Found}
 use Rattle.command_line.specs.Command.{command, format_of, formula_file, limits_asked, mode_of}
 use Rattle.solver_cli.specs.declared.status.Status.{Status}
 use Rattle.workload.specs.Board.{board_formula}
 use Rattle.solver_cli.specs.Answer.{AreGiven, AreOfBoard, IsRead, IsOrdered, answer_text}
 use Rattle.solver_cli.specs.Format.{verdict_in}
+use Rattle.solver_cli.specs.Verdict.{printed_verdict}
 use Rattle.solver_cli.specs.Phases.{buckets_file}
 
 -- One run of the program: whether the host tells its bytes, the words, the roles and the files before, the roles
@@ -59,7 +64,7 @@ OutputFailed run = (role : Role) × (IsCreated role ⊎ (role ≡ Out)) × HasFa
 abbrev pub IsUnharmed : Run → Type 0
 IsUnharmed run = (InputFailed run → ⊥) × (OutputFailed run → ⊥)
 
--- the words give a command; they give `solve`; they give `make`; they give `drat`
+-- the words give a command; they give `solve`; they give `make`; they give `drat`; they give `trim`
 abbrev pub GivesCommand : Run → Type 0
 GivesCommand run = (asked : Command) × (command run.words ≡ Some asked)
 
@@ -70,7 +75,10 @@ abbrev pub GivesMake : Run → Type 0
 GivesMake run = (task : ToMake) × (command run.words ≡ Some (Make task))
 
 abbrev pub GivesConversion : Run → Type 0
-GivesConversion run = (task : ToConvert) × (command run.words ≡ Some (Convert task))
+GivesConversion run = (task : ToRewrite) × (command run.words ≡ Some (Convert task))
+
+abbrev pub GivesTrimming : Run → Type 0
+GivesTrimming run = (task : ToRewrite) × (command run.words ≡ Some (Trim task))
 
 -- they give `solve` or `bench`, which decide a formula
 abbrev pub decides : Command → Bool
@@ -80,6 +88,7 @@ decides (Bench task) = true
 decides (Make task) = false
 decides (Arrange task) = false
 decides (Convert task) = false
+decides (Trim task) = false
 
 abbrev pub GivesDecision : Run → Type 0
 GivesDecision run = (asked : Command) × (command run.words ≡ Some asked) × IsTrue (decides asked)
@@ -102,10 +111,12 @@ name_given Schedule (Solve task) = schedule_file task.plan
 name_given Schedule _ = None
 name_given ProofIn (Check task) = Some task.proof
 name_given ProofIn (Convert task) = Some task.proof
+name_given ProofIn (Trim task) = Some task.proof
 name_given ProofIn _ = None
 name_given ProofOut (Solve task) = Some task.proof
 name_given ProofOut (Bench task) = Some task.proof
 name_given ProofOut (Convert task) = Some task.out
+name_given ProofOut (Trim task) = Some task.out
 name_given ProofOut _ = None
 name_given Made (Make task) = Some task.file
 name_given Made (Arrange task) = Some task.out
@@ -117,7 +128,7 @@ name_given Err asked = None
 abbrev pub GivesFormula : Run → Type 0
 GivesFormula run = (asked : Command) × (command run.words ≡ Some asked) × (file : List ℕ) × (formula_file asked ≡ Some file)
 
--- With `check` and `drat` they name a proof's file, which is to be judged.
+-- With `check`, `drat` and `trim` they name a proof's file, which is to be judged.
 abbrev pub GivesProof : Run → Type 0
 GivesProof run = (asked : Command) × (command run.words ≡ Some asked) × (file : List ℕ) × (name_given ProofIn asked ≡ Some file)
 
@@ -200,12 +211,28 @@ pub record HasVerdict (run : Run) (problem : Formula) (bytes : List ℕ) (verdic
 
 -- They ask to judge a proof over this formula, and to write it as a DRAT proof.
 abbrev pub AsksToConvert : Run → Type 0
-AsksToConvert run = (task : ToConvert) × (problem : Formula) × AsksOver run (Convert task) (formula problem)
+AsksToConvert run = (task : ToRewrite) × (problem : Formula) × AsksOver run (Convert task) (formula problem)
 
 -- the file that the DRAT proof goes to gained exactly what this proof over the formula becomes, and that is flushed
 pub record IsConverted (run : Run) (problem : Formula) (bytes : List ℕ) : Type 0 where
   pub written : written_in run ProofOut ≡ drat problem.clauses bytes
   pub flushed : (run.after ProofOut).flushed ≡ length (run.after ProofOut).written
+
+-- The file that the trimmed proof goes to gained exactly the trimmed form of this proof over the formula, and that is flushed. It refutes
+-- the formula; each of its additions but that of the empty clause is named by a later step; and unless it is longer than is looked at, it
+-- is verified, and trimming it again gives the same bytes.
+pub record IsTrimmed (run : Run) (problem : Formula) (bytes : List ℕ) : Type 0 where
+  pub written : written_in run ProofOut ≡ trim problem.clauses bytes
+  pub flushed : (run.after ProofOut).flushed ≡ length (run.after ProofOut).written
+  pub refutes : Refutes problem.clauses (written_in run ProofOut)
+  pub named : IsTrue (each_named (trimmed problem.clauses bytes))
+  pub verified : length (written_in run ProofOut) ≤ max_bytes
+      → text_verdict problem.clauses (written_in run ProofOut) ≡ Some judgement.Verified
+  pub again : length (written_in run ProofOut) ≤ max_bytes → trim problem.clauses (written_in run ProofOut) ≡ written_in run ProofOut
+
+-- what is printed for the verdict on this proof over the formula
+abbrev pub verdict_text_for : Run → Formula → List ℕ → Verdict → List ℕ
+verdict_text_for run problem bytes judged = printed_verdict (command run.words) problem.clauses bytes judged
 
 -- what is printed for an outcome of the formula that is asked for, by the proof's bytes
 abbrev pub text_for : Run → Formula → Outcome → List ℕ

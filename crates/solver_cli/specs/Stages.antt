@@ -8,7 +8,13 @@ use Rattle.host_io.specs.Channel.{Channel}
 use Rattle.host_io.specs.Files.{Files, Opens}
 use Rattle.lrat_checker.specs.declared.verdict.Verdict.{Verdict}
 use Rattle.lrat_checker.specs.declared.verdict.CheckError.{CheckError}
+use Rattle.lrat_checker.specs.declared.verdict.Verdict.TheVariants as judgement
+use Rattle.lrat_rules.specs.Derivation.{text_of as lines_of}
+use Rattle.lrat_rules.specs.declared.outcome.Reason.{Reason}
+use Rattle.cnf_base.specs.declared.step.Step.{Step}
 use Rattle.drat_proof.specs.declared.error.ConvertError.{ConvertError}
+use Rattle.proof_trim.specs.declared.text.Trimmed.TheVariants.{Steps, Refused as IsRefused}
+use Rattle.answer_text.specs.Status.{trimmed_text}
 use Rattle.solver_cli.specs.declared.answer.Shape.{Shape}
 use Rattle.solver_cli.specs.declared.job.Job.{Job as HeldJob}
 use Rattle.solver_cli.specs.declared.status.Status.{Status}
@@ -26,18 +32,18 @@ use Rattle.solver_cli.specs.MadeText.{made_text, order_line}
 use Rattle.solver_cli.specs.Verdict.{verdict_text, status_of_verdict}
 use Rattle.solver_cli.specs.ExitCode.{status_of_buckets, status_of_check, status_of_error, status_of_order, status_of_plan}
 use Rattle.solver_cli.specs.ExitCode.{status_of_convert, status_of_run}
-use Rattle.command_line.specs.Reading.{text_of, planned_of}
+use Rattle.command_line.specs.Reading.{rewrite_of, text_of, planned_of}
 use Rattle.command_line.specs.declared.words.SolveTask.{SolveTask}
 use Rattle.command_line.specs.declared.words.CheckTask.{CheckTask}
 use Rattle.command_line.specs.declared.order.OrderTask.{OrderTask}
-use Rattle.command_line.specs.declared.drat.ConvertTask.{ConvertTask}
 use Rattle.command_line.specs.declared.board.BenchTask.{BenchTask}
 use Rattle.command_line.specs.declared.board.MakeTask.{MakeTask}
-use Rattle.command_line.specs.Command.{ToSolve, ToCheck, ToBench, ToMake, ToOrder, ToConvert, Solve, Check, Bench, Make, Arrange}
-use Rattle.command_line.specs.Command.{Convert, AsksHelp, Misuse}
+use Rattle.command_line.specs.Command.{ToSolve, ToCheck, ToBench, ToMake, ToOrder, ToRewrite, Solve, Check, Bench, Make, Arrange}
+use Rattle.command_line.specs.Command.{Convert, Trim, AsksHelp, Misuse}
 use Rattle.command_line.specs.Command.{MayMean, command}
 use Rattle.solver_cli.specs.Phases.{TakesFormula, HasOrder, HasBuckets, HasPlan, JudgesProof, WritesProof, PutsText, basis_of, buckets_file}
 use Rattle.solver_cli.specs.DratProof.{RewritesProof}
+use Rattle.solver_cli.specs.TrimmedProof.{PutsFile, TrimsProof}
 
 -- the files of the formula, of its order, of the buckets' order and of a schedule, the proof that is judged, the proof that is written, the text
 -- that is made, and standard output
@@ -255,7 +261,7 @@ pub record LeavesInputs (old new : Role → Channel) : Type 0 where
 abbrev pub FilesBeside : Option (List ℕ) → Option (List ℕ) → Files → Files → Type 0
 FilesBeside one other old new = (file : List ℕ) → one ≢ Some file → other ≢ Some file → new file ≡ old file
 
--- what `solve` is asked to do, what `check` is, what `order` is, and what `drat` is
+-- what `solve` is asked to do, what `check` is, and what `order` is
 abbrev pub task_of : SolveTask → ToSolve
 task_of task = record {
   file = task.files.formula.now;
@@ -278,9 +284,6 @@ check_of task = record {
 
 abbrev pub arrange_of : OrderTask → ToOrder
 arrange_of task = record { file = task.formula.now; method = task.method; mode = task.mode; out = task.out.now }
-
-abbrev pub convert_of : ConvertTask → ToConvert
-convert_of task = record { file = task.files.formula.now; proof = task.files.proof.now; mode = task.mode; out = task.out.now }
 
 -- how far `solve` came
 abbrev pub Came : Bool → Streams → Streams → Files → ToSolve → Status → Type 0
@@ -330,7 +333,7 @@ CameToCheck tells old new files task status = Untaken task.mode tells old new fi
     ⊎ (Unjudged tells old new files task status ⊎ Judged tells old new files task status)
 
 -- the proof was not converted
-pub record Unconverted (tells : Bool) (old new : Streams) (files : Files) (task : ToConvert) (status : Status) : Type 0 where
+pub record Unconverted (tells : Bool) (old new : Streams) (files : Files) (task : ToRewrite) (status : Status) : Type 0 where
   pub problem : Formula
   pub takes : TakesFormula task.mode tells old.cnf new.cnf files task.file (Ok problem)
   pub order : new.order ≡ old.order
@@ -343,7 +346,7 @@ pub record Unconverted (tells : Bool) (old new : Streams) (files : Files) (task 
   pub ends : status ≡ status_of_convert error
 
 -- it was converted, and the verdict was printed or not
-pub record Converted (tells : Bool) (old new : Streams) (files : Files) (task : ToConvert) (status : Status) : Type 0 where
+pub record Converted (tells : Bool) (old new : Streams) (files : Files) (task : ToRewrite) (status : Status) : Type 0 where
   pub problem : Formula
   pub takes : TakesFormula task.mode tells old.cnf new.cnf files task.file (Ok problem)
   pub order : new.order ≡ old.order
@@ -357,9 +360,85 @@ pub record Converted (tells : Bool) (old new : Streams) (files : Files) (task : 
   pub ends : status ≡ status_of_printed verdict printed
 
 -- how far `drat` came
-abbrev pub CameToConvert : Bool → Streams → Streams → Files → ToConvert → Status → Type 0
+abbrev pub CameToConvert : Bool → Streams → Streams → Files → ToRewrite → Status → Type 0
 CameToConvert tells old new files task status = Untaken task.mode tells old new files task.file status
     ⊎ (Unconverted tells old new files task status ⊎ Converted tells old new files task status)
+
+-- the proof was not judged to be trimmed
+pub record Untrimmed (tells : Bool) (old new : Streams) (files : Files) (task : ToRewrite) (status : Status) : Type 0 where
+  pub problem : Formula
+  pub takes : TakesFormula task.mode tells old.cnf new.cnf files task.file (Ok problem)
+  pub order : new.order ≡ old.order
+  pub buckets : new.buckets ≡ old.buckets
+  pub schedule : new.schedule ≡ old.schedule
+  pub error : CheckError
+  pub trims : TrimsProof tells old.judged new.judged files task.proof problem.clauses (Err error)
+  pub proof : new.proof ≡ old.proof
+  pub made : new.made ≡ old.made
+  pub out : new.out ≡ old.out
+  pub ends : status ≡ status_of_check error
+
+-- a verdict was printed, in this text, or not
+pub record ShowsVerdict (tells : Bool) (old new : Channel) (text : List ℕ) (verdict : Verdict) (status : Status) : Type 0 where
+  pub printed : Result ⊤ Failed
+  pub puts : PutsText tells old new text printed
+  pub ends : status ≡ status_of_printed verdict printed
+
+-- it was judged, and is not verified
+pub record Rejected (tells : Bool) (old new : Streams) (files : Files) (task : ToRewrite) (status : Status) : Type 0 where
+  pub problem : Formula
+  pub takes : TakesFormula task.mode tells old.cnf new.cnf files task.file (Ok problem)
+  pub order : new.order ≡ old.order
+  pub buckets : new.buckets ≡ old.buckets
+  pub schedule : new.schedule ≡ old.schedule
+  pub line : ℕ
+  pub reason : Reason
+  pub trims : TrimsProof tells old.judged new.judged files task.proof problem.clauses (Ok (IsRefused line reason))
+  pub proof : new.proof ≡ old.proof
+  pub made : new.made ≡ old.made
+  pub shows : ShowsVerdict tells old.out new.out (verdict_text (judgement.Refused line reason)) (judgement.Refused line reason) status
+
+-- What comes of the steps of a trimmed proof is told of the stream that it is written to and of standard output, before and after.
+
+-- its file was not created, or the steps not written
+pub record Unkept (tells : Bool) (old new old_out out : Channel) (file text : List ℕ) (status : Status) : Type 0 where
+  pub error : Failed
+  pub puts : PutsFile tells old new file text (Err error)
+  pub same : out ≡ old_out
+  pub ends : status ≡ WriteFault
+
+-- they were written, and the verdict was printed or not
+pub record Keeps (tells : Bool) (old new old_out out : Channel) (file text : List ℕ) (kept total : ℕ) (status : Status) : Type 0 where
+  pub answer : Result ⊤ Failed
+  pub done : IsOk answer
+  pub puts : PutsFile tells old new file text answer
+  pub shows : ShowsVerdict tells old_out out (trimmed_text kept total) judgement.Verified status
+
+-- how far that came
+abbrev pub CameToKeep : Bool → Channel → Channel → Channel → Channel → List ℕ → List ℕ → ℕ → ℕ → Status → Type 0
+CameToKeep tells old new old_out out file text kept total status = Unkept tells old new old_out out file text status
+    ⊎ Keeps tells old new old_out out file text kept total status
+
+-- the proof was verified, and its trimmed form written or not
+pub record Trimmed (tells : Bool) (old new : Streams) (files : Files) (task : ToRewrite) (status : Status) : Type 0 where
+  pub problem : Formula
+  pub takes : TakesFormula task.mode tells old.cnf new.cnf files task.file (Ok problem)
+  pub order : new.order ≡ old.order
+  pub buckets : new.buckets ≡ old.buckets
+  pub schedule : new.schedule ≡ old.schedule
+  pub steps : List Step
+  pub kept : ℕ
+  pub total : ℕ
+  pub trims : TrimsProof tells old.judged new.judged files task.proof problem.clauses (Ok (Steps steps kept total))
+  pub made : new.made ≡ old.made
+  pub came : CameToKeep tells old.proof new.proof old.out new.out task.out (lines_of steps) kept total status
+
+-- how far `trim` came
+abbrev pub CameToTrim : Bool → Streams → Streams → Files → ToRewrite → Status → Type 0
+CameToTrim tells old new files task status = Untaken task.mode tells old new files task.file status
+    ⊎ (Untrimmed tells old new files task status
+    ⊎ (Rejected tells old new files task status
+    ⊎ Trimmed tells old new files task status))
 
 -- the board was not made: memory ran out
 pub record Unmade (old new : Streams) (status : Status) : Type 0 where
@@ -487,9 +566,15 @@ pub record Arranging (tells : Bool) (words : List (List ℕ)) (old new : Streams
 
 -- `drat` was tried
 pub record Converting (tells : Bool) (words : List (List ℕ)) (old new : Streams) (files : Files) (status : Status) : Type 0 where
-  pub task : ToConvert
+  pub task : ToRewrite
   pub asked : command words ≡ Some (Convert task)
   pub came : CameToConvert tells old new files task status
+
+-- `trim` was tried
+pub record Trimming (tells : Bool) (words : List (List ℕ)) (old new : Streams) (files : Files) (status : Status) : Type 0 where
+  pub task : ToRewrite
+  pub asked : command words ≡ Some (Trim task)
+  pub came : CameToTrim tells old new files task status
 
 abbrev pub Stages : Bool → List (List ℕ) → Streams → Streams → Files → Status → Type 0
 Stages tells words old new files status = Misused words old new status
@@ -499,4 +584,5 @@ Stages tells words old new files status = Misused words old new status
     ⊎ (Tested tells words old new status
     ⊎ (Making tells words old new status
     ⊎ (Arranging tells words old new files status
-    ⊎ Converting tells words old new files status))))))
+    ⊎ (Converting tells words old new files status
+    ⊎ Trimming tells words old new files status)))))))

@@ -7,17 +7,21 @@ ghost use Rattle.host_io.specs.declared.role.Role.{Role};
 ghost use Rattle.host_io.specs.declared.role.Role.TheVariants.{ProofOut, Made, Out, Err as ErrRole};
 ghost use Rattle.host_io.specs.Files.{FilesBut, Kept};
 ghost use Rattle.host_io.specs.Memory.{channel_of, files_of};
+ghost use Rattle.drat_proof.specs.TwoRoles.{KeptButTwo};
 ghost use Rattle.schedule_plan.specs.Limits.{AreLimits};
 ghost use Rattle.schedule_plan.specs.Plan.{IsAdmissible};
+ghost use Rattle.lrat_rules.specs.Derivation.{text_of};
 ghost use Rattle.command_line.specs.Command.{IsSize, command, progress_asked};
+ghost use Rattle.command_line.specs.Reading.{rewrite_of};
 ghost use Rattle.solver_cli.specs.Headline.{Promises};
 ghost use Rattle.solver_cli.specs.Progress.{IsTold};
 ghost use Rattle.solver_cli.specs.ExitCode.{exit_code};
 ghost use Rattle.solver_cli.specs.Start.{OnlyTold, status_of_kind};
+ghost use Rattle.solver_cli.specs.Verdict.{verdict_text};
 ghost use Rattle.solver_cli.specs.declared.status.Status.{Status};
 ghost use Rattle.solver_cli.specs.declared.status.Status.TheVariants.{OutOfMemory};
-ghost use Rattle.solver_cli.specs.Stages.{Came, CameToAnswer, CameToArrange, CameToBench, CameToCheck, CameToConvert, CameToMake};
-ghost use Rattle.solver_cli.specs.Stages.{FilesBeside, convert_of};
+ghost use Rattle.solver_cli.specs.Stages.{Came, CameToAnswer, CameToArrange, CameToBench, CameToCheck, CameToConvert, CameToKeep};
+ghost use Rattle.solver_cli.specs.Stages.{CameToMake, CameToTrim, FilesBeside, ShowsVerdict};
 ghost use Rattle.solver_cli.specs.Stages.{LeavesInputs, ShowsHelp, Stages, arrange_of, bench_of, check_of, job_of, make_of, streams_of, task_of};
 
 use crate::answer::{Shape, status_of};
@@ -33,16 +37,18 @@ use crate::output::{put_answer, put_text};
 use crate::plan::{buckets_name, take_plan};
 use crate::proof::prove;
 use crate::status::{Status, buckets_status};
-use crate::verdict::{put_verdict, verdict_status};
+use crate::trimming::{put_proof, trim_proof};
+use crate::verdict::{put_trimmed, put_verdict, verdict_status};
 use cnf_base::Cnf;
 use command_line::{
-    Asked, BenchTask, CheckTask, ConvertTask, MakeTask, OrderTask, Refusal, SolveTask, gather,
+    Asked, BenchTask, CheckTask, MakeTask, OrderTask, Refusal, RewriteTask, SolveTask, gather,
     read_words,
 };
 use drat_checker::check_drat_law;
 use host_io::{Host, MemoryHost, Role as HostRole};
-use lrat_checker::check_law;
+use lrat_checker::{Verdict, check_law};
 use lrat_rules::soundness_law;
+use proof_trim::{KeptSteps, Trimmed, trim_law};
 use schedule_plan::{Order, Plan};
 use std::alloc::Global;
 use std::io::ErrorKind;
@@ -63,6 +69,7 @@ fn work<H: Host>(alloc: Global, words: &[String], host: &mut H) -> Status
         Ok(Asked::Make(task)) => make(alloc, &task, host),
         Ok(Asked::Order(task)) => arrange(alloc, &task, host),
         Ok(Asked::Convert(task)) => drat(alloc, &task, host),
+        Ok(Asked::Trim(task)) => trim(alloc, &task, host),
         Err(Refusal::Help(text)) => show_help(&text, host),
         Err(Refusal::Usage) => Status::Usage,
         Err(Refusal::OutOfMemory) => Status::OutOfMemory,
@@ -270,10 +277,10 @@ fn check<H: Host>(alloc: Global, asked: &CheckTask<'_>, host: &mut H) -> Status
 }
 
 // Reads the formula, judges the proof over it, writes it as a DRAT proof and prints the verdict.
-fn drat<H: Host>(alloc: Global, asked: &ConvertTask<'_>, host: &mut H) -> Status
+fn drat<H: Host>(alloc: Global, asked: &RewriteTask<'_>, host: &mut H) -> Status
     requires unnamed { (role : Role) → (H.channel host.old role).name ≡ None }
     ensures came { CameToConvert H.tells (streams_of (H.channel host.old)) (streams_of (H.channel host.new)) (H.files host.old)
-        (convert_of asked.now) result }
+        (rewrite_of asked.now) result }
     ensures error { H.channel host.new ErrRole ≡ H.channel host.old ErrRole }
     ensures files { FilesBut (H.channel host.new ProofOut).name (H.files host.old) (H.files host.new) }
 {
@@ -291,8 +298,60 @@ fn drat<H: Host>(alloc: Global, asked: &ConvertTask<'_>, host: &mut H) -> Status
     }
 }
 
+// Reads the formula, judges the proof over it, and writes what the refutation needs of a verified one. All growth is over before the
+// file is created, so that a run out of memory leaves none.
+fn trim<H: Host>(alloc: Global, asked: &RewriteTask<'_>, host: &mut H) -> Status
+    requires unnamed { (role : Role) → (H.channel host.old role).name ≡ None }
+    ensures came { CameToTrim H.tells (streams_of (H.channel host.old)) (streams_of (H.channel host.new)) (H.files host.old)
+        (rewrite_of asked.now) result }
+    ensures error { H.channel host.new ErrRole ≡ H.channel host.old ErrRole }
+    ensures files { FilesBut (H.channel host.new ProofOut).name (H.files host.old) (H.files host.new) }
+{
+    let problem = match take_formula(alloc, host, asked.files.formula, asked.mode) {
+        Ok(problem) => problem,
+        Err(error) => return Status::from(error),
+    };
+    let trimmed = match trim_proof(alloc, host, &problem, asked.files.proof) {
+        Ok(trimmed) => trimmed,
+        Err(error) => return Status::from(error),
+    };
+    match trimmed {
+        Trimmed::Steps { steps, kept, total } => keep(host, asked.out, &steps, kept, total),
+        Trimmed::Refused { line, reason } => show(host, Verdict::Refused { line, reason }),
+    }
+}
+
+// Writes the steps to the file of this name, and prints that the proof was verified, with the counts.
+fn keep<H: Host>(host: &mut H, name: &str, steps: &KeptSteps, kept: u64, total: u64) -> Status
+    requires unwritten { (H.channel host.old ProofOut).name ≡ None }
+    requires unnamed { (H.channel host.old Out).name ≡ None }
+    ensures came { CameToKeep H.tells (H.channel host.old ProofOut) (H.channel host.new ProofOut) (H.channel host.old Out)
+        (H.channel host.new Out) name.now (text_of steps.now) kept total result }
+    ensures beside { KeptButTwo ProofOut Out (H.channel host.new ProofOut).name (H.channel host.old) (H.channel host.new)
+        (H.files host.old) (H.files host.new) }
+{
+    if put_proof(host, name, steps).is_err() {
+        return Status::WriteFault;
+    }
+    match put_trimmed(host, kept, total) {
+        Ok(()) => Status::Verified,
+        Err(_) => Status::WriteFault,
+    }
+}
+
+// Prints the verdict.
+fn show<H: Host>(host: &mut H, verdict: Verdict) -> Status
+    ensures shows { ShowsVerdict H.tells (H.channel host.old Out) (H.channel host.new Out) (verdict_text verdict) verdict result }
+    ensures kept { Kept Out (H.channel host.old Out).name (H.channel host.old) (H.channel host.new) (H.files host.old) (H.files host.new) }
+{
+    match put_verdict(host, verdict) {
+        Ok(()) => verdict_status(verdict),
+        Err(_) => Status::WriteFault,
+    }
+}
+
 /// Does all that the program does: reads the words (the program's own name first), decides the formula and writes the
-/// proof, judges a proof, or writes it in DRAT, or makes a text, prints the answer or what went wrong, and says how the run ends.
+/// proof, judges a proof, or writes it in DRAT, or trimmed, or makes a text, prints the answer or what went wrong, and says how the run ends.
 pub fn run<H: Host>(alloc: Global, words: &[String], host: &mut H) -> Status
     requires unnamed { (role : Role) → (H.channel host.old role).name ≡ None }
     ensures promises { Promises (record {
@@ -308,6 +367,7 @@ pub fn run<H: Host>(alloc: Global, words: &[String], host: &mut H) -> Status
     soundness_law();
     check_law();
     check_drat_law();
+    trim_law();
     let status = work(alloc, words, host);
     complain(host, status);
     status

@@ -24,16 +24,11 @@ pub record IsBetween (formula : Formula) (moves : List Move) (i : ℕ) (graph : 
   pub rest : after_moves formula stage (drop i moves) ≡ after_moves formula no_stage moves
   pub at : IsAt formula graph live stack trail stage
 
-pub at_first : (formula : Formula) (moves : List Move) (graph : Graph) (live : Live) (stack : List HeldTerm) (trail : Stack)
-    → stack ≡ [] → trail ≡ empty_stack → AreCopies graph [] [] → IsBetween formula moves 0 graph live stack trail
-at_first formula moves graph live stack trail empty bare none = record {
-  stage = no_stage;
-  front = refl;
-  rest = refl;
-  at = record {
-    held = subst (λ (s : List HeldTerm). AreHeld formula graph live (reverse s) []) (sym empty) tt;
-    kept = trail_first formula graph trail bare none;
-  };
+pub at_first : (formula : Formula) (graph : Graph) (live : Live) (stack : List HeldTerm) (trail : Stack)
+    → stack ≡ [] → trail ≡ empty_stack → AreCopies graph [] [] → IsAt formula graph live stack trail no_stage
+at_first formula graph live stack trail empty bare none = record {
+  held = subst (λ (s : List HeldTerm). AreHeld formula graph live (reverse s) []) (sym empty) tt;
+  kept = trail_first formula graph trail bare none;
 }
 
 pub move_at : (moves : List Move) (i : ℕ) (step : Move) → slice_get moves i ≡ Some step → drop i moves ≡ step ∷ drop (i + 1) moves

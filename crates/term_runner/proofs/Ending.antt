@@ -20,11 +20,11 @@ use Rattle.term_runner.specs.declared.outcome.Outcome.{Outcome}
 use Rattle.term_runner.specs.declared.outcome.Outcome.TheVariants.{Unsat, Sat, NodeLimit, IdLimit}
 use Rattle.term_runner.specs.declared.outcome.Run.{Run}
 use Rattle.term_runner.specs.Clauses.{is_tautology}
-use Rattle.term_runner.specs.Price.{AreAmple, IsDecision, IsMovePrice, IsPaidFor}
-use Rattle.term_runner.specs.Proofs.{IsProof, IsProofOfKind, LeadsTo, UsesVariables}
+use Rattle.term_runner.specs.Price.{AreAmpleFrom, IsDecision, IsMovePrice, IsPaidFor, IsPaidFrom}
+use Rattle.term_runner.specs.Proofs.{IsProof, IsProofOfKind, IsProofSoFarOfKind, LeadsTo, UsesVariables}
 use Rattle.term_runner.specs.Width.{HasWidth}
-use Rattle.term_runner.specs.Ends.{Ends, Says, Shows, outcome_of}
-use Rattle.term_runner.specs.Opened.{EndsWithin, IsBehind, IsFlushed, Leads}
+use Rattle.term_runner.specs.Ends.{Ends, EndsFrom, Says, Shows, ShowsFrom, outcome_of}
+use Rattle.term_runner.specs.Opened.{EndsWithin, EndsWithinFrom, IsBehind, IsFlushed, Leads}
 
 -- in step the bytes are a proof of what is live
 pub written_of : {S : Type 0} (tells : Bool) (before after : Channel) (clauses : List (List ℤ)) (book : Book S)
@@ -69,6 +69,21 @@ module _ {S B : Type 0} (tells : Bool) (channel : S → Channel) (beside : S →
     rose = is.since.rose;
   }
 
+-- the same since a later time, until when no write failed
+pub behind_since : {S : Type 0} (tells : Bool) (before later after : Channel) (clauses : List (List ℤ)) (book : Book S)
+    → later.name ≡ before.name → later.faults ≡ before.faults → IsBehind tells before after clauses book
+    → IsBehind tells later after clauses book
+behind_since tells before later after clauses book name faults behind = record {
+  proof = behind.proof;
+  text = behind.text;
+  spelled = behind.spelled;
+  cut = behind.cut;
+  name = behind.name ∙ sym name;
+  faults = omega (arith, behind.faults, faults);
+  unfailed = λ on. behind.unfailed on ∙ sym faults;
+  rose = λ off. subst (λ (n : ℕ). Rose n after.faults) (sym faults) (behind.rose off);
+}
+
 -- a fact of each outcome that the moves may come to
 pub by_outcome : (P : Outcome → Type 0) (found : Result (Option (List Bool)) TableError) → (found ≡ Ok None → P Unsat)
     → ((values : List Bool) → found ≡ Ok (Some values) → P (Sat values))
@@ -92,17 +107,17 @@ torn_of (Err table.WriteFault) is = refl
 pub whole_of : (found : Result (Option (List Bool)) TableError) → outcome_of found ≢ Err WriteFault → found ≢ Err table.WriteFault
 whole_of found whole is = whole (ap outcome_of is)
 
-module _ (tells : Bool) (before mid after : Channel) (formula : Formula) (order : List ℕ) (moves : List Move) (limits : Limits) where
+module _ (first : ℕ) (tells : Bool) (before mid after : Channel) (formula : Formula) (order : List ℕ) (moves : List Move) (limits : Limits) where
   -- what stands of a run before the flush
   pub record Shown (run : Run) : Type 0 where
     pub says : Says formula order moves limits run.outcome
     pub certain : (width price : ℕ) → HasWidth formula order moves width → IsMovePrice formula.vars limits.cache width price
-        → AreAmple limits formula moves width price → IsDecision run.outcome
-    pub shows : IsTrue tells → Shows formula limits mid.written run.outcome
+        → AreAmpleFrom first limits moves width price → IsDecision run.outcome
+    pub shows : IsTrue tells → ShowsFrom first formula limits mid.written run.outcome
     pub last : IsTrue tells → LeadsTo formula limits mid.written run.last_id
     pub variables : IsTrue tells → UsesVariables (formula.vars + limits.max_nodes) mid.written
     pub price : (width price : ℕ) → HasWidth formula order moves width → IsMovePrice formula.vars limits.cache width price → IsTrue tells
-        → IsProofOfKind formula.clauses (IsPaidFor formula limits moves width price) mid.written
+        → IsProofOfKind formula.clauses (IsPaidFrom first formula limits moves width price) mid.written
     pub tautologies : IsTrue (list_all is_tautology formula.clauses) → mid.written ≡ before.written
     pub name : mid.name ≡ before.name
     pub unfailed : mid.faults ≡ before.faults
@@ -110,17 +125,17 @@ module _ (tells : Bool) (before mid after : Channel) (formula : Formula) (order 
 
   stays : (run : Run) → Shown run → after.written ≡ mid.written → after.name ≡ mid.name → after.faults ≡ mid.faults
       → (IsTrue tells → after.flushed ≡ length after.written)
-      → Ends tells before after formula order moves limits (Ok run)
+      → EndsFrom first tells before after formula order moves limits (Ok run)
   stays run shown written name unfailed flushed = record {
     says = shown.says;
     certain = shown.certain;
-    shows = λ t. subst (λ (b : List ℕ). Shows formula limits b run.outcome) (sym written) (shown.shows t);
+    shows = λ t. subst (λ (b : List ℕ). ShowsFrom first formula limits b run.outcome) (sym written) (shown.shows t);
     last = λ t. subst (λ (b : List ℕ). LeadsTo formula limits b run.last_id) (sym written) (shown.last t);
     whole = λ _ t. subst (λ (b : List ℕ). IsProof formula limits b) (sym written) (shown.last t).proof;
     so_far = λ t. inl (subst (λ (b : List ℕ). IsProof formula limits b) (sym written) (shown.last t).proof);
     variables = λ t. subst (UsesVariables (formula.vars + limits.max_nodes)) (sym written) (shown.variables t);
     price = λ width price has paid t. inl (subst (λ (b : List ℕ). IsProofOfKind formula.clauses
-        (IsPaidFor formula limits moves width price) b) (sym written) (shown.price width price has paid t));
+        (IsPaidFrom first formula limits moves width price) b) (sym written) (shown.price width price has paid t));
     flushed = λ _ t. flushed t;
     fault = λ e. cc;
     unfailed = λ _. unfailed ∙ shown.unfailed;
@@ -131,7 +146,7 @@ module _ (tells : Bool) (before mid after : Channel) (formula : Formula) (order 
 
   fails : (run : Run) → Shown run → after.written ≡ mid.written → after.name ≡ mid.name → mid.faults ≤ after.faults
       → Rose mid.faults after.faults
-      → Ends tells before after formula order moves limits (Err WriteFault)
+      → EndsFrom first tells before after formula order moves limits (Err WriteFault)
   fails run shown written name faults rose = record {
     says = tt;
     certain = λ width price has paid ample. tt;
@@ -141,7 +156,7 @@ module _ (tells : Bool) (before mid after : Channel) (formula : Formula) (order 
     so_far = λ t. inl (subst (λ (b : List ℕ). IsProof formula limits b) (sym written) (shown.last t).proof);
     variables = λ t. subst (UsesVariables (formula.vars + limits.max_nodes)) (sym written) (shown.variables t);
     price = λ width price has paid t. inl (subst (λ (b : List ℕ). IsProofOfKind formula.clauses
-        (IsPaidFor formula limits moves width price) b) (sym written) (shown.price width price has paid t));
+        (IsPaidFrom first formula limits moves width price) b) (sym written) (shown.price width price has paid t));
     flushed = λ ok t. absurd (let e : false ≡ true = ok in cc);
     fault = λ e. omega (arith, rose, shown.unfailed);
     unfailed = λ no. absurd (no refl);
@@ -151,16 +166,16 @@ module _ (tells : Bool) (before mid after : Channel) (formula : Formula) (order 
   }
 
   pub flushed_ends : (run : Run) (result : Result Run RunError) → IsFlushed tells mid after (Ok run) result → Shown run
-      → EndsWithin tells before after formula order moves limits result
+      → EndsWithinFrom first tells before after formula order moves limits result
   flushed_ends run result flushes shown = elim flushes.ends [
-    | inl same ↦ subst (λ (r : Result Run RunError). EndsWithin tells before after formula order moves limits r) (sym same.0)
+    | inl same ↦ subst (λ (r : Result Run RunError). EndsWithinFrom first tells before after formula order moves limits r) (sym same.0)
         (record { ends = stays run shown flushes.written flushes.name same.2 same.1; last = shown.small })
-    | inr broke ↦ subst (λ (r : Result Run RunError). EndsWithin tells before after formula order moves limits r) (sym broke.0)
+    | inr broke ↦ subst (λ (r : Result Run RunError). EndsWithinFrom first tells before after formula order moves limits r) (sym broke.0)
         (record { ends = fails run shown flushes.written flushes.name flushes.faults broke.1; last = tt })
   ]
 
   module _ {S : Type 0} (book : Book S) where
-    proof_of : (found : Result Outcome RunError) → Leads tells before mid formula order moves limits book found → found ≢ Err WriteFault
+    proof_of : (found : Result Outcome RunError) → Leads first tells before mid formula order moves limits book found → found ≢ Err WriteFault
         → IsTrue tells → IsProof formula limits mid.written
     proof_of found leads whole t = record {
       state = book.state;
@@ -168,9 +183,9 @@ module _ (tells : Bool) (before mid after : Channel) (formula : Formula) (order 
       within = leads.within whole;
     }
 
-    priced_of : (found : Result Outcome RunError) → Leads tells before mid formula order moves limits book found → found ≢ Err WriteFault
+    priced_of : (found : Result Outcome RunError) → Leads first tells before mid formula order moves limits book found → found ≢ Err WriteFault
         → (width price : ℕ) → HasWidth formula order moves width → IsMovePrice formula.vars limits.cache width price → IsTrue tells
-        → IsProofOfKind formula.clauses (IsPaidFor formula limits moves width price) mid.written
+        → IsProofOfKind formula.clauses (IsPaidFrom first formula limits moves width price) mid.written
     priced_of found leads whole width price has paid t =
         record {
           state = book.state;
@@ -178,7 +193,7 @@ module _ (tells : Bool) (before mid after : Channel) (formula : Formula) (order 
           within = leads.paid width price has paid whole;
         }
 
-    pub outcome_shown : (outcome : Outcome) (last : ℕ) → Leads tells before mid formula order moves limits book (Ok outcome) → last
+    pub outcome_shown : (outcome : Outcome) (last : ℕ) → Leads first tells before mid formula order moves limits book (Ok outcome) → last
         ≡ book.state.top → Shown (record { outcome = outcome; last_id = last })
     unfolding proof_of
     outcome_shown outcome last leads top = record {
@@ -195,8 +210,8 @@ module _ (tells : Bool) (before mid after : Channel) (formula : Formula) (order 
     }
 
     -- without an outcome nothing is flushed
-    pub failure_ends : (error : RunError) → Leads tells before mid formula order moves limits book (Err error)
-        → Ends tells before mid formula order moves limits (Err error)
+    pub failure_ends : (error : RunError) → Leads first tells before mid formula order moves limits book (Err error)
+        → EndsFrom first tells before mid formula order moves limits (Err error)
     failure_ends OutOfMemory leads = record {
       says = tt;
       certain = λ width price has paid ample. tt;
@@ -229,6 +244,58 @@ module _ (tells : Bool) (before mid after : Channel) (formula : Formula) (order 
       name = leads.name;
       faults = leads.faults;
     }
+
+-- From the start nothing is left out.
+module _ (tells : Bool) (before after : Channel) (formula : Formula) (order : List ℕ) (moves : List Move) (limits : Limits) where
+  abbrev start_is : ℕ
+  start_is = length formula.clauses
+
+  shows_at_start : (bytes : List ℕ) (outcome : Outcome) → ShowsFrom start_is formula limits bytes outcome → Shows formula limits bytes outcome
+  shows_at_start bytes Unsat shows = record { refutes = shows.refutes; at_once = shows.at_once refl }
+  shows_at_start bytes (Sat values) shows = shows (inl refl)
+  shows_at_start bytes NodeLimit shows = shows
+  shows_at_start bytes IdLimit shows = shows
+
+  shown_at_start : (result : Result Run RunError) → IfOk result (λ run. ShowsFrom start_is formula limits after.written run.outcome)
+      → IfOk result (λ run. Shows formula limits after.written run.outcome)
+  shown_at_start (Ok run) shows = shows_at_start after.written run.outcome shows
+  shown_at_start (Err e) shows = tt
+
+  paid_at_start : (width price : ℕ) → IsProofSoFarOfKind formula.clauses (IsPaidFrom start_is formula limits moves width price) after.written
+      → IsProofSoFarOfKind formula.clauses (IsPaidFor formula limits moves width price) after.written
+  paid_at_start width price so_far = elim so_far [
+    | inl whole ↦ inl (record { state = whole.state; written = whole.written; within = whole.within.from_start refl })
+    | inr broken ↦ inr (record {
+      before = broken.before;
+      after = broken.after;
+      cut = broken.cut;
+      within_before = broken.within_before.from_start refl;
+      within_after = broken.within_after.from_start refl;
+    })
+  ]
+
+  pub ends_at_start : (result : Result Run RunError) → EndsFrom start_is tells before after formula order moves limits result
+      → Ends tells before after formula order moves limits result
+  ends_at_start result ends = record {
+    says = ends.says;
+    certain = ends.certain;
+    shows = λ t. shown_at_start result (ends.shows t);
+    last = ends.last;
+    whole = ends.whole;
+    so_far = ends.so_far;
+    variables = ends.variables;
+    price = λ width price has is t. paid_at_start width price (ends.price width price has is t);
+    flushed = ends.flushed;
+    fault = ends.fault;
+    unfailed = ends.unfailed;
+    tautologies = ends.tautologies;
+    name = ends.name;
+    faults = ends.faults;
+  }
+
+  pub within_at_start : (result : Result Run RunError) → EndsWithinFrom start_is tells before after formula order moves limits result
+      → EndsWithin tells before after formula order moves limits result
+  within_at_start result within = record { ends = ends_at_start result within.ends; last = within.last }
 
 -- the end where memory ran out before the moves
 pub nothing_ends : (tells : Bool) (before after : Channel) (formula : Formula) (order : List ℕ) (moves : List Move) (limits : Limits)

@@ -6,6 +6,7 @@ use Rattle.std.specs.Option.{option_to_list}
 use Rattle.std.proofs.lemmas.List.{append_assoc}
 use Rattle.cnf_base.specs.Truth.{Assignment}
 use Rattle.lrat_rules.specs.State.{clause_at}
+use Rattle.clause_ledger.specs.Told.{told_origin}
 use Rattle.node_table.specs.declared.error.TableError.{TableError}
 use Rattle.node_table.specs.declared.error.TableError.TheVariants.{NodeLimit, OutOfMemory, WriteFault}
 use Rattle.node_table.specs.declared.node.Node.{Node}
@@ -35,12 +36,13 @@ use Rattle.term_runner.specs.Held.{GivesUnit, HasUnits}
 use Rattle.term_runner.specs.Runner.{Gives, HasFalse, IsListed, IsRunner, OwnsTerms, owners, true_term}
 use Rattle.term_runner.proofs.MadeParts.{lacks_part, of_only, only_of}
 use Rattle.term_runner.proofs.Giving.{units_settled}
-use Rattle.term_runner.proofs.Leaving.{went_on}
+use Rattle.term_runner.proofs.Leaving.{origin_left, went_on}
 use Rattle.term_runner.proofs.NoEmpty.{no_change}
 use Rattle.term_runner.proofs.OwnUnits.{over_settled, unit_settled}
 use Rattle.term_runner.proofs.Owners.{among_here, among_others, units_back, units_of_rest, which_among}
 use Rattle.term_runner.proofs.Replaced.{none_retired, units_replaced}
 use Rattle.term_runner.proofs.Stacks.{justified_kept, over_after}
+use Rattle.term_runner.proofs.WithinLimits.{within_after}
 
 -- a node is False, or it isn't
 pub false_or : (node : Node) → (node ≡ False) ⊎ (node ≢ False)
@@ -89,6 +91,8 @@ module _ {S : Type 0} (growth : Growth) (steps : StepByStep S) (function : Level
         record {
           over = over_after old.formula.now old.terms.table mid (all_entries old.terms.caches) (all_entries caches) over more
               found.steps.extends (found.fits (untorn whole));
+          within = within_after old.formula.now old.limits old.terms.table old.terms.caches (all_entries old.terms.caches) over runner.within
+              mid caches (went_on {T = HeldTerm} old.terms.table mid (Err came) found.steps.leaves (untorn whole)) found.sizes;
           proved = λ held among. proved_kept growth old.terms.table mid over.sound found.steps.extends held (runner.proved held among);
           units = no_fault whole (owners old) runner.units;
           no_trail = runner.no_trail;
@@ -106,6 +110,7 @@ module _ {S : Type 0} (growth : Growth) (steps : StepByStep S) (function : Level
         (list ++ option_to_list old.kept)) (sym items)
         (let own = refused_owns whole in record {
           over = own.over;
+          within = own.within;
           proved = own.proved;
           units = own.units;
           no_trail = own.no_trail;
@@ -130,6 +135,7 @@ module _ {S : Type 0} (growth : Growth) (steps : StepByStep S) (function : Level
         limits = ap (λ (r : Runner S). r.limits) same;
         kept = ap (λ (r : Runner S). r.kept) same;
         sizes = ap (λ (r : Runner S). sizes r.terms.caches) same ∙ found.sizes;
+        origin = ap (λ (t : TableState S). t.book.origin) same_table ∙ origin_left old.terms.table mid (Some came) found.steps.leaves;
       };
       leaves = subst (λ (t : TableState S). Leaves old.terms.table t (Some came)) (sym same_table) found.steps.leaves;
       nodes = subst (λ (t : TableState S). KeepsNodes old.terms.table.graph t.graph) (sym same_table) found.steps.extends.nodes;
@@ -193,6 +199,8 @@ module _ {S : Type 0} (growth : Growth) (steps : StepByStep S) (function : Level
     owns = record {
       over = over_after old.formula.now old.terms.table mid (all_entries old.terms.caches) (all_entries caches) runner.over more
           found.steps.extends (found.fits no_error);
+      within = within_after old.formula.now old.limits old.terms.table old.terms.caches (all_entries old.terms.caches) runner.over runner.within
+          mid caches found.steps.leaves found.sizes;
       proved = λ one among. elim (now.from one among) [
         | inl is ↦ subst (λ (h : HeldTerm). IsProved mid.graph mid.book.state.live h) is
             (record { stands = found.term.stands; unit = found.term.proved })
@@ -228,6 +236,7 @@ module _ {S : Type 0} (growth : Growth) (steps : StepByStep S) (function : Level
         limits = ap (λ (r : Runner S). r.limits) same;
         kept = ap (λ (r : Runner S). r.kept) same;
         sizes = ap (λ (r : Runner S). sizes r.terms.caches) same ∙ found.sizes;
+        origin = ap (λ (t : TableState S). t.book.origin) here ∙ told_origin found.steps.leaves.told;
       };
       leaves = subst (λ (t : TableState S). Continues old.terms.table t) (sym here) found.steps.leaves;
       nodes = subst (λ (t : TableState S). KeepsNodes old.terms.table.graph t.graph) (sym here) found.steps.extends.nodes;
@@ -276,7 +285,13 @@ module _ {S : Type 0} (function : Levels → Bool) (holds : Assignment → Bool)
         refused = λ whole failed. absurd (whole refl);
         refutes = tt;
         unrefuted = λ whole some. absurd (whole refl);
-        same = record { formula = own.same.formula; limits = own.same.limits; kept = own.same.kept; sizes = own.same.sizes };
+        same = record {
+          formula = own.same.formula;
+          limits = own.same.limits;
+          kept = own.same.kept;
+          sizes = own.same.sizes;
+          origin = origin_left old.terms.table new (Some WriteFault) leaves;
+        };
         leaves = leaves;
         nodes = subst (KeepsNodes old.terms.table.graph) (sym nodes) own.nodes;
         adds = adds_still;
@@ -315,6 +330,8 @@ module _ {S : Type 0} (function : Levels → Bool) (holds : Assignment → Bool)
     owns_still list runner = record {
       over = over_settled mid.formula.now mid.terms.table new (all_entries mid.terms.caches) nodes none stay fitting inputs
           continues.sound runner.over;
+      within = within_after mid.formula.now mid.limits mid.terms.table mid.terms.caches (all_entries mid.terms.caches) runner.over
+          runner.within new mid.terms.caches continues refl;
       proved = proved_still list runner;
       units = units_settled mid.terms.table new (all_entries mid.terms.caches) list nodes inputs none gone stay runner.units;
       no_trail = runner.no_trail;
@@ -365,7 +382,13 @@ module _ {S : Type 0} (function : Levels → Bool) (holds : Assignment → Bool)
       refused = own.refused;
       refutes = own.refutes;
       unrefuted = own.unrefuted;
-      same = record { formula = own.same.formula; limits = own.same.limits; kept = own.same.kept; sizes = own.same.sizes };
+      same = record {
+        formula = own.same.formula;
+        limits = own.same.limits;
+        kept = own.same.kept;
+        sizes = own.same.sizes;
+        origin = origin_left old.terms.table new (error_of r) leaves;
+      };
       leaves = leaves;
       nodes = subst (KeepsNodes old.terms.table.graph) (sym nodes) own.nodes;
       adds = adds_still;

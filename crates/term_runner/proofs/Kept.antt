@@ -9,19 +9,21 @@ use Rattle.node_table.specs.declared.node.Node.{Node}
 use Rattle.node_table.specs.declared.node.Node.TheVariants.{False, True}
 use Rattle.node_table.specs.Diagram.{is_node}
 use Rattle.node_table.specs.Laws.{Growth, Reachability}
-use Rattle.node_table.specs.Table.{TableState, IsSound}
+use Rattle.node_table.specs.Progress.{Continues}
+use Rattle.node_table.specs.Table.{TableState}
 use Rattle.clause_terms.specs.Term.{IsTerm}
 use Rattle.reclaim.specs.Reclaimed.{MayReclaim, Reclaims}
 use Rattle.reconstruction.specs.Stack.{Stack, empty_stack}
 use Rattle.term_runner.specs.declared.caches.Caches.{Caches}
 use Rattle.term_runner.specs.declared.held.HeldTerm.{HeldTerm}
 use Rattle.term_runner.specs.declared.runner.Runner.{Runner}
-use Rattle.term_runner.specs.Caches.{all_entries}
+use Rattle.term_runner.specs.Caches.{all_entries, sizes}
 use Rattle.term_runner.specs.Finds.{IsProved}
 use Rattle.term_runner.specs.Runner.{IsGood, IsRunner, holds_in, nodes_of, owners, true_term}
 use Rattle.term_runner.specs.Tidy.{LeavesReached, held_nodes}
 use Rattle.term_runner.proofs.Given.{true_unit}
 use Rattle.term_runner.proofs.Reclaimed.{in_map, leaves_reached, may_reclaim_owned, of_map, over_reclaimed, proved_stays, units_reclaimed}
+use Rattle.term_runner.proofs.WithinLimits.{within_after}
 
 -- no variable was quantified, so that the roots are the terms' nodes alone
 pub roots_of_terms : (items : List HeldTerm) (trail : Stack) → trail ≡ empty_stack → held_nodes items trail.recent ≡ nodes_of items
@@ -50,14 +52,17 @@ module _ {S : Type 0} (runner : Runner S) (is : IsRunner runner) where
   terms_may_reclaim = may_reclaim_owned runner.terms.table (all_entries runner.terms.caches) (owners runner) (nodes_of runner.terms.out.items)
       is.over.sound.tied.reduced is.units is.proved root_of
 
-  module _ (growth : Growth) (new : TableState S) (caches : Caches) (sound : IsSound new)
+  module _ (growth : Growth) (new : TableState S) (caches : Caches) (more : Continues runner.terms.table new)
+      (same : sizes caches ≡ sizes runner.terms.caches)
       (reclaims : Reclaims runner.terms.table new (nodes_of runner.terms.out.items) (all_entries runner.terms.caches) (all_entries caches)) where
     pub runner_reclaimed : IsRunner (record runner { terms = record runner.terms { table = new; caches = caches } })
     runner_reclaimed = record {
       over = over_reclaimed runner.formula.now runner.terms.table new (nodes_of runner.terms.out.items) (all_entries runner.terms.caches)
-          (all_entries caches) sound reclaims is.over;
+          (all_entries caches) more.sound reclaims is.over;
+      within = within_after runner.formula.now runner.limits runner.terms.table runner.terms.caches (all_entries runner.terms.caches) is.over
+          is.within new caches more same;
       proved = λ held among. proved_stays growth runner.terms.table new (nodes_of runner.terms.out.items)
-          (all_entries runner.terms.caches) (all_entries caches) sound reclaims held (root_of held among)
+          (all_entries runner.terms.caches) (all_entries caches) more.sound reclaims held (root_of held among)
           (λ id named. reclaims.kept id (is.units.added id (record { held = held; stacked = among; unit = named }))
           (is.units.own held among id named)) (is.proved held among);
       units = units_reclaimed runner.terms.table new (nodes_of runner.terms.out.items) (all_entries runner.terms.caches) (all_entries caches)
@@ -70,7 +75,7 @@ module _ {S : Type 0} (runner : Runner S) (is : IsRunner runner) where
 
     pub reached_terms : Reachability → LeavesReached runner.terms.table.graph new.graph (nodes_of runner.terms.out.items)
     reached_terms reach = leaves_reached growth runner.terms.table new (nodes_of runner.terms.out.items) (all_entries runner.terms.caches)
-        (all_entries caches) sound reclaims reach roots_stood
+        (all_entries caches) more.sound reclaims reach roots_stood
 
 -- a term that a call may take is proved
 pub good_proved : {S : Type 0} (runner : Runner S) → IsRunner runner → (held : HeldTerm) → IsGood runner held

@@ -15,6 +15,7 @@ pub mod SetTrail
 pub mod QuantifiedSet
 pub mod SetLevels
 pub mod Between
+pub mod EmptyAdded
 pub mod Opening
 pub mod Planned
 pub mod Listed
@@ -42,13 +43,16 @@ pub mod Paid
 pub mod Priced
 pub mod WidthExamples
 pub mod NoEmpty
+pub mod Decided
 pub mod Due
 pub mod Tried
 pub mod Moved
 pub mod Placed
 pub mod Owners
 pub mod Repeated
+pub mod WithinLimits
 pub mod Given
 pub mod Released
 pub mod Opened
 pub mod Kept
+pub mod Resting

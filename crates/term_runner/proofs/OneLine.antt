@@ -28,9 +28,9 @@ use Rattle.schedule_plan.specs.declared.limits.Limits.{Limits}
 use Rattle.schedule_plan.specs.Plan.{IsAdmissible, Stage, is_pushed, no_stage}
 use Rattle.term_runner.specs.declared.error.RunError.TheVariants.{WriteFault}
 use Rattle.term_runner.specs.Clauses.{is_tautology, has_empty_clause, first_empty}
-use Rattle.term_runner.specs.Price.{IsDecision, IsMovePrice, IsPaidFor, most_ids, most_nodes}
+use Rattle.term_runner.specs.Price.{IsDecision, IsMovePrice, IsPaidFor, IsPaidFrom, most_ids, most_nodes}
 use Rattle.term_runner.specs.Proofs.{IsBrokenOfKind, KeepsWithin}
-use Rattle.term_runner.specs.Ends.{Says, Shows, outcome_of}
+use Rattle.term_runner.specs.Ends.{Says, ShowsFrom, outcome_of}
 use Rattle.term_runner.specs.Opened.{IsBehind, IsOpened, Leads}
 use Rattle.term_runner.proofs.Ending.{by_outcome, torn_of, whole_of, written_of}
 use Rattle.term_runner.proofs.FirstEmpty.{none_satisfies}
@@ -121,7 +121,7 @@ one_power zero = omega arith
 one_power (suc n) = omega (arith, one_power n, two-pow-succ n)
 
 -- a move's price isn't nothing
-some_price : (vars size width price : ℕ) → IsMovePrice vars size width price → 0 < price
+pub some_price : (vars size width price : ℕ) → IsMovePrice vars size width price → 0 < price
 some_price vars size width price is = elim is [
   | inl by_variables ↦ omega (arith, by_variables, one_power vars)
   | inr by_width ↦
@@ -303,12 +303,13 @@ module _ {S : Type 0} (unused : Unused) (appended : Appended) (none_above : None
   refused_at_limit is = subst (λ (r : Result (Option (List Bool)) TableError). IfErr r (λ e. e ≢ table.WriteFault → new.state
       ≡ old.state)) is (refused_state result added.refused) (λ e. cc)
 
-  pub added_leads : Leads tells before after formula order moves limits new (outcome_of result)
+  pub added_leads : Leads (length formula.clauses) tells before after formula order moves limits new (outcome_of result)
   added_leads = record {
     in_step = λ whole. in_step_now (whole_of result whole);
     written = λ whole t. written_of tells before after formula.clauses new behind t (in_step_now (whole_of result whole));
     within = λ whole. within_of limits result room_of (whole_of result whole) (state_of result added.found) (refused_state result added.refused);
-    paid = λ width price has paid whole. paid_of width price paid result (whole_of result whole) (state_of result added.found) (refused_state result added.refused);
+    paid = λ width price has paid whole. as_from width price new.state
+        (paid_of width price paid result (whole_of result whole) (state_of result added.found) (refused_state result added.refused));
     broken = λ is t. broken_of_kind (KeepsWithin formula limits) is t (at_start_within limits)
         (more_within limits (room_of (λ e. two_causes (sym (torn_of result is) ∙ e))) (told_state (added.torn (torn_of result is))));
     variables = λ t. record {
@@ -316,8 +317,9 @@ module _ {S : Type 0} (unused : Unused) (appended : Appended) (none_above : None
       spelled = behind.spelled t;
       few = variables_of (formula.vars + limits.max_nodes) result added.found added.torn added.refused;
     };
-    broken_paid = λ width price has paid is t. broken_of_kind (IsPaidFor formula limits moves width price) is t (at_start_paid width price)
-        (more_paid width price paid (told_state (added.torn (torn_of result is))));
+    broken_paid = λ width price has paid is t. broken_of_kind (IsPaidFrom (length formula.clauses) formula limits moves width price) is t
+        (as_from width price old.state (at_start_paid width price))
+        (as_from width price new.state (more_paid width price paid (told_state (added.torn (torn_of result is)))));
     certain = λ width price has_width paid ample.
         by_outcome IsDecision result (λ _. tt) (λ values is. tt) (λ is. absurd (added.no_node_limit is))
         (λ is.
@@ -327,12 +329,12 @@ module _ {S : Type 0} (unused : Unused) (appended : Appended) (none_above : None
     says = by_outcome (Says formula order moves limits) result (λ _. none_satisfies formula.clauses has)
         (λ values is. absurd (none_found values is)) (λ is. absurd (added.no_node_limit is)) (λ _. tt);
     shows = λ t.
-        by_outcome (Shows formula limits after.written) result
+        by_outcome (ShowsFrom (length formula.clauses) formula limits after.written) result
         (λ is. record {
           refutes = subst (Refutes formula.clauses) (sym (behind.text t (told_in_step (told_ok is))))
               (refutes formula.clauses new.steps new.state behind.proof.derived
               (ap (list_any step_adds_empty) (steps_are true (told_ok is))));
-          at_once = λ _. behind.text t (told_in_step (told_ok is)) ∙ ap text_of (steps_are true (told_ok is))
+          at_once = λ _ _. behind.text t (told_in_step (told_ok is)) ∙ ap text_of (steps_are true (told_ok is))
               ∙ append-nil (line_of_step last) ∙ (λ k. line_of_step (addition (opened.state k) [] (first k ∷ [])));
         })
         (λ values is. absurd (none_found values is)) (λ is. absurd (added.no_node_limit is))
@@ -359,6 +361,10 @@ module _ {S : Type 0} (unused : Unused) (appended : Appended) (none_above : None
     faults = behind.faults;
   }
     where
+      as_from : (width price : ℕ) (state : State) → IsPaidFor formula limits moves width price state
+          → IsPaidFrom (length formula.clauses) formula limits moves width price state
+      as_from width price state is = record { numbers = is.within.numbers; from_start = λ _. is }
+
       two_causes : ◌≡◌ {A = Result (Option (List Bool)) TableError} (Err table.WriteFault) (Err table.IdLimit) → ⊥
       two_causes e = cc
 

@@ -1,5 +1,5 @@
 -- A runner that was opened owns no clause.
-use Rattle.std.proofs.Common.{◌≡◌, ◌∙◌, ◌<◌, ◌++◌, ℕ, true, false, ℤ, List, [], length, Option, None, Some, refl, sym, ap}
+use Rattle.std.proofs.Common.{◌≡◌, ◌∙◌, ◌<◌, ◌+◌, ◌++◌, ℕ, true, false, ℤ, List, [], length, Option, None, Some, refl, sym, ap}
 use Rattle.std.proofs.Common.{subst, arith}
 use Rattle.std.specs.Option.{option_to_list}
 use Rattle.std.specs.Prelude.{IsTrue}
@@ -7,6 +7,7 @@ use Rattle.cnf_base.specs.Order.{IsOrder}
 use Rattle.cnf_base.specs.Truth.{AreClausesOf}
 use Rattle.lrat_rules.specs.State.{State, clause_at, start}
 use Rattle.clause_ledger.specs.Book.{Book}
+use Rattle.node_table.specs.Progress.{AreStepsUpTo}
 use Rattle.node_table.specs.Table.{TableState, IsSound, opened}
 use Rattle.operations.specs.Entries.{Entry}
 use Rattle.term_runner.specs.declared.held.HeldTerm.{HeldTerm}
@@ -35,6 +36,15 @@ unused_runner there none_above opening runner unused =
     let fresh : table.inputs ≡ table.book.state.top = ap (λ (t : TableState _). t.inputs) unused.table in
     subst (OwnsTerms runner) (no_terms runner.terms.out.items runner.kept unused.none_out unused.none_kept) (record {
       over = over;
+      within = record {
+        allowed = unused.limits;
+        of_formula = unused.book.of_formula;
+        max_ids = unused.book.limit;
+        max_nodes = ap (λ (t : TableState _). t.max_nodes) unused.table;
+        size = unused.size;
+        numbers = omega (arith, ap (λ (s : State). s.top) unused.book.state);
+        variables = subst (AreStepsUpTo (formula.vars + runner.limits.max_nodes)) (sym unused.book.steps) tt;
+      };
       proved = λ held among. absurd (omega (arith, among.1));
       units = units_none table (all_entries runner.terms.caches) [] over.sound fresh refl;
       no_trail = unused.no_trail;

@@ -1,19 +1,21 @@
 -- From an opened ledger to the end of the moves.
-use Rattle.std.proofs.Common.{◌≡◌, ◌≢◌, ℕ, ◌+◌, ◌++◌, ◌∷◌, ◌<◌, ◌≤◌, ◌⊎◌, Bool, true, false, ℤ, List, [], length, Option, None, Some}
+use Rattle.std.proofs.Common.{◌≡◌, ◌≢◌, ℕ, ◌+◌, ◌++◌, ◌∷◌, ◌<◌, ◌≤◌, ◌⊎◌, Bool, false, ℤ, List, [], length, Option, None, Some}
 use Rattle.std.proofs.Common.{Result, Ok, Err, refl, sym, ap, ◌∙◌, subst, arith, inl, inr}
 use Rattle.std.specs.Prelude.{IsTrue, IsFalse, IsSome, IfErr, IfOk, MatchOption, slice_index_or}
 use Rattle.std.specs.List.{list_all, list_any}
+use Rattle.std.proofs.lemmas.List.{append-nil, append_assoc}
 use Rattle.cnf_base.specs.declared.step.Step.{Step}
 use Rattle.cnf_base.specs.Truth.{Assignment, AreClausesOf, Satisfies}
 use Rattle.cnf_base.specs.Formula.{Formula}
-use Rattle.cnf_base.specs.ProofText.{is_empty}
+use Rattle.cnf_base.specs.declared.step.Step.TheVariants.{Add}
+use Rattle.cnf_base.specs.ProofText.{line_of_step}
 use Rattle.host_io.specs.Channel.{Channel}
-use Rattle.lrat_rules.specs.State.{State, Live, clause_at, start}
-use Rattle.lrat_rules.specs.Derivation.{IsCutProof, IsDerivation, IsWritten}
-use Rattle.lrat_rules.specs.Run.{Refutes}
+use Rattle.lrat_rules.specs.State.{State, clause_at, start}
+use Rattle.lrat_rules.specs.Derivation.{IsCutProof, IsDerivation, IsWritten, text_of}
+use Rattle.lrat_rules.specs.Run.{Refutes, step_adds_empty}
 use Rattle.lrat_rules.specs.Marks.{IsWithin, in_use}
-use Rattle.clause_ledger.specs.Book.{AreTold, Book, after_steps}
-use Rattle.clause_ledger.specs.Told.{told_in_step, told_steps}
+use Rattle.clause_ledger.specs.Book.{AreTold, Book, IsProofOf, addition, after_steps}
+use Rattle.clause_ledger.specs.Told.{after_steps-append, told_in_step, told_steps}
 use Rattle.node_table.specs.declared.error.TableError.{TableError}
 use Rattle.node_table.specs.declared.error.TableError.TheVariants.{NodeLimit, IdLimit, OutOfMemory, WriteFault}
 use Rattle.node_table.specs.Diagram.{Graph, levels}
@@ -22,20 +24,23 @@ use Rattle.node_table.specs.Table.{TableState, AddsNoEmpty, IsSound, last_variab
 use Rattle.node_table.specs.Progress.{AreStepsUpTo, Continues, BreaksOff, Leaves, error_of, number_limit}
 use Rattle.node_table.specs.Laws.{Canonical}
 use Rattle.cnf_base.specs.Order.{IsOrder}
+use Rattle.operations.specs.Entries.{Entry}
 use Rattle.schedule_plan.specs.declared.plan.Move.{Move}
 use Rattle.schedule_plan.specs.declared.limits.Limits.{Limits}
-use Rattle.term_runner.specs.Clauses.{is_tautology, has_empty_clause}
+use Rattle.term_runner.specs.declared.caches.Caches.{Caches}
+use Rattle.term_runner.specs.Clauses.{first_empty, has_empty_clause, is_tautology, one_line}
 use Rattle.term_runner.specs.Proofs.{IsBrokenOfKind, IsProofOfKind, KeepsWithin}
 use Rattle.term_runner.specs.Recovered.{IsRecovered}
-use Rattle.term_runner.specs.Ends.{Says, Shows, outcome_of}
-use Rattle.term_runner.specs.Held.{IsOver, IsReady}
-use Rattle.term_runner.specs.Price.{IsDecision, IsLeanAtEnd, IsMovePrice, IsPaid, IsPaidFor}
+use Rattle.term_runner.specs.Ends.{Says, ShowsFrom, outcome_of}
+use Rattle.term_runner.specs.Held.{IsOver}
+use Rattle.term_runner.specs.Price.{IsDecision, IsLeanAtEnd, IsMovePrice, IsPaidFrom, IsPaidSince}
 use Rattle.term_runner.specs.Width.{HasWidth}
-use Rattle.term_runner.specs.Nodes.{RunsShort}
-use Rattle.term_runner.specs.Opened.{IsBehind, IsOpened, Leads, LeavesKind}
+use Rattle.term_runner.specs.Opened.{Decides, HasEmpty, IsBehind, IsWithinLimits, Leads, LeavesKind}
 use Rattle.term_runner.proofs.Parts.{is_wider, wider_less}
 use Rattle.term_runner.proofs.Leaving.{went_on}
 use Rattle.term_runner.proofs.Ending.{by_outcome, torn_of, whole_of, written_of}
+use Rattle.term_runner.proofs.EmptyAdded.{NoneAbove, adds_empty, no_step}
+use Rattle.term_runner.proofs.WithinLimits.{further_steps, last_is}
 
 abbrev pub StartClauses : Type 0
 StartClauses = (clauses : List (List ℤ)) (i : ℕ) → i < length clauses → clause_at (start clauses).live (i + 1)
@@ -71,25 +76,6 @@ over_at {S} there opening formula order book table max_nodes is state in_step is
       vars = vars;
     })
 
--- a model, or a live clause without literals
-abbrev pub IsDecided : Formula → List ℕ → List Move → Live → Option (List Bool) → Type 0
-IsDecided formula order moves live found = MatchOption found ((id : ℕ)
-    × (clause_at live id ≡ Some [])) (λ model. IsRecovered formula order moves model)
-
--- what the decision told
-pub record Decided {S : Type 0} (tells : Bool) (before after : Channel) (formula : Formula) (order : List ℕ) (moves : List Move) (size : ℕ)
-    (old new : TableState S) (result : Result (Option (List Bool)) TableError) : Type 0 where
-  pub found : IfOk result (IsDecided formula order moves new.book.state.live)
-  pub leaves : Leaves old new (error_of result)
-  pub tautologies : IsTrue (list_all is_tautology formula.clauses) → after.written ≡ before.written
-  pub open_clause : (result ≡ Err NodeLimit) ⊎ (result ≡ Err IdLimit) → IsFalse (list_all is_tautology formula.clauses)
-  pub short : result ≡ Err NodeLimit → RunsShort formula order moves new.graph
-  pub paid : (width price : ℕ) → HasWidth formula order moves width → IsMovePrice (levels old.graph) size width price
-      → LeavesKind old new (IsPaid (levels old.graph) old.inputs (length moves) size width price) (error_of result)
-  pub lean : IfOk result (λ found. IsSome found → IsLeanAtEnd (levels old.graph) old.inputs size new.book.state)
-  pub no_empty : IfErr result (λ e. e ≢ WriteFault → AddsNoEmpty old new)
-  pub few : live_nodes new.graph ≤ new.max_nodes
-
 -- a call in step left a state of the kind
 kind_of_whole : {S : Type 0} (old new : TableState S) (kind : State → Type 0) (result : Result (Option (List Bool)) TableError) → result ≢ Err WriteFault
     → LeavesKind old new kind (error_of result) → kind new.book.state
@@ -104,36 +90,39 @@ DerivedEmpty = (vars : ℕ) (clauses : List (List ℤ)) (steps : List Step) (sta
     → IsDerivation clauses steps state
     → clause_at state.live id ≡ Some [] → (a : Assignment) → Satisfies a clauses → ⊥
 
-abbrev pub WrittenEmpty : Type 0
-WrittenEmpty = (clauses : List (List ℤ)) (bytes : List ℕ) (state : State) (id : ℕ) → IsWritten clauses bytes state
-    → IsFalse (list_any is_empty clauses) → clause_at state.live id ≡ Some [] → Refutes clauses bytes
+abbrev pub RefutesByStep : Type 0
+RefutesByStep = (clauses : List (List ℤ)) (steps : List Step) (state : State) → IsDerivation clauses steps state
+    → IsTrue (list_any step_adds_empty steps) → Refutes clauses (text_of steps)
 
-module _ {S : Type 0} (canonical : Canonical) (unsatisfied : DerivedEmpty) (refutes : WrittenEmpty) (uses : (graph : Graph) (state : State)
-    → IsTied graph state → in_use (levels graph) state ≡ live_nodes graph)
-    (tells : Bool) (before after : Channel) (formula : Formula) (order : List ℕ) (moves : List Move) (limits : Limits)
-    (old new : TableState S) (result : Result (Option (List Bool)) TableError)
-    (opened : IsOpened formula limits.max_ids old.book) (behind : IsBehind tells before after formula.clauses new.book) (ready : IsReady formula old []) (inputs : old.inputs
-    ≡ old.book.state.top) (few_nodes : old.max_nodes ≡ limits.max_nodes)
-    (decided : Decided tells before after formula order moves limits.cache old new result) where
-  has_none : (has : IsTrue (has_empty_clause formula.clauses)) → ⊥
-  has_none has = let e : true ≡ false = sym has ∙ ready.none_empty in cc
+module _ {S : Type 0} (canonical : Canonical) (unsatisfied : DerivedEmpty) (refutes : RefutesByStep) (none_above : NoneAbove)
+    (uses : (graph : Graph) (state : State) → IsTied graph state → in_use (levels graph) state ≡ live_nodes graph)
+    (tells : Bool) (before after : Channel) (formula : Formula) (moves : List Move) (limits : Limits)
+    (old new : TableState S) (caches : Caches) (entries : List Entry) (result : Result (Option (List Bool)) TableError)
+    (literals : AreClausesOf formula.vars formula.clauses) (over : IsOver formula old entries)
+    (limited : IsWithinLimits formula limits old caches) (begun : IsProofOf formula.clauses old.book.steps old.book.state)
+    (behind : IsBehind tells before after formula.clauses new.book)
+    (clean : (error : TableError) → result ≡ Err error → (id : ℕ) → old.inputs < id → clause_at old.book.state.live id ≢ Some [])
+    (unwritten : new ≡ old → after.written ≡ before.written) (few_nodes : live_nodes new.graph ≤ new.max_nodes)
+    (decides : Decides formula moves limits.cache old new result) where
+  abbrev first : ℕ
+  first = old.book.state.top
+
+  abbrev order : List ℕ
+  order = old.graph.order
 
   grown : result ≢ Err WriteFault → Continues old new
-  grown = went_on old new result decided.leaves
+  grown = went_on old new result decides.leaves
 
   torn : result ≡ Err WriteFault → BreaksOff old new
-  torn is = subst (λ (r : Result (Option (List Bool)) TableError). Leaves old new (error_of r)) is decided.leaves
+  torn is = subst (λ (r : Result (Option (List Bool)) TableError). Leaves old new (error_of r)) is decides.leaves
 
   at_node_limit : result ≡ Err NodeLimit → new.max_nodes ≤ live_nodes new.graph
   at_node_limit is = (subst (λ (r : Result (Option (List Bool)) TableError). Leaves old new
-      (error_of r)) is decided.leaves).1
+      (error_of r)) is decides.leaves).1
 
   at_id_limit : result ≡ Err IdLimit → new.book.limit < new.book.state.top + 4
   at_id_limit is = (subst (λ (r : Result (Option (List Bool)) TableError). Leaves old new
-      (error_of r)) is decided.leaves).1
-
-  top_at_start : old.book.state.top ≡ length formula.clauses
-  top_at_start = ap (λ (s : State). s.top) opened.state
+      (error_of r)) is decides.leaves).1
 
   in_step_now : result ≢ Err WriteFault → IsTrue new.book.in_step
   in_step_now whole = (grown whole).sound.in_step
@@ -141,39 +130,35 @@ module _ {S : Type 0} (canonical : Canonical) (unsatisfied : DerivedEmpty) (refu
   written : result ≢ Err WriteFault → IsTrue tells → IsWritten formula.clauses after.written new.book.state
   written whole t = written_of tells before after formula.clauses new.book behind t (in_step_now whole)
 
-  -- the steps since the start, the last of which was cut short
+  -- the steps of the proof, the last of which was cut short
   cut_at : (more earlier : List Step) (last : Step) (middle : State) → AreTold false old.book new.book more → more ≡ earlier ++ last ∷ []
       → after_steps old.book.state earlier ≡ middle → IsTrue tells → IsCutProof formula.clauses after.written middle new.book.state
   cut_at more earlier last middle told parts leads t =
       subst (λ (s : State). IsCutProof formula.clauses after.written s new.book.state)
-      (ap (λ (s : State). after_steps s earlier) (sym opened.state) ∙ leads)
-      (behind.cut t (told_in_step told) earlier last
-      (told_steps told ∙ (λ i. opened.steps i ++ parts i)))
+      (after_steps-append (start formula.clauses) old.book.steps earlier ∙ ap (λ (s : State). after_steps s earlier) begun.leads ∙ leads)
+      (behind.cut t (told_in_step told) (old.book.steps ++ earlier) last
+      (told_steps told ∙ ap (λ (steps : List Step). old.book.steps ++ steps) parts ∙ sym (append_assoc old.book.steps earlier (last ∷ []))))
 
   -- the extension variables in use are as many as the nodes
   used : (whole : result ≢ Err WriteFault) → in_use formula.vars new.book.state ≡ live_nodes new.graph
   used whole =
-      let vars : levels new.graph ≡ formula.vars = ap length (grown whole).order ∙ ready.over.vars in
+      let vars : levels new.graph ≡ formula.vars = ap length (grown whole).order ∙ over.vars in
       subst (λ (v : ℕ). in_use v new.book.state ≡ live_nodes new.graph) vars (uses new.graph new.book.state (grown whole).sound.tied)
 
   within : (whole : result ≢ Err WriteFault) → KeepsWithin formula limits new.book.state
   within whole = record {
-    numbers = omega (arith, (grown whole).numbers, top_at_start, opened.limit);
-    nodes = omega (arith, used whole, decided.few, (grown whole).max_nodes, few_nodes);
+    numbers = omega (arith, (grown whole).numbers, limited.numbers, limited.max_ids);
+    nodes = omega (arith, used whole, few_nodes, (grown whole).max_nodes, limited.max_nodes);
   }
-
-  nodes_within : (most : ℕ) → live_nodes new.graph ≤ most → (state : State)
-      → IsWithin (levels old.graph) (number_limit old) (live_nodes new.graph) state → in_use formula.vars state ≤ most
-  nodes_within most few state is = subst (λ (v : ℕ). in_use v state ≤ most) ready.over.vars (omega (arith, is.nodes, few))
 
   within_limits : live_nodes new.graph ≤ old.max_nodes → (state : State)
       → IsWithin (levels old.graph) (number_limit old) (live_nodes new.graph) state → KeepsWithin formula limits state
   within_limits few state is = record {
-    numbers = omega (arith, is.numbers, top_at_start, opened.limit);
-    nodes = nodes_within limits.max_nodes (omega (arith, few, few_nodes)) state is;
+    numbers = omega (arith, is.numbers, limited.numbers, limited.max_ids);
+    nodes = subst (λ (v : ℕ). in_use v state ≤ limits.max_nodes) over.vars (omega (arith, is.nodes, few, limited.max_nodes));
   }
 
-  -- the steps since the start, and their variables
+  -- the steps since the call, and their variables
   steps_of : (error : Option TableError) → Leaves old new error → (more : List Step) × (new.book.steps ≡ old.book.steps ++ more)
       × AreStepsUpTo (last_variable old) more
   steps_of None leaves = (leaves.more, told_steps leaves.told, leaves.variables)
@@ -184,38 +169,33 @@ module _ {S : Type 0} (canonical : Canonical) (unsatisfied : DerivedEmpty) (refu
 
   few_variables : AreStepsUpTo (formula.vars + limits.max_nodes) new.book.steps
   few_variables =
-      let own = steps_of (error_of result) decided.leaves in
-      let same : new.book.steps ≡ own.0 = own.1 ∙ (λ i. opened.steps i ++ own.0) in
-      subst (AreStepsUpTo (formula.vars + limits.max_nodes)) (sym same)
-      (subst (λ (n : ℕ). AreStepsUpTo n own.0) (λ i. ready.over.vars i + few_nodes i) own.2)
-
-  -- the clauses of the formula are the table's inputs, and its variables the levels
-  same_inputs : old.inputs ≡ length formula.clauses
-  same_inputs = inputs ∙ top_at_start
+      let own = steps_of (error_of result) decides.leaves in
+      subst (AreStepsUpTo (formula.vars + limits.max_nodes)) (sym own.1)
+      (further_steps (formula.vars + limits.max_nodes) old.book.steps own.0 limited.variables
+      (subst (λ (n : ℕ). AreStepsUpTo n own.0) (last_is formula limits old caches entries over limited) own.2))
 
   own_price : (width price : ℕ) → HasWidth formula order moves width → IsMovePrice formula.vars limits.cache width price
-      → LeavesKind old new (IsPaid (levels old.graph) old.inputs (length moves) limits.cache width price)
-      (error_of result)
-  own_price width price has is = decided.paid width price has (subst (λ (vars : ℕ). IsMovePrice vars limits.cache width price)
-      (sym ready.over.vars) is)
+      → LeavesKind old new (IsPaidSince (levels old.graph) old.inputs first (length moves) limits.cache width price) (error_of result)
+  own_price width price has is = decides.paid width price has (subst (λ (vars : ℕ). IsMovePrice vars limits.cache width price)
+      (sym over.vars) is)
 
-  as_paid : (width price : ℕ) (state : State) → IsPaid (levels old.graph) old.inputs (length moves) limits.cache width price state
-      → IsPaidFor formula limits moves width price state
+  as_paid : (width price : ℕ) (state : State) → IsPaidSince (levels old.graph) old.inputs first (length moves) limits.cache width price state
+      → IsPaidFrom first formula limits moves width price state
   as_paid width price state paid =
-      subst (λ (vars : ℕ). IsPaid vars (length formula.clauses) (length moves) limits.cache width price state) ready.over.vars
-      (subst (λ (count : ℕ). IsPaid (levels old.graph) count (length moves) limits.cache width price state) same_inputs paid)
+      subst (λ (vars : ℕ). IsPaidSince vars (length formula.clauses) first (length moves) limits.cache width price state) over.vars
+      (subst (λ (count : ℕ). IsPaidSince (levels old.graph) count first (length moves) limits.cache width price state) over.counted paid)
 
   paid : (width price : ℕ) → HasWidth formula order moves width → IsMovePrice formula.vars limits.cache width price → result
-      ≢ Err WriteFault → IsPaidFor formula limits moves width price new.book.state
+      ≢ Err WriteFault → IsPaidFrom first formula limits moves width price new.book.state
   paid width price has is whole =
       as_paid width price new.book.state (kind_of_whole old new
-      (IsPaid (levels old.graph) old.inputs (length moves) limits.cache width price) result whole (own_price width price has is))
+      (IsPaidSince (levels old.graph) old.inputs first (length moves) limits.cache width price) result whole (own_price width price has is))
 
   broken_paid : (width price : ℕ) → HasWidth formula order moves width → IsMovePrice formula.vars limits.cache width price → result
       ≡ Err WriteFault → IsTrue tells
-      → IsBrokenOfKind formula.clauses (IsPaidFor formula limits moves width price) after.written
+      → IsBrokenOfKind formula.clauses (IsPaidFrom first formula limits moves width price) after.written
   broken_paid width price has is torn_is t =
-      let kind = IsPaid (levels old.graph) old.inputs (length moves) limits.cache width price in
+      let kind = IsPaidSince (levels old.graph) old.inputs first (length moves) limits.cache width price in
       let own = subst (λ (r : Result (Option (List Bool)) TableError). LeavesKind old new kind (error_of r)) torn_is
       (own_price width price has is) in
       record {
@@ -227,77 +207,99 @@ module _ {S : Type 0} (canonical : Canonical) (unsatisfied : DerivedEmpty) (refu
       }
 
   -- with a model few clauses are left
-  lean : (values : List Bool) → result ≡ Ok (Some values) → IsLeanAtEnd formula.vars (length formula.clauses) limits.cache new.book.state
-  lean values is =
+  lean : (values : List Bool) → result ≡ Ok (Some values)
+      → (first ≡ length formula.clauses) ⊎ IsFalse (list_all is_tautology formula.clauses)
+      → IsLeanAtEnd formula.vars (length formula.clauses) limits.cache new.book.state
+  lean values is due =
+      let due_here : (first ≡ old.inputs) ⊎ IsFalse (list_all is_tautology formula.clauses) = elim due [
+        | inl same ↦ inl (same ∙ sym over.counted)
+        | inr open_clause ↦ inr open_clause
+      ] in
       let own = subst (λ (r : Result (Option (List Bool)) TableError). IfOk r (λ found. IsSome found
-      → IsLeanAtEnd (levels old.graph) old.inputs limits.cache new.book.state)) is decided.lean refl in
-      subst (λ (vars : ℕ). IsLeanAtEnd vars (length formula.clauses) limits.cache new.book.state) ready.over.vars
-      (subst (λ (count : ℕ). IsLeanAtEnd (levels old.graph) count limits.cache new.book.state) same_inputs own)
+      → (first ≡ old.inputs) ⊎ IsFalse (list_all is_tautology formula.clauses)
+      → IsLeanAtEnd (levels old.graph) old.inputs limits.cache new.book.state)) is decides.lean refl due_here in
+      subst (λ (vars : ℕ). IsLeanAtEnd vars (length formula.clauses) limits.cache new.book.state) over.vars
+      (subst (λ (count : ℕ). IsLeanAtEnd (levels old.graph) count limits.cache new.book.state) over.counted own)
 
   -- a refusal leaves the formula unrefuted
   unrefuted : (error : TableError) → result ≡ Err error → error ≢ WriteFault → (id : ℕ) → length formula.clauses < id
       → clause_at new.book.state.live id ≢ Some []
   unrefuted error is other id above empty =
       let none = subst (λ (r : Result (Option (List Bool)) TableError). IfErr r (λ e. e ≢ WriteFault → AddsNoEmpty old new)) is
-      decided.no_empty other in
-      let was = none.each id empty in
-      omega (arith, (ready.over.sound.tied.numbers id [] was).1, top_at_start, above)
+      decides.no_empty other in
+      clean error is id (omega (arith, above, over.counted)) (none.each id empty)
 
   not_torn : (other : Result (Option (List Bool)) TableError) → result ≡ other → other ≢ Err WriteFault → result ≢ Err WriteFault
   not_torn other is differs e = differs (sym is ∙ e)
 
-  found_in : (found : Option (List Bool)) → result ≡ Ok found → IsDecided formula order moves new.book.state.live found
-  found_in found is = subst (λ (r : Result (Option (List Bool)) TableError). IfOk r
-      (IsDecided formula order moves new.book.state.live)) is decided.found
+  abbrev Found : Option (List Bool) → Type 0
+  Found found = MatchOption found (HasEmpty new) (λ model. IsRecovered formula order moves model)
+
+  found_in : (found : Option (List Bool)) → result ≡ Ok found → Found found
+  found_in found is = subst (λ (r : Result (Option (List Bool)) TableError). IfOk r Found) is decides.found
 
   says : IfOk (outcome_of result) (Says formula order moves limits)
   says = by_outcome (Says formula order moves limits) result
       (λ is.
       let empty = found_in None is in
-      unsatisfied formula.vars formula.clauses new.book.steps new.book.state empty.0 opened.literals behind.proof.derived empty.1)
+      unsatisfied formula.vars formula.clauses new.book.steps new.book.state empty.id literals behind.proof.derived empty.empty)
       (λ values is. found_in (Some values) is)
       (λ is.
       let more = grown (not_torn (Err NodeLimit) is (λ e. cc)) in
-      is_wider canonical formula order moves new.graph more.sound.tied.reduced (decided.short is) limits.max_nodes
-      (omega (arith, at_node_limit is, decided.few, more.max_nodes, few_nodes)))
+      is_wider canonical formula order moves new.graph more.sound.tied.reduced (decides.short is) limits.max_nodes
+      (omega (arith, at_node_limit is, few_nodes, more.max_nodes, limited.max_nodes)))
       (λ _. tt)
 
-  shows : IsTrue tells → IfOk (outcome_of result) (Shows formula limits after.written)
-  shows t = by_outcome (Shows formula limits after.written) result
+  -- the only step is the line of the empty clause
+  refuted_at_once : (is : result ≡ Ok None) → IsTrue tells → first ≡ length formula.clauses → IsTrue (has_empty_clause formula.clauses)
+      → after.written ≡ one_line formula.clauses
+  refuted_at_once is t same has =
+      let told = decides.one_line is has (same ∙ sym over.counted) in
+      let none : old.book.steps ≡ [] = no_step none_above formula.clauses old.book.steps old.book.state begun.derived same in
+      let step : Step = addition old.book.state [] (first_empty formula.clauses ∷ []) in
+      let only : new.book.steps ≡ step ∷ [] = told_steps told ∙ ap (λ (steps : List Step). steps ++ step ∷ []) none in
+      behind.text t (told_in_step told) ∙ ap text_of only ∙ append-nil (line_of_step step)
+      ∙ ap (λ (n : ℕ). line_of_step (Add (n + 1) [] (first_empty formula.clauses ∷ []) [])) same
+
+  shows : IsTrue tells → IfOk (outcome_of result) (ShowsFrom first formula limits after.written)
+  shows t = by_outcome (ShowsFrom first formula limits after.written) result
       (λ is.
+      let whole = not_torn (Ok None) is (λ e. cc) in
       let empty = found_in None is in
+      let adds = adds_empty none_above formula.clauses new.book.steps new.book.state empty.id behind.proof.leads
+      (omega (arith, empty.above, (grown whole).inputs, over.counted)) empty.empty in
       record {
-        refutes = refutes formula.clauses after.written new.book.state empty.0
-            (written (not_torn (Ok None) is (λ e. cc)) t) ready.none_empty empty.1;
-        at_once = λ has. absurd (has_none has);
+        refutes = subst (Refutes formula.clauses) (sym (behind.text t (in_step_now whole)))
+            (refutes formula.clauses new.book.steps new.book.state behind.proof.derived adds);
+        at_once = λ same has. refuted_at_once is t same has;
       })
-      (λ values is. record {
+      (λ values is due. record {
         state = new.book.state;
         written = written (not_torn (Ok (Some values)) is (λ e. cc)) t;
-        within = lean values is;
+        within = lean values is due;
       })
       (λ is.
       let whole = not_torn (Err NodeLimit) is (λ e. cc) in
       record {
-        none_empty = ready.none_empty;
-        some_open = decided.open_clause (inl is);
+        none_empty = decides.none_empty is;
+        some_open = decides.open_clause (inl is);
         state = new.book.state;
         written = written whole t;
-        used = omega (arith, used whole, at_node_limit is, decided.few, (grown whole).max_nodes, few_nodes);
+        used = omega (arith, used whole, at_node_limit is, few_nodes, (grown whole).max_nodes, limited.max_nodes);
         unrefuted = unrefuted NodeLimit is (λ e. cc);
       })
       (λ is.
       let whole = not_torn (Err IdLimit) is (λ e. cc) in
       record {
-        some_open = decided.open_clause (inr is);
+        some_open = decides.open_clause (inr is);
         state = new.book.state;
         written = written whole t;
-        used = omega (arith, at_id_limit is, (grown whole).limit, opened.limit);
-        at_once = λ has. absurd (has_none has);
+        used = omega (arith, at_id_limit is, (grown whole).limit, limited.max_ids);
+        at_once = λ has. let few = decides.at_limit is has in omega (arith, few, (grown whole).limit, limited.max_ids);
         unrefuted = unrefuted IdLimit is (λ e. cc);
       })
 
-  pub decided_leads : Leads tells before after formula order moves limits new.book (outcome_of result)
+  pub decided_leads : Leads first tells before after formula order moves limits new.book (outcome_of result)
   decided_leads = record {
     in_step = λ whole. (grown (whole_of result whole)).sound.in_step;
     written = λ whole t. written (whole_of result whole) t;
@@ -320,18 +322,18 @@ module _ {S : Type 0} (canonical : Canonical) (unsatisfied : DerivedEmpty) (refu
         by_outcome IsDecision result (λ _. tt) (λ values is. tt)
         (λ is.
         let more = grown (not_torn (Err NodeLimit) is (λ e. cc)) in
-        let wider = is_wider canonical formula order moves new.graph more.sound.tied.reduced (decided.short is) limits.max_nodes
-        (omega (arith, at_node_limit is, decided.few, more.max_nodes, few_nodes)) in
+        let wider = is_wider canonical formula order moves new.graph more.sound.tied.reduced (decides.short is) limits.max_nodes
+        (omega (arith, at_node_limit is, few_nodes, more.max_nodes, limited.max_nodes)) in
         has (wider_less formula order moves width limits.max_nodes ample.0 wider))
         (λ is.
         let whole = not_torn (Err IdLimit) is (λ e. cc) in
-        let last = (paid width price has is_price whole).within.numbers in
-        omega (arith, at_id_limit is, (grown whole).limit, opened.limit, last, ample.1));
+        let last = (paid width price has is_price whole).numbers in
+        omega (arith, at_id_limit is, (grown whole).limit, limited.max_ids, last, ample.1));
     says = says;
     shows = shows;
     fault = λ is. behind.rose (torn (torn_of result is)).out_of_step;
     unfailed = λ whole. behind.unfailed (in_step_now (whole_of result whole));
-    tautologies = decided.tautologies;
+    tautologies = λ all. unwritten (decides.tautologies all);
     name = behind.name;
     faults = behind.faults;
   }

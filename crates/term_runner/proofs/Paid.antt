@@ -31,14 +31,46 @@ InUse = (graph : Graph) (state : State) → IsTied graph state → in_use (level
 lean_more : (vars inputs few more : ℕ) (state : State) → few ≤ more → IsLean vars inputs few state → IsLean vars inputs more state
 lean_more vars inputs few more state less lean = omega (arith, less, lean)
 
+-- A kind of which are all states behind a table in the middle that have no more numbers and extension variables than what is left.
+module _ {S : Type 0} (uses : InUse) (first mid new : TableState S) (so_far : Continues first mid) (kind : State → Type 0)
+    (each : (state : State) → ComesSince mid.book.state state → state.top ≤ new.book.state.top
+    → in_use (levels mid.graph) state ≤ live_nodes new.graph → kind state) where
+  on : Continues mid new → kind new.book.state
+  on more = each new.book.state more.since (omega arith)
+      (subst (λ (vars : ℕ). in_use vars new.book.state ≤ live_nodes new.graph) (ap length more.order)
+      (let same = uses new.graph new.book.state more.sound.tied in omega (arith, same)))
+
+  off : BreaksOff mid new → LeavesKind first new kind (Some WriteFault)
+  off broken =
+      let cut = broken.cut in
+      record {
+        more = so_far.more ++ broken.more;
+        told = told_further false first.book mid.book new.book so_far.more broken.more so_far.told broken.told;
+        earlier = so_far.more ++ cut.earlier;
+        last = cut.last;
+        parts = ap (λ (more : List Step). so_far.more ++ more) cut.parts ∙ sym (append_assoc so_far.more cut.earlier (cut.last ∷ []));
+        before = cut.before;
+        leads = after_steps-append first.book.state so_far.more cut.earlier
+            ∙ ap (λ (s : State). after_steps s cut.earlier) (sym (told_state so_far.told)) ∙ cut.leads;
+        within_before = each cut.before cut.since cut.no_less cut.within_before.nodes;
+        within_after = each new.book.state broken.since (omega arith) cut.within_after.nodes;
+      }
+
+  pub kind_behind : (error : Option TableError) → Leaves mid new error → LeavesKind first new kind error
+  kind_behind None leaves = on leaves
+  kind_behind (Some NodeLimit) leaves = on leaves.0
+  kind_behind (Some IdLimit) leaves = on leaves.0
+  kind_behind (Some OutOfMemory) leaves = on leaves
+  kind_behind (Some WriteFault) leaves = off leaves
+
 module _ {S : Type 0} (lean : Lean S) (uses : InUse) (first mid new : TableState S)
     (so_far : Continues first mid) where
-  -- a state behind the table in the middle
-  module _ (size number moves width price : ℕ) (added : HasAdded mid number) (few : number ≤ 2 * size
-      + first.inputs) (ids : new.book.state.top ≤ first.inputs + moves * price)
+  -- a state behind the table in the middle, where numbers up to this one were given before the moves
+  module _ (from size number moves width price : ℕ) (added : HasAdded mid number) (few : number ≤ 2 * size
+      + first.inputs) (ids : new.book.state.top ≤ from + moves * price)
       (near : new.book.state.top ≤ mid.book.state.top + price) (nodes : live_nodes new.graph ≤ most_nodes width) where
     abbrev Kind : State → Type 0
-    Kind = IsPaid (levels first.graph) first.inputs moves size width price
+    Kind = IsPaid (levels first.graph) first.inputs from moves size width price
 
     lean_behind : (state : State) → ComesSince mid.book.state state → state.top ≤ new.book.state.top
         → IsLean (levels first.graph) first.inputs (2 * size + first.inputs + price) state
@@ -51,50 +83,18 @@ module _ {S : Type 0} (lean : Lean S) (uses : InUse) (first mid new : TableState
         lean_more (levels first.graph) first.inputs (number + (state.top - mid.book.state.top)) (2 * size + first.inputs
         + price) state (omega (arith, few, near, within)) there
 
-    on : Continues mid new → Kind new.book.state
-    on more = record {
+    pub paid_there : (state : State) → ComesSince mid.book.state state → state.top ≤ new.book.state.top
+        → in_use (levels mid.graph) state ≤ live_nodes new.graph → Kind state
+    paid_there state since within used = record {
       within = record {
-        numbers = ids;
-        nodes = subst (λ (vars : ℕ). in_use vars new.book.state ≤ most_nodes width) (ap length (more.order ∙ so_far.order))
-            (let same = uses new.graph new.book.state more.sound.tied in omega (arith, same, nodes));
+        numbers = omega (arith, within, ids);
+        nodes = subst (λ (vars : ℕ). in_use vars state ≤ most_nodes width) (ap length so_far.order) (omega (arith, used, nodes));
       };
-      lean = lean_behind new.book.state more.since (omega arith);
+      lean = lean_behind state since within;
     }
 
-    off : BreaksOff mid new → LeavesKind first new Kind (Some WriteFault)
-    off broken =
-        let cut = broken.cut in
-        let nodes_in : (state : State) → in_use (levels mid.graph) state ≤ live_nodes new.graph → in_use (levels first.graph) state
-        ≤ most_nodes width =
-        λ state own. subst (λ (vars : ℕ). in_use vars state ≤ most_nodes width) (ap length so_far.order) (omega (arith, own, nodes)) in
-        record {
-          more = so_far.more ++ broken.more;
-          told = told_further false first.book mid.book new.book so_far.more broken.more so_far.told broken.told;
-          earlier = so_far.more ++ cut.earlier;
-          last = cut.last;
-          parts = ap (λ (more : List Step). so_far.more ++ more) cut.parts ∙ sym (append_assoc so_far.more cut.earlier (cut.last ∷ []));
-          before = cut.before;
-          leads = after_steps-append first.book.state so_far.more cut.earlier
-              ∙ ap (λ (s : State). after_steps s cut.earlier) (sym (told_state so_far.told)) ∙ cut.leads;
-          within_before = record {
-            within = record {
-              numbers = omega (arith, cut.no_less, ids);
-              nodes = nodes_in cut.before cut.within_before.nodes;
-            };
-            lean = lean_behind cut.before cut.since cut.no_less;
-          };
-          within_after = record {
-            within = record { numbers = ids; nodes = nodes_in new.book.state cut.within_after.nodes };
-            lean = lean_behind new.book.state broken.since (omega arith);
-          };
-        }
-
     pub paid_behind : (error : Option TableError) → Leaves mid new error → LeavesKind first new Kind error
-    paid_behind None leaves = on leaves
-    paid_behind (Some NodeLimit) leaves = on leaves.0
-    paid_behind (Some IdLimit) leaves = on leaves.0
-    paid_behind (Some OutOfMemory) leaves = on leaves
-    paid_behind (Some WriteFault) leaves = off leaves
+    paid_behind = kind_behind uses first mid new so_far Kind paid_there
 
 -- a table whose clauses are the formula's alone
 pub none_added : {S : Type 0} (table : TableState S) → IsSound table → table.inputs ≡ table.book.state.top → HasAdded table 0

@@ -6,6 +6,7 @@ use Rattle.std.specs.Option.{option_to_list}
 use Rattle.std.proofs.lemmas.List.{append-nil, append_assoc, drop_more, take-append-drop}
 use Rattle.std.proofs.lemmas.List.Elements.{Contains-append_right}
 use Rattle.lrat_rules.specs.State.{clause_at}
+use Rattle.clause_ledger.specs.Told.{told_origin}
 use Rattle.node_table.specs.declared.node.Node.TheVariants.{False}
 use Rattle.node_table.specs.declared.node.Justification.TheVariants.{Trivial}
 use Rattle.node_table.specs.Laws.{StepByStep}
@@ -20,6 +21,7 @@ use Rattle.term_runner.specs.Held.{HasUnits, RetiresBut}
 use Rattle.term_runner.specs.Runner.{HasFalse, IsRunner, OwnsTerms, Releases, owners, true_term}
 use Rattle.term_runner.proofs.Owners.{among_here, among_others, units_back, units_front, units_less, which_among}
 use Rattle.term_runner.proofs.Stacks.{over_after}
+use Rattle.term_runner.proofs.WithinLimits.{within_after}
 
 -- the list around a place
 pub around : (list : List HeldTerm) (place : ℕ) (held : HeldTerm) → place < length list → get_or list place held ≡ held
@@ -70,6 +72,7 @@ module _ {S : Type 0} (old : Runner S) (runner : IsRunner old) (held : HeldTerm)
         (subst (λ (list : List HeldTerm). OwnsTerms (record old { terms = record old.terms { out = new.terms.out }; kept = Some held })
         (list ++ held ∷ [])) (sym items) (record {
           over = own_still.over;
+          within = own_still.within;
           proved = λ one there. own_still.proved one (from one there);
           units = units_last;
           no_trail = own_still.no_trail;
@@ -90,6 +93,7 @@ module _ {S : Type 0} (old : Runner S) (runner : IsRunner old) (held : HeldTerm)
       formula = ap (λ (r : Runner S). r.formula) same;
       limits = ap (λ (r : Runner S). r.limits) same;
       refuted = ap (λ (r : Runner S). r.refuted) same;
+      origin = ap (λ (t : TableState S). t.book.origin) here;
       continues = subst (λ (t : TableState S). Continues old.terms.table t) (sym here) continues;
     }
 
@@ -144,6 +148,8 @@ module _ {S : Type 0} (old : Runner S) (runner : IsRunner old) (held : HeldTerm)
     owns_rest = record {
       over = over_after old.formula.now old.terms.table table (all_entries old.terms.caches) (all_entries old.terms.caches) own.over
           more.leaves.sound more.extends fits_rest;
+      within = within_after old.formula.now old.limits old.terms.table old.terms.caches (all_entries old.terms.caches) own.over own.within
+          table old.terms.caches more.leaves refl;
       proved = proved_rest;
       units = units_rest;
       no_trail = own.no_trail;
@@ -169,6 +175,7 @@ module _ {S : Type 0} (old : Runner S) (runner : IsRunner old) (held : HeldTerm)
           formula = ap (λ (r : Runner S). r.formula) same;
           limits = ap (λ (r : Runner S). r.limits) same;
           refuted = ap (λ (r : Runner S). r.refuted) same;
+          origin = ap (λ (t : TableState S). t.book.origin) here ∙ told_origin more.leaves.told;
           continues = subst (λ (t : TableState S). Continues old.terms.table t) (sym here) more.leaves;
         }
 
@@ -183,5 +190,6 @@ releases_true old held runner is continues = record {
   formula = refl;
   limits = refl;
   refuted = refl;
+  origin = refl;
   continues = continues;
 }

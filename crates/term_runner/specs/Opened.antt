@@ -1,27 +1,34 @@
 -- A run's beginning and its end, over the ledger.
-use Rattle.std.specs.Prelude.{◌≡◌, ◌≢◌, ◌⊎◌, ◌≤◌, ◌+◌, ◌++◌, ℕ, ℤ, max, Bool, false, List, [], ◌∷◌, length, Option, None, Some, Result, Err}
-use Rattle.std.specs.Prelude.{IfOk, IsTrue}
+use Rattle.std.specs.Prelude.{◌≡◌, ◌≢◌, ◌⊎◌, ◌<◌, ◌≤◌, ◌+◌, ◌++◌, ℕ, ℤ, max, Bool, true, false, List, [], ◌∷◌, length, Option, None, Some, Result, Ok, Err}
+use Rattle.std.specs.Prelude.{IfErr, IfOk, IsFalse, IsSome, IsTrue, MatchOption}
 use Rattle.std.specs.List.{list_all}
 use Rattle.cnf_base.specs.declared.step.Step.{Step}
 use Rattle.cnf_base.specs.Truth.{AreClausesOf}
 use Rattle.cnf_base.specs.Formula.{Formula}
 use Rattle.host_io.specs.Channel.{Channel, Rose}
-use Rattle.lrat_rules.specs.State.{State, start}
+use Rattle.lrat_rules.specs.State.{State, clause_at, start}
 use Rattle.lrat_rules.specs.Derivation.{IsCutProof, IsWritten, text_of}
-use Rattle.clause_ledger.specs.Book.{AreTold, Book, IsCutText, IsProofOf, after_steps}
+use Rattle.clause_ledger.specs.Book.{AreTold, Book, IsCutText, IsProofOf, addition, after_steps}
 use Rattle.node_table.specs.declared.error.TableError.{TableError}
 use Rattle.node_table.specs.declared.error.TableError.TheVariants as table
-use Rattle.node_table.specs.Table.{TableState}
+use Rattle.node_table.specs.Diagram.{levels}
+use Rattle.node_table.specs.Progress.{AreStepsUpTo, Leaves, error_of}
+use Rattle.node_table.specs.Table.{AddsNoEmpty, TableState}
 use Rattle.schedule_plan.specs.declared.plan.Move.{Move}
 use Rattle.schedule_plan.specs.declared.limits.Limits.{Limits}
+use Rattle.schedule_plan.specs.Limits.{AreLimits}
 use Rattle.term_runner.specs.declared.outcome.Outcome.{Outcome}
 use Rattle.term_runner.specs.declared.outcome.Run.{Run}
 use Rattle.term_runner.specs.declared.error.RunError.{RunError}
 use Rattle.term_runner.specs.declared.error.RunError.TheVariants.{WriteFault}
-use Rattle.term_runner.specs.Clauses.{is_tautology}
-use Rattle.term_runner.specs.Ends.{Ends, Says, Shows}
-use Rattle.term_runner.specs.Price.{AreAmple, IsDecision, IsMovePrice, IsPaidFor}
+use Rattle.term_runner.specs.declared.caches.Caches.{Caches}
+use Rattle.term_runner.specs.Caches.{HaveSize}
+use Rattle.term_runner.specs.Clauses.{first_empty, has_empty_clause, is_tautology}
+use Rattle.term_runner.specs.Ends.{Ends, EndsFrom, Says, ShowsFrom}
+use Rattle.term_runner.specs.Nodes.{RunsShort}
+use Rattle.term_runner.specs.Price.{AreAmpleFrom, IsDecision, IsLeanAtEnd, IsMovePrice, IsPaidFrom, IsPaidSince}
 use Rattle.term_runner.specs.Proofs.{IsBroken, IsBrokenOfKind, KeepsWithin, UsesVariables}
+use Rattle.term_runner.specs.Recovered.{IsRecovered}
 use Rattle.term_runner.specs.Width.{HasWidth}
 
 -- a ledger as it was opened over a formula: its clauses, over its variables, are live, and no step was told
@@ -74,8 +81,46 @@ LeavesKind old new kind (Some table.IdLimit) = kind new.book.state
 LeavesKind old new kind (Some table.OutOfMemory) = kind new.book.state
 LeavesKind old new kind (Some table.WriteFault) = BreaksKind kind old.book new.book
 
--- What the moves led to, before the proof is flushed: each outcome is true, and shown by what was written.
-pub record Leads {S : Type 0} (tells : Bool) (before after : Channel) (formula : Formula) (order : List ℕ) (moves : List Move)
+-- The proof so far is of the formula, and within the limits.
+pub record IsWithinLimits {S : Type 0} (formula : Formula) (limits : Limits) (table : TableState S) (caches : Caches) : Type 0 where
+  pub allowed : AreLimits limits
+  pub of_formula : table.book.formula ≡ formula.clauses
+  pub max_ids : table.book.limit ≡ limits.max_ids
+  pub max_nodes : table.max_nodes ≡ limits.max_nodes
+  pub size : HaveSize caches limits.cache
+  pub numbers : table.book.state.top ≤ max (length formula.clauses) limits.max_ids
+  pub variables : AreStepsUpTo (formula.vars + limits.max_nodes) table.book.steps
+
+-- an empty clause is live that was added
+pub record HasEmpty {S : Type 0} (table : TableState S) : Type 0 where
+  pub id : ℕ
+  pub above : table.inputs < id
+  pub empty : clause_at table.book.state.live id ≡ Some []
+
+-- What was found of a formula: a model, or None where the empty clause was added. Where all clauses are tautologies nothing is done. Where
+-- one is empty it refutes the formula by one line, unless no number is left. However it ends, it keeps within the price of the plan's
+-- width, behind the numbers that were given before; with a model few clauses are left. At the limit of nodes one that is wanted is
+-- refused for want of room. A refusal leaves the formula unrefuted.
+pub record Decides {S : Type 0} (formula : Formula) (moves : List Move) (size : ℕ) (old new : TableState S)
+    (result : Result (Option (List Bool)) TableError) : Type 0 where
+  pub found : IfOk result (λ found. MatchOption found (HasEmpty new) (λ model. IsRecovered formula old.graph.order moves model))
+  pub leaves : Leaves old new (error_of result)
+  pub tautologies : IsTrue (list_all is_tautology formula.clauses) → new ≡ old
+  pub open_clause : (result ≡ Err table.NodeLimit) ⊎ (result ≡ Err table.IdLimit) → IsFalse (list_all is_tautology formula.clauses)
+  pub none_empty : result ≡ Err table.NodeLimit → IsFalse (has_empty_clause formula.clauses)
+  pub at_limit : result ≡ Err table.IdLimit → IsTrue (has_empty_clause formula.clauses) → new.book.limit ≤ old.book.state.top
+  pub one_line : result ≡ Ok None → IsTrue (has_empty_clause formula.clauses) → old.book.state.top ≡ old.inputs
+      → AreTold true old.book new.book (addition old.book.state [] (first_empty formula.clauses ∷ []) ∷ [])
+  pub paid : (width price : ℕ) → HasWidth formula old.graph.order moves width → IsMovePrice (levels old.graph) size width price
+      → LeavesKind old new (IsPaidSince (levels old.graph) old.inputs old.book.state.top (length moves) size width price) (error_of result)
+  pub lean : IfOk result (λ found. IsSome found → (old.book.state.top ≡ old.inputs) ⊎ IsFalse (list_all is_tautology formula.clauses)
+      → IsLeanAtEnd (levels old.graph) old.inputs size new.book.state)
+  pub short : result ≡ Err table.NodeLimit → RunsShort formula old.graph.order moves new.graph
+  pub no_empty : IfErr result (λ e. e ≢ table.WriteFault → AddsNoEmpty old new)
+
+-- What the moves led to, before the proof is flushed: each outcome is true, and shown by what was written. Other calls gave numbers up
+-- to the first one.
+pub record Leads {S : Type 0} (first : ℕ) (tells : Bool) (before after : Channel) (formula : Formula) (order : List ℕ) (moves : List Move)
     (limits : Limits) (book : Book S) (found : Result Outcome RunError) : Type 0 where
   pub in_step : found ≢ Err WriteFault → IsTrue book.in_step
   pub written : found ≢ Err WriteFault → IsTrue tells → IsWritten formula.clauses after.written book.state
@@ -84,14 +129,14 @@ pub record Leads {S : Type 0} (tells : Bool) (before after : Channel) (formula :
   pub variables : IsTrue tells → UsesVariables (formula.vars + limits.max_nodes) after.written
   -- the same by the price of the plan's width
   pub paid : (width price : ℕ) → HasWidth formula order moves width → IsMovePrice formula.vars limits.cache width price → found
-      ≢ Err WriteFault → IsPaidFor formula limits moves width price book.state
+      ≢ Err WriteFault → IsPaidFrom first formula limits moves width price book.state
   pub broken_paid : (width price : ℕ) → HasWidth formula order moves width → IsMovePrice formula.vars limits.cache width price → found
       ≡ Err WriteFault → IsTrue tells
-      → IsBrokenOfKind formula.clauses (IsPaidFor formula limits moves width price) after.written
+      → IsBrokenOfKind formula.clauses (IsPaidFrom first formula limits moves width price) after.written
   pub certain : (width price : ℕ) → HasWidth formula order moves width → IsMovePrice formula.vars limits.cache width price
-      → AreAmple limits formula moves width price → IfOk found IsDecision
+      → AreAmpleFrom first limits moves width price → IfOk found IsDecision
   pub says : IfOk found (Says formula order moves limits)
-  pub shows : IsTrue tells → IfOk found (Shows formula limits after.written)
+  pub shows : IsTrue tells → IfOk found (ShowsFrom first formula limits after.written)
   pub fault : found ≡ Err WriteFault → Rose before.faults after.faults
   pub unfailed : found ≢ Err WriteFault → after.faults ≡ before.faults
   pub tautologies : IsTrue (list_all is_tautology formula.clauses) → after.written ≡ before.written
@@ -102,4 +147,10 @@ pub record Leads {S : Type 0} (tells : Bool) (before after : Channel) (formula :
 pub record EndsWithin (tells : Bool) (before after : Channel) (formula : Formula) (order : List ℕ) (moves : List Move) (limits : Limits)
     (result : Result Run RunError) : Type 0 where
   pub ends : Ends tells before after formula order moves limits result
+  pub last : IfOk result (λ run. run.last_id ≤ max (length formula.clauses) limits.max_ids)
+
+-- the same behind other calls
+pub record EndsWithinFrom (first : ℕ) (tells : Bool) (before after : Channel) (formula : Formula) (order : List ℕ) (moves : List Move)
+    (limits : Limits) (result : Result Run RunError) : Type 0 where
+  pub ends : EndsFrom first tells before after formula order moves limits result
   pub last : IfOk result (λ run. run.last_id ≤ max (length formula.clauses) limits.max_ids)

@@ -29,16 +29,28 @@ most_nodes width = 3 * width + 999
 abbrev pub AddsFew : ℕ → ℕ → ℕ → Type 0
 AddsFew old new width = (new ≤ old + width) ⊎ (new ≤ 2 * width)
 
--- A state within the price of so many moves, over so many variables and clauses and with caches of so many entries: no number is
--- greater, no more extension variables are in use, and of the clauses above the formula's no more are live than four for each
+-- A state within the price of so many moves behind this number, over so many variables and clauses and with caches of so many entries: no
+-- number is greater, no more extension variables are in use, and of the clauses above the formula's no more are live than four for each
 -- variable in use, one for each place of two caches and each clause of the formula, and those that one move may give.
-pub record IsPaid (vars inputs moves size width price : ℕ) (state : State) : Type 0 where
-  pub within : IsWithin vars (inputs + moves * price) (most_nodes width) state
+pub record IsPaid (vars inputs first moves size width price : ℕ) (state : State) : Type 0 where
+  pub within : IsWithin vars (first + moves * price) (most_nodes width) state
   pub lean : IsLean vars inputs (2 * size + inputs + price) state
 
 -- that of a plan over a formula
 abbrev pub IsPaidFor : Formula → Limits → List Move → ℕ → ℕ → State → Type 0
-IsPaidFor formula limits moves width price = IsPaid formula.vars (length formula.clauses) (length moves) limits.cache width price
+IsPaidFor formula limits moves width price =
+    IsPaid formula.vars (length formula.clauses) (length formula.clauses) (length moves) limits.cache width price
+
+-- Behind other calls, which gave the numbers up to the first one: no number is greater than at this price. What they left, beside the
+-- formula's clauses, the plan need not have paid; so the rest is said where they gave none.
+pub record IsPaidSince (vars inputs first moves size width price : ℕ) (state : State) : Type 0 where
+  pub numbers : state.top ≤ first + moves * price
+  pub from_start : first ≡ inputs → IsPaid vars inputs first moves size width price state
+
+-- that of a plan over a formula
+abbrev pub IsPaidFrom : ℕ → Formula → Limits → List Move → ℕ → ℕ → State → Type 0
+IsPaidFrom first formula limits moves width price =
+    IsPaidSince formula.vars (length formula.clauses) first (length moves) limits.cache width price
 
 -- At the end of a plan one clause is left beside those of nodes and of two caches, the unit of its term.
 abbrev pub IsLeanAtEnd : ℕ → ℕ → ℕ → State → Type 0
@@ -54,3 +66,7 @@ IsDecision IdLimit = ⊥
 -- the limits are above what the width needs
 abbrev pub AreAmple : Limits → Formula → List Move → ℕ → ℕ → Type 0
 AreAmple limits formula moves width price = (width ≤ limits.max_nodes) × (most_ids formula moves price + 4 ≤ limits.max_ids)
+
+-- those behind this number
+abbrev pub AreAmpleFrom : ℕ → Limits → List Move → ℕ → ℕ → Type 0
+AreAmpleFrom first limits moves width price = (width ≤ limits.max_nodes) × (first + length moves * price + 4 ≤ limits.max_ids)

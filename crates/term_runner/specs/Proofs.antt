@@ -68,6 +68,11 @@ pub record Refutation (clauses : List (List ℤ)) (bytes : List ℕ) : Type 0 wh
   pub refutes : Refutes clauses bytes
   pub at_once : IsTrue (has_empty_clause clauses) → bytes ≡ one_line clauses
 
+-- They refute the clauses: by one line where one of them is empty, and no number was given before this one but the clauses' own.
+pub record RefutationFrom (first : ℕ) (clauses : List (List ℤ)) (bytes : List ℕ) : Type 0 where
+  pub refutes : Refutes clauses bytes
+  pub at_once : first ≡ length clauses → IsTrue (has_empty_clause clauses) → bytes ≡ one_line clauses
+
 -- no refutation yet: no empty clause stands beside those of the formula
 abbrev pub IsUnfinished : List (List ℤ) → State → Type 0
 IsUnfinished clauses state = (id : ℕ) → length clauses < id → clause_at state.live id ≢ Some []
@@ -83,11 +88,15 @@ pub record NodesAreUsed (formula : Formula) (max_nodes : ℕ) (bytes : List ℕ)
   pub unrefuted : IsUnfinished formula.clauses state
 
 -- The formula has some clause that is no tautology, and the proof's greatest number is less than four below the
--- greatest number allowed; where a clause is empty, the formula's own numbers reach that already. No refutation stands there yet.
-pub record NumbersAreUsed (formula : Formula) (max_ids : ℕ) (bytes : List ℕ) : Type 0 where
+-- greatest number allowed; where a clause is empty, the first number reaches that already. No refutation stands there yet.
+pub record NumbersAreUsedFrom (first : ℕ) (formula : Formula) (max_ids : ℕ) (bytes : List ℕ) : Type 0 where
   pub some_open : IsFalse (list_all is_tautology formula.clauses)
   pub state : State
   pub written : IsWritten formula.clauses bytes state
   pub used : max_ids < state.top + 4
-  pub at_once : IsTrue (has_empty_clause formula.clauses) → max_ids ≤ length formula.clauses
+  pub at_once : IsTrue (has_empty_clause formula.clauses) → max_ids ≤ first
   pub unrefuted : IsUnfinished formula.clauses state
+
+-- the first number is the greatest of the formula's own
+abbrev pub NumbersAreUsed : Formula → ℕ → List ℕ → Type 0
+NumbersAreUsed formula max_ids bytes = NumbersAreUsedFrom (length formula.clauses) formula max_ids bytes

@@ -24,6 +24,7 @@ use Rattle.term_runner.specs.declared.term.Term.{Term}
 use Rattle.term_runner.specs.Caches.{HaveRoom, all_entries, sizes}
 use Rattle.term_runner.specs.Finds.{AreFew, IsProved}
 use Rattle.term_runner.specs.Held.{HasUnits, IsOver}
+use Rattle.term_runner.specs.Opened.{IsWithinLimits}
 use Rattle.term_runner.specs.Width.{HasAtMost}
 
 -- the term that owns no clause
@@ -40,10 +41,11 @@ pub record HasFalse (terms : List HeldTerm) : Type 0 where
   pub among : Contains terms held
   pub is_false : held.node ≡ False
 
--- Between two calls: the table is over the formula; each term that owns a clause is proved, its clause is its own, and no clause
+-- Between two calls: the table is over the formula, and within the limits; each term that owns a clause is proved, its clause is its own, and no clause
 -- that was added is lost. The empty clause was added exactly where the runner says so, and then one of these terms is False.
 pub record OwnsTerms {S : Type 0} (runner : Runner S) (terms : List HeldTerm) : Type 0 where
   pub over : IsOver runner.formula.now runner.terms.table (all_entries runner.terms.caches)
+  pub within : IsWithinLimits runner.formula.now runner.limits runner.terms.table runner.terms.caches
   pub proved : (held : HeldTerm) → Contains terms held → IsProved runner.terms.table.graph runner.terms.table.book.state.live held
   pub units : HasUnits runner.terms.table (all_entries runner.terms.caches) terms
   pub no_trail : runner.terms.trail ≡ empty_stack
@@ -67,12 +69,13 @@ IsListed before after held = ((held ≡ true_term) × (after ≡ before)) ⊎ (a
 abbrev pub holds_in : {S : Type 0} → Runner S → HeldTerm → Assignment → Bool
 holds_in runner held a = value_of runner.terms.table.graph (by_level runner.terms.table.graph.order a) held.node
 
--- only the terms that are out, and what was added, changed
+-- only the terms that are out, and what was added, changed; the proof goes to the same sink
 pub record IsSameRun {S : Type 0} (old new : Runner S) : Type 0 where
   pub formula : new.formula ≡ old.formula
   pub limits : new.limits ≡ old.limits
   pub kept : new.kept ≡ old.kept
   pub sizes : sizes new.terms.caches ≡ sizes old.terms.caches
+  pub origin : new.terms.table.book.origin ≡ old.terms.table.book.origin
 
 -- A call that gives a term of this function, by levels and by assignments, from these operands. Unless a write failed, the runner
 -- goes on with all the terms that were out; the new one is behind them, with a unit of its own, and it is False exactly where
@@ -112,6 +115,7 @@ pub record Releases {S : Type 0} (held : HeldTerm) (old new : Runner S) : Type 0
   pub formula : new.formula ≡ old.formula
   pub limits : new.limits ≡ old.limits
   pub refuted : new.refuted ≡ old.refuted
+  pub origin : new.terms.table.book.origin ≡ old.terms.table.book.origin
   pub continues : Continues old.terms.table new.terms.table
 
 -- the nodes of these terms

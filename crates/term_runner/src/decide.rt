@@ -1,49 +1,52 @@
 // From the moves of a plan to what was found.
-ghost use Rattle.std.specs.Prelude.{◌≡◌, ◌≢◌, ◌⊎◌, ◌≤◌, ◌+◌, ◌*◌, ℕ, List, [], Ok, Err, None, Some, IsTrue, IsFalse, IfOk, IfErr, IsSome};
+ghost use Rattle.std.specs.Prelude.{◌≡◌, ◌≢◌, ◌≤◌, ◌+◌, ◌*◌, ℕ, List, [], ◌∷◌, Ok, Err, None, Some, true, false, IsTrue, IfOk, IfErr, IsSome, OnOk};
 ghost use Rattle.std.specs.Prelude.{MatchOption};
 ghost use Rattle.std.specs.Prelude.{length, reverse};
-ghost use Rattle.std.specs.List.{list_all};
-ghost use Rattle.std.specs.FinMap as map;
 ghost use Rattle.cnf_base.specs.Formula.{Formula};
 ghost use Rattle.lrat_rules.specs.State.{clause_at};
+ghost use Rattle.clause_ledger.specs.Book.{AreTold, addition, with_next};
 ghost use Rattle.node_table.specs.declared.error.TableError.TheVariants.{NodeLimit, IdLimit, WriteFault};
 ghost use Rattle.node_table.specs.declared.node.Node.TheVariants.{False};
 ghost use Rattle.node_table.specs.Diagram.{is_node, levels};
 ghost use Rattle.node_table.specs.Progress.{Leaves, error_of};
-ghost use Rattle.node_table.specs.Table.{AddsNoEmpty};
+ghost use Rattle.node_table.specs.Table.{AddsAtMost, AddsNoEmpty, IsSame, IsSound, live_nodes};
 ghost use Rattle.reconstruction.specs.Stack.{empty_stack};
-ghost use Rattle.schedule_plan.specs.Plan.{IsAdmissible, Term};
+ghost use Rattle.schedule_plan.specs.Plan.{IsAdmissible, Term, no_stage};
 ghost use Rattle.schedule_plan.specs.SetMove.{in_order};
 ghost use Rattle.term_runner.specs.Caches.{HaveSize, all_entries};
-ghost use Rattle.term_runner.specs.Clauses.{is_tautology};
 ghost use Rattle.term_runner.specs.Recovered.{IsRecovered};
 ghost use Rattle.term_runner.specs.Price.{IsLeanAtEnd, IsMovePrice, IsPaid};
 ghost use Rattle.term_runner.specs.Width.{HasWidth};
 ghost use Rattle.term_runner.specs.Nodes.{RunsShort};
-ghost use Rattle.term_runner.specs.Opened.{LeavesKind};
-ghost use Rattle.term_runner.specs.Held.{IsReady, top_node};
+ghost use Rattle.term_runner.specs.Opened.{Decides, HasEmpty, LeavesKind};
+ghost use Rattle.term_runner.specs.Held.{IsOver, top_node};
+ghost use Rattle.term_runner.specs.Terms.{HasOwnUnits, IsAtStage, IsOpen};
 ghost use Rattle.term_runner.specs.Trail.{AreVariables, IsRecoveredBy, IsTrail};
 
 use crate::held::HeldTerm;
-use crate::open::are_tautologies;
+use crate::open::{are_tautologies, first_empty};
 use crate::progress::Progress;
 use crate::terms::Terms;
 use clause_terms::{Model, Trail, recover};
-use cnf_base::{Cnf, OutOfMemory};
+use cnf_base::{Cnf, Id, OutOfMemory};
 use host_io::Sink;
+use lrat_rules::{conflict_law, live_law, marks_law, start_law};
 use node_table::{
-    Node, Table, TableError, canonical_law, in_use_law, lean_law, steps_law, subfunction_law,
+    Node, Table, TableError, canonical_law, growth_law, in_use_law, lean_law, steps_law,
+    subfunction_law,
 };
 use reconstruction::{Reconstruction, copies_law};
 use schedule_plan::{Plan, set_move_law};
 use std::alloc::Global;
 
 impl<S: Sink + Drop> Terms<S> {
-    /// Decides a formula without empty clauses, from a table without nodes: a model, or None where the empty clause was
-    /// added. Where all clauses are tautologies no node or clause is made. The caches, which are empty and of this capacity,
-    /// are used by all moves.
+    /// Decides a formula, behind calls that gave terms of which none is out: a model, or None where the empty clause was added. It was
+    /// already where that is said. An empty clause refutes the formula by one line; where all clauses are tautologies no node or
+    /// clause is made. Else what is left of those calls goes before the first move. The caches, which are of this capacity, are used
+    /// by all moves.
     pub fn decide(
         &mut self,
+        refuted: bool,
         formula: &Cnf,
         plan: &Plan,
         capacity: u32,
@@ -51,49 +54,65 @@ impl<S: Sink + Drop> Terms<S> {
     ) -> Result<Option<Model>, TableError>
         requires plan { IsAdmissible formula.now plan.now }
         requires capacity { 1 ≤ capacity }
-        requires no_entries { all_entries self.old.caches ≡ [] }
         requires size { HaveSize self.old.caches capacity }
         requires begun { progress.old.moves ≡ 0 }
-        requires ready { IsReady formula.now self.old.table [] }
-        requires empty { self.old.table.graph.nodes ≡ map.empty }
-        requires settled { self.old.table.retired ≡ [] }
-        requires fresh { self.old.table.inputs ≡ self.old.table.book.state.top }
+        requires over { IsOver formula.now self.old.table (all_entries self.old.caches) }
+        requires refuted { IsTrue refuted → HasEmpty self.old.table }
+        requires own { refuted ≡ false → HasOwnUnits self.old }
         requires none_out { self.old.out.items ≡ [] }
         requires no_trail { self.old.trail ≡ empty_stack }
-        requires none_left { self.old.left ≡ 0 }
-        ensures found { IfOk result (λ found. MatchOption found ((id : ℕ) × (clause_at self.new.table.book.state.live id ≡ Some []))
-            (λ model. IsRecovered formula.now self.old.table.graph.order plan.now model)) }
-        ensures leaves { Leaves self.old.table self.new.table (error_of result) }
-        ensures tautologies { IsTrue (list_all is_tautology formula.now.clauses) → self.new.table ≡ self.old.table }
-        ensures open_clause { (result ≡ Err NodeLimit) ⊎ (result ≡ Err IdLimit) → IsFalse (list_all is_tautology formula.now.clauses) }
-        // However it ends, it keeps within the price of the plan's width; with a model few clauses are left.
-        ensures paid { (width price : ℕ) → HasWidth formula.now self.old.table.graph.order plan.now width
-            → IsMovePrice (levels self.old.table.graph) capacity width price
-            → LeavesKind self.old.table self.new.table
-            (IsPaid (levels self.old.table.graph) self.old.table.inputs (length plan.now) capacity width price) (error_of result) }
-        ensures lean { IfOk result (λ found. IsSome found → IsLeanAtEnd
-            (levels self.old.table.graph) self.old.table.inputs capacity self.new.table.book.state) }
-        // A node that is wanted is refused for want of room.
-        ensures short { result ≡ Err NodeLimit → RunsShort formula.now self.old.table.graph.order plan.now self.new.table.graph }
-        // A refusal leaves the formula unrefuted.
-        ensures no_empty { IfErr result (λ e. e ≢ WriteFault → AddsNoEmpty self.old.table self.new.table) }
+        ensures decides { Decides formula.now plan.now capacity self.old.table self.new.table result }
+        ensures at_once { IsTrue refuted → (result ≡ Ok None) × (self.new.table ≡ self.old.table) }
         ensures counted { progress.new.moves ≤ length plan.now }
     {
+        start_law();
+        marks_law();
+        live_law();
+        growth_law();
         steps_law::<S>();
         in_use_law();
         lean_law::<S>();
         set_move_law();
+        copies_law();
         formula.formula_law();
         self.table.table_law();
+        if refuted {
+            return Ok(None);
+        }
+        if let Some(number) = first_empty(formula) {
+            self.add_empty(Id(number as u64))?;
+            return Ok(None);
+        }
         let alloc = *self.out.allocator();
         if are_tautologies(alloc, formula) {
             let model = recover(alloc, &self.table, Node::True, &Trail::new(alloc))?;
             return Ok(Some(model));
         }
+        self.left = self.give_back(formula)?;
         self.take_moves(formula, plan, capacity, progress)
     }
 
-    // Takes the moves in turn, until the empty clause is added or the plan ends, and counts those that are done.
+    // Adds the empty clause by one hint, an empty clause that is live.
+    fn add_empty(&mut self, hint: Id) -> Result<(), TableError>
+        requires sound { IsSound self.old.table }
+        requires empty { clause_at self.old.table.book.state.live hint ≡ Some [] }
+        ensures told { OnOk result (AreTold true self.old.table.book self.new.table.book
+            (addition self.old.table.book.state [] (hint ∷ []) ∷ [])) }
+        ensures state { OnOk result (self.new.table.book.state ≡ with_next self.old.table.book.state []) }
+        ensures nodes { self.new.table.graph ≡ self.old.table.graph }
+        ensures leaves { Leaves self.old.table self.new.table (error_of result) }
+        ensures adds { AddsAtMost 1 self.old.table self.new.table }
+        ensures no_node_limit { result ≢ Err NodeLimit }
+        ensures id_limit { result ≡ Err IdLimit → self.old.table.book.limit ≤ self.old.table.book.state.top }
+        ensures refused { IfErr result (λ e. e ≢ WriteFault → IsSame self.old.table self.new.table) }
+    {
+        conflict_law();
+        let _id = self.table.justify(&[], &[hint])?;
+        Ok(())
+    }
+
+    // Takes the moves in turn, until the empty clause is added or the plan ends, and counts those that are done. No node is there at
+    // first.
     fn take_moves(
         &mut self,
         formula: &Cnf,
@@ -103,15 +122,13 @@ impl<S: Sink + Drop> Terms<S> {
     ) -> Result<Option<Model>, TableError>
         requires plan { IsAdmissible formula.now (in_order self.old.table.graph.order plan.now) }
         requires capacity { 1 ≤ capacity }
-        requires no_entries { all_entries self.old.caches ≡ [] }
         requires size { HaveSize self.old.caches capacity }
         requires begun { progress.old.moves ≡ 0 }
-        requires ready { IsReady formula.now self.old.table [] }
-        requires empty { self.old.table.graph.nodes ≡ map.empty }
+        requires ready { IsOpen formula.now self.old }
+        requires own { HasOwnUnits self.old }
+        requires at { IsAtStage formula.now self.old no_stage }
+        requires empty { live_nodes self.old.table.graph ≡ 0 }
         requires settled { self.old.table.retired ≡ [] }
-        requires fresh { self.old.table.inputs ≡ self.old.table.book.state.top }
-        requires none_out { self.old.out.items ≡ [] }
-        requires no_trail { self.old.trail ≡ empty_stack }
         requires none_left { self.old.left ≡ 0 }
         ensures found { IfOk result (λ found. MatchOption found ((id : ℕ) × (clause_at self.new.table.book.state.live id ≡ Some []))
             (λ model. IsRecovered formula.now self.old.table.graph.order plan.now model)) }
@@ -119,11 +136,11 @@ impl<S: Sink + Drop> Terms<S> {
         ensures paid { (width price : ℕ) → HasWidth formula.now self.old.table.graph.order plan.now width
             → IsMovePrice (levels self.old.table.graph) capacity width price
             → LeavesKind self.old.table self.new.table
-            (IsPaid (levels self.old.table.graph) self.old.table.inputs (length plan.now) capacity width price) (error_of result) }
+            (IsPaid (levels self.old.table.graph) self.old.table.inputs self.old.table.book.state.top (length plan.now) capacity width price)
+            (error_of result) }
         ensures lean { IfOk result (λ found. IsSome found → IsLeanAtEnd
             (levels self.old.table.graph) self.old.table.inputs capacity self.new.table.book.state) }
         ensures short { result ≡ Err NodeLimit → RunsShort formula.now self.old.table.graph.order plan.now self.new.table.graph }
-        // A refusal leaves the formula unrefuted.
         ensures no_empty { IfErr result (λ e. e ≢ WriteFault → AddsNoEmpty self.old.table self.new.table) }
         ensures counted { progress.new.moves ≤ length plan.now }
     {

@@ -1,5 +1,5 @@
 // The end of a run: the proof is flushed.
-ghost use Rattle.std.specs.Prelude.{◌≡◌, ◌≢◌, ◌<◌, ◌≤◌, ◌↔◌, ℕ, List, [], ◌∷◌, Err, None, Some, true, false, IsTrue, IfOk, IfErr, length};
+ghost use Rattle.std.specs.Prelude.{◌≡◌, ◌≢◌, ◌<◌, ◌≤◌, ◌↔◌, ℕ, List, [], ◌∷◌, Err, Ok, None, Some, true, false, IsTrue, IfOk, IfErr, length};
 ghost use Rattle.cnf_base.specs.Formula.{Formula};
 ghost use Rattle.cnf_base.specs.ProofText.{max_id};
 ghost use Rattle.lrat_rules.specs.State.{clause_at};
@@ -10,7 +10,7 @@ ghost use Rattle.node_table.specs.declared.error.TableError.TheVariants.{NodeLim
 ghost use Rattle.schedule_plan.specs.declared.limits.Limits.{Limits};
 ghost use Rattle.term_runner.specs.declared.error.RunError.TheVariants.{WriteFault as Torn};
 ghost use Rattle.term_runner.specs.Clauses.{first_empty, has_empty_clause};
-ghost use Rattle.term_runner.specs.Opened.{EndsWithin, IsFlushed, IsOpened, Leads};
+ghost use Rattle.term_runner.specs.Opened.{EndsWithin, EndsWithinFrom, IsFlushed, IsOpened, Leads};
 
 use crate::error::RunError;
 use crate::outcome::{Outcome, Run, outcome_of};
@@ -28,8 +28,10 @@ pub fn finish<S: Sink + Drop>(
 ) -> Result<Run, RunError>
     requires in_step { found ≢ Err Torn → IsTrue ledger.old.in_step }
     ensures ends { (before : Channel) (formula : Formula) (order : List ℕ) (moves : List Move) (limits : Limits)
-        → Leads S.tells before (S.channel ledger.old.sink) formula order moves limits ledger.old found
-        → EndsWithin S.tells before (S.channel ledger.new.sink) formula order moves limits result }
+        → (first : ℕ) → Leads first S.tells before (S.channel ledger.old.sink) formula order moves limits ledger.old found
+        → EndsWithinFrom first S.tells before (S.channel ledger.new.sink) formula order moves limits result }
+    ensures outcome { IfOk result (λ run. found ≡ Ok run.outcome) }
+    ensures written { (S.channel ledger.new.sink).written ≡ (S.channel ledger.old.sink).written }
     ensures origin { ledger.new.origin ≡ ledger.old.origin }
 {
     let last_id = ledger.last_id();

@@ -79,9 +79,9 @@ impl<S: Sink + Drop> Terms<S> {
         }
     }
 
-    // Gives back the nodes that neither the stack nor the trail reaches, with their clauses, and says how many are left. Where there
-    // were many, the trail reaches none, for its terms are stored.
-    fn give_back(&mut self, formula: &Cnf) -> Result<u32, TableError>
+    /// Gives back the nodes that neither the stack nor the trail reaches, with their clauses, and says how many are left. Where there
+    /// were many, the trail reaches none, for its terms are stored.
+    pub(crate) fn give_back(&mut self, formula: &Cnf) -> Result<u32, TableError>
         requires ready { IsOpen formula.now self.old }
         requires possible { (stage : Stage) × IsAtStage formula.now self.old stage }
         requires own { HasOwnUnits self.old }

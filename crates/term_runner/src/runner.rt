@@ -6,25 +6,25 @@ ghost use Rattle.cnf_base.specs.Limits.{max_vars};
 ghost use Rattle.schedule_plan.specs.Limits.{AreLimits};
 ghost use Rattle.schedule_plan.specs.Plan.{IsAdmissible};
 ghost use Rattle.term_runner.specs.Caches.{HaveSize, all_entries};
-ghost use Rattle.term_runner.specs.Ends.{Ends};
-ghost use Rattle.term_runner.specs.Opened.{EndsWithin};
+ghost use Rattle.term_runner.specs.declared.outcome.Outcome.TheVariants.{Unsat};
+ghost use Rattle.term_runner.specs.Ends.{Ends, EndsFrom};
+ghost use Rattle.term_runner.specs.Opened.{EndsWithinFrom};
 ghost use Rattle.term_runner.specs.Runner.{IsRunner};
 ghost use Rattle.term_runner.specs.Unused.{IsOpenedOver, IsUnused};
 
 use crate::caches::Caches;
 use crate::error::RunError;
-use crate::finish::{finish, refute};
+use crate::finish::finish;
 use crate::gauge::Gauge;
 use crate::held::HeldTerm;
-use crate::open::first_empty;
 use crate::outcome::{Run, outcome_of};
 use crate::progress::Progress;
 use crate::terms::Terms;
 use clause_ledger::Ledger;
 use cnf_base::{Cnf, OutOfMemory};
 use host_io::Sink;
-use lrat_rules::{derivation_law, marks_law, soundness_law, start_law};
-use node_table::{Diagram, Table, canonical_law, in_use_law, lean_law, opening_law};
+use lrat_rules::{derivation_law, soundness_law, start_law};
+use node_table::{Diagram, Table, canonical_law, in_use_law, opening_law};
 use schedule_plan::{Limits, Order, Plan};
 use std::alloc::Global;
 
@@ -116,13 +116,20 @@ impl<'a, S: Sink + Drop> Runner<'a, S> {
         }
     }
 
-    /// Runs a plan and flushes the proof, in a runner that no term was asked of. It ends as `run_plan` does.
+    /// Runs a plan and flushes the proof, once all terms are released. What they left is given back before the first move, so that the
+    /// plan's nodes and clauses are all that count then; the numbers that they took stay. Where the empty clause was added the answer is
+    /// `Unsat` at once. In a runner that no term was asked of it ends as `run_plan` does.
     pub fn run(self, plan: &Plan) -> (S, Result<Run, RunError>)
-        requires unused { IsUnused self }
+        requires runner { IsRunner self }
+        requires none_out { length self.terms.out.items ≡ 0 }
         requires plan { IsAdmissible self.formula.now plan.now }
         requires fresh { IsTrue S.tells → (S.channel self.terms.table.book.origin).written ≡ [] }
-        ensures ends { Ends S.tells (S.channel self.entry.terms.table.book.origin) (S.channel result.0) self.entry.formula.now
-            self.entry.terms.table.graph.order plan.now self.entry.limits result.1 }
+        ensures ends { EndsFrom self.entry.terms.table.book.state.top S.tells (S.channel self.entry.terms.table.book.sink) (S.channel result.0)
+            self.entry.formula.now self.entry.terms.table.graph.order plan.now self.entry.limits result.1 }
+        ensures unused { IsUnused self.entry → Ends S.tells (S.channel self.entry.terms.table.book.origin) (S.channel result.0)
+            self.entry.formula.now self.entry.terms.table.graph.order plan.now self.entry.limits result.1 }
+        ensures refuted { IsTrue self.entry.refuted → IfOk result.1 (λ run. run.outcome ≡ Unsat) }
+        ensures as_written { IsTrue self.entry.refuted → (S.channel result.0).written ≡ (S.channel self.entry.terms.table.book.sink).written }
         ensures beside { S.beside result.0 ≡ S.beside self.entry.terms.table.book.origin }
     {
         let gauge = Gauge::new(plan.len());
@@ -137,38 +144,33 @@ impl<'a, S: Sink + Drop> Runner<'a, S> {
         progress: &mut Progress<'_>,
         lets_go: bool,
     ) -> (S, Result<Run, RunError>)
-        requires unused { IsUnused self }
+        requires runner { IsRunner self }
+        requires none_out { length self.terms.out.items ≡ 0 }
         requires plan { IsAdmissible self.formula.now plan.now }
         requires fresh { IsTrue S.tells → (S.channel self.terms.table.book.origin).written ≡ [] }
         requires begun { progress.old.moves ≡ 0 }
-        ensures ends { EndsWithin S.tells (S.channel self.entry.terms.table.book.origin) (S.channel result.0) self.entry.formula.now
-            self.entry.terms.table.graph.order plan.now self.entry.limits result.1 }
+        ensures ends { EndsWithinFrom self.entry.terms.table.book.state.top S.tells (S.channel self.entry.terms.table.book.sink)
+            (S.channel result.0) self.entry.formula.now self.entry.terms.table.graph.order plan.now self.entry.limits result.1 }
+        ensures refuted { IsTrue self.entry.refuted → IfOk result.1 (λ run. run.outcome ≡ Unsat) }
+        ensures as_written { IsTrue self.entry.refuted → (S.channel result.0).written ≡ (S.channel self.entry.terms.table.book.sink).written }
         ensures counted { progress.new.moves ≤ length plan.now }
         ensures beside { S.beside result.0 ≡ S.beside self.entry.terms.table.book.origin }
     {
         start_law();
         derivation_law();
         soundness_law();
-        marks_law();
-        opening_law::<S>();
         in_use_law();
-        lean_law::<S>();
         canonical_law();
         let Runner {
             formula,
             limits,
             mut terms,
-            refuted: _,
+            refuted,
             kept: _,
         } = self;
         formula.formula_law();
-        if let Some(number) = first_empty(formula) {
-            let mut ledger = terms.into_ledger(lets_go);
-            let result = refute(&mut ledger, number);
-            ledger.book_law();
-            return (ledger.close(), result);
-        }
-        let found = terms.decide(formula, plan, limits.cache, progress);
+        terms.table.ledger().book_law();
+        let found = terms.decide(refuted, formula, plan, limits.cache, progress);
         progress.show(terms.reading(plan.len()));
         terms.table.table_law();
         let mut ledger = terms.into_ledger(lets_go);

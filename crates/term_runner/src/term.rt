@@ -129,6 +129,7 @@ impl<'a, S: Sink + Drop> Runner<'a, S> {
         ensures top { self.new.terms.table.book.state.top ≡ self.old.terms.table.book.state.top }
         ensures same { (self.new.terms.out ≡ self.old.terms.out) × (self.new.formula ≡ self.old.formula)
             × (self.new.limits ≡ self.old.limits) × (self.new.refuted ≡ self.old.refuted) × (self.new.kept ≡ self.old.kept) }
+        ensures origin { self.new.terms.table.book.origin ≡ self.old.terms.table.book.origin }
         ensures leaves { Leaves self.old.terms.table self.new.terms.table (error_of result) }
         ensures error { IfErr result (λ e. (e ≡ OutOfMemory) ⊎ (e ≡ WriteFault)) }
     {

@@ -1,25 +1,19 @@
 -- What is left to show of `proof_commands`.
-use Rattle.std.proofs.Common.{◌≡◌}
+use Rattle.std.proofs.Common.{codes, ◌≡◌}
 use Rattle.std.proofs.lemmas.Result.{IfOk-weaker}
 use Rattle.clap.specs.Words.{App, app_of, with_subcommand}
-use Rattle.command_line.specs.Parser.{check_app, drat_app, program_app, solve_app}
+use Rattle.command_line.specs.Parser.{first_commands, rewrite_app}
 use Rattle.command_line.proofs.Arguments.{added}
 use Rattle.command_line.proofs.parser.proof_commands.Goals as goal
 
-abbrev one : App
-one = with_subcommand program_app solve_app.top
-
-abbrev two : App
-two = with_subcommand one check_app.top
+abbrev with_drat : App
+with_drat = with_subcommand first_commands (rewrite_app (codes "drat")).top
 
 pub returns : goal.returns
 returns c =
-    let one_is : app_of c.in_ok-solve.solve ≡ one =
-    added c.program.result c.in_ok-solve.solve program_app solve_app c.solve_parser.result c.program.ensures
-    c.solve_parser.ensures.app c.solve_parser.ensures.local c.in_ok-solve.ensures in
-    let two_are : app_of c.in_ok-check.check ≡ two =
-    added c.in_ok-solve.solve c.in_ok-check.check one check_app c.check_parser.result one_is c.check_parser.ensures.app
-    c.check_parser.ensures.local c.in_ok-check.ensures in
-    IfOk-weaker c.with_command-3.result _ _
-    (λ r adds. added c.in_ok-check.check r two drat_app c.drat_parser.result two_are c.drat_parser.ensures.app
-    c.drat_parser.ensures.local adds) c.with_command-3.ensures
+    let drat_is : app_of c.in_ok-drat.drat ≡ with_drat =
+    added c.in_ok-check.check c.in_ok-drat.drat first_commands (rewrite_app (codes "drat")) c.drat_parser.result c.in_ok-check.ensures
+    c.drat_parser.ensures.app c.drat_parser.ensures.local c.in_ok-drat.ensures in
+    IfOk-weaker c.with_command-2.result _ _
+    (λ r adds. added c.in_ok-drat.drat r with_drat (rewrite_app (codes "trim")) c.trim_parser.result drat_is c.trim_parser.ensures.app
+    c.trim_parser.ensures.local adds) c.with_command-2.ensures

@@ -1,42 +1,64 @@
--- One clause more, one that doesn't pass, and the end.
-use Rattle.std.proofs.Common.{true, false, refl, sym, ◌∙◌, ap}
-use Rattle.std.specs.List.{list_all}
-use Rattle.std.proofs.lemmas.Bool.{and_from}
+-- One number more, one that doesn't pass, and the end.
+use Rattle.std.proofs.Common.{◌≡◌, true, false, ℕ, ℤ, List, refl, sym, ◌∙◌, ap, subst}
+use Rattle.std.specs.Prelude.{IsTrue, slice_index}
 use Rattle.std.proofs.lemmas.List.{take_all}
-use Rattle.std.proofs.lemmas.List.Folds.{list_all_at, list_all_more}
-use Rattle.drat_rules.specs.Addition.{passes_candidate}
-use Rattle.drat_checker.proofs.Propagated.{pass-at}
+use Rattle.lrat_rules.specs.Chain.{literals_of}
+use Rattle.drat_checker.specs.Places.{place_at, standing}
+use Rattle.drat_checker.specs.Numbers.{has_number}
+use Rattle.drat_checker.specs.Propagation.{place_passes}
+use Rattle.drat_checker.proofs.Settled.{settled-moved}
+use Rattle.drat_checker.proofs.Watched.{moves-none, moves-then}
+use Rattle.drat_checker.proofs.Candidates.{all-pass, one-fails, pass-step}
 use Rattle.drat_checker.proofs.addition.all_pass.Goals as goal
 
-pub loop-other-init : goal.loop-other-init
-loop-other-init c = record { same = refl; pass = refl }
+pub loop-number-init : goal.loop-number-init
+loop-number-init c = record {
+  same = refl;
+  watched = c.requires.watched;
+  moves = moves-none c.args.kept.now.pairs.items c.args.trail.now;
+  pass = λ number other none stands. absurd (cc);
+}
 
-pub loop-other-preserved : goal.loop-other-preserved
-loop-other-preserved c =
-    let clauses = c.args.clauses.now in
-    let item = c.other-item.result in
+-- the watches move on, under the same false literals
+pub passes_number-requires : goal.passes_number-requires
+passes_number-requires c = record {
+  watched = c.loop-number.invariant.watched;
+  settled = settled-moved c.args.db.now c.args.kept.now c.loop-number.kept c.args.trail.now c.loop-number.trail c.loop-number.invariant.same
+      c.loop-number.invariant.moves c.requires.settled;
+}
+
+pub loop-number-preserved : goal.loop-number-preserved
+loop-number-preserved c =
+    let places = c.args.db.now in
+    let here : place_passes (standing places) c.args.pivot c.args.trail.now (place_at places (slice_index c.numbers-numbers.result.now c.loop-number.number-index)) ≡ true =
+    ap (λ (t : List ℤ). place_passes (standing places) c.args.pivot t (place_at places (slice_index c.numbers-numbers.result.now c.loop-number.number-index)))
+    (sym c.loop-number.invariant.same)
+    ∙ sym c.in_ok-good.ensures.passes ∙ c.if-not-good.false in
     record {
-      same = c.in_ok-good.ensures.same ∙ c.loop-other.invariant.same;
-      pass = list_all_more (passes_candidate clauses c.args.pivot c.args.trail.now) clauses c.loop-other.other-index item
-          c.loop-other-test.true
-          ∙ and_from _ _ c.loop-other.invariant.pass
-          (pass-at clauses c.args.pivot c.args.trail.now c.loop-other.trail c.loop-other.other-index item c.literals.result.now
-          c.in_ok-good.good true c.other-item.is c.literals.ensures c.loop-other.invariant.same c.in_ok-good.ensures.passes
-          c.if-not-good.false);
+      same = c.in_ok-good.ensures.same ∙ c.loop-number.invariant.same;
+      watched = c.in_ok-good.ensures.watched;
+      moves = moves-then c.args.trail.now c.loop-number.trail
+          (λ x m. ap (λ (l : List ℤ). literals_of l x) c.loop-number.invariant.same ∙ m) c.loop-number.invariant.moves
+          c.in_ok-good.ensures.moves;
+      pass = pass-step places c.args.pivot c.args.trail.now c.numbers-numbers.result.now c.loop-number.number-index (slice_index c.numbers-numbers.result.now c.loop-number.number-index)
+          c.loop-number-test.true refl c.loop-number.invariant.pass here;
     }
 
-pub returns-then-not-good : goal.returns-then-not-good
-returns-then-not-good c =
-    let clauses = c.args.clauses.now in
-    let item = c.other-item.result in
-    sym (list_all_at (passes_candidate clauses c.args.pivot c.args.trail.now) clauses c.loop-other.other-index item
-    c.loop-other-test.true
-    (pass-at clauses c.args.pivot c.args.trail.now c.loop-other.trail c.loop-other.other-index item c.literals.result.now
-    c.in_ok-good.good false c.other-item.is c.literals.ensures c.loop-other.invariant.same c.in_ok-good.ensures.passes
-    c.if-not-good.true))
+pub returns-then-not-good-clause-pass : goal.returns-then-not-good-clause-pass
+returns-then-not-good-clause-pass c =
+    let places = c.args.db.now in
+    let here : place_passes (standing places) c.args.pivot c.args.trail.now (place_at places (slice_index c.numbers-numbers.result.now c.loop-number.number-index)) ≡ false =
+    ap (λ (t : List ℤ). place_passes (standing places) c.args.pivot t (place_at places (slice_index c.numbers-numbers.result.now c.loop-number.number-index)))
+    (sym c.loop-number.invariant.same)
+    ∙ sym c.in_ok-good.ensures.passes ∙ c.if-not-good.true in
+    sym (one-fails places c.args.pivot c.args.trail.now (slice_index c.numbers-numbers.result.now c.loop-number.number-index) here)
 
-pub returns : goal.returns
-returns c =
-    sym (ap (list_all (passes_candidate c.args.clauses.now c.args.pivot c.args.trail.now))
-    (sym (take_all c.loop-other.other-index c.args.clauses.now c.loop-other-test.false))
-    ∙ c.loop-other.invariant.pass)
+pub returns-clause-pass : goal.returns-clause-pass
+returns-clause-pass c =
+    let places = c.args.db.now in
+    sym (all-pass places c.args.pivot c.args.trail.now c.numbers-numbers.result.now
+    (λ number clause stands held. c.numbers-numbers.ensures number clause stands
+    (ap (literals_of clause) c.negated.ensures ∙ held))
+    (λ number other m stands. c.loop-number.invariant.pass number other
+    (subst (λ (l : List ℕ). IsTrue (has_number number l))
+    (sym (take_all c.loop-number.number-index c.numbers-numbers.result.now c.loop-number-test.false)) m) stands))

@@ -1,12 +1,17 @@
--- The clauses so far pass, and the false literals are as before.
-use Rattle.std.proofs.Common.{◌≡◌, take}
+-- The clauses of the numbers so far pass, and the false literals are as before.
+use Rattle.std.proofs.Common.{◌≡◌, ℕ, ℤ, List, Some, take}
 use Rattle.std.specs.Prelude.{IsTrue}
-use Rattle.std.specs.List.{list_all}
 use Rattle.drat_rules.specs.Addition.{passes_candidate}
+use Rattle.drat_checker.specs.Places.{place_at, standing}
+use Rattle.drat_checker.specs.Numbers.{has_number}
+use Rattle.drat_checker.specs.Watches.{AreWatched, MovesWatches}
 use Rattle.drat_checker.proofs.addition.all_pass.Given as goal
 
-abbrev pub invariant-loop-other : goal.invariant-loop-other
-invariant-loop-other l = record {
+abbrev pub invariant-loop-number : goal.invariant-loop-number
+invariant-loop-number l = record {
   same : l.trail ≡ l.fn.trail;
-  pass : IsTrue (list_all (passes_candidate l.fn.clauses l.fn.pivot l.fn.trail) (take l.other-index l.fn.clauses));
+  watched : AreWatched l.kept l.fn.db;
+  moves : MovesWatches l.fn.kept.pairs.items l.kept.pairs.items l.fn.trail;
+  pass : (number : ℕ) (other : List ℤ) → IsTrue (has_number number (take l.number-index l.numbers)) → place_at l.fn.db number ≡ Some other
+      → IsTrue (passes_candidate (standing l.fn.db) l.fn.pivot l.fn.trail other);
 }

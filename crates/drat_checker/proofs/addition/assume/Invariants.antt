@@ -2,7 +2,11 @@
 use Rattle.std.proofs.Common.{◌≡◌, ◌&&◌, take}
 use Rattle.std.specs.List.{list_all}
 use Rattle.lrat_rules.specs.Chain.{FalseSet}
+use Rattle.drat_checker.specs.Propagation.{Extends}
 use Rattle.drat_checker.proofs.addition.assume.Given as goal
 
 abbrev pub invariant-loop-literal : goal.invariant-loop-literal
-invariant-loop-literal l = (q : FalseSet) → list_all q l.trail ≡ (list_all q l.fn.trail && list_all q (take l.literal-index l.fn.clause))
+invariant-loop-literal l = record {
+  extends : Extends l.fn.trail l.trail;
+  also : (q : FalseSet) → list_all q l.trail ≡ (list_all q l.fn.trail && list_all q (take l.literal-index l.fn.clause));
+}

@@ -1,29 +1,28 @@
--- One clause more, and the end.
-use Rattle.std.proofs.Common.{refl, sym, ◌∙◌, ap}
-use Rattle.std.specs.List.{list_all}
-use Rattle.std.proofs.lemmas.Bool.{and_from}
+-- One number more, and the end.
+use Rattle.std.proofs.Common.{ℕ, List, refl, sym, ◌∙◌, ap, subst}
+use Rattle.std.specs.Prelude.{IsTrue, slice_index}
 use Rattle.std.proofs.lemmas.List.{take_all}
-use Rattle.std.proofs.lemmas.List.Folds.{list_all_more}
-use Rattle.drat_rules.specs.Addition.{passes_candidate}
+use Rattle.lrat_rules.specs.Chain.{literals_of}
+use Rattle.drat_checker.specs.Places.{standing}
+use Rattle.drat_checker.specs.Numbers.{has_number}
+use Rattle.drat_checker.proofs.Candidates.{all-pass, pass-step}
 use Rattle.drat_checker.proofs.blocked.all_blocked.Goals as goal
 
-pub loop-other-init : goal.loop-other-init
-loop-other-init c = record { pass = refl }
+pub loop-number-init : goal.loop-number-init
+loop-number-init c = record { pass = λ number other none stands. absurd (cc) }
 
-pub loop-other-preserved : goal.loop-other-preserved
-loop-other-preserved c =
-    let clauses = c.args.clauses.now in
-    let item = c.other-item.result in
-    let passes = passes_candidate clauses c.args.pivot c.args.clause.now in
-    record {
-      pass = list_all_more passes clauses c.loop-other.other-index item c.loop-other-test.true
-          ∙ and_from _ _ c.loop-other.invariant.pass
-          (ap passes (sym (c.literals.ensures ∙ c.other-item.is))
-          ∙ c.is_blocked_by-blocked.ensures c.if-not-blocked.false clauses);
-    }
+pub loop-number-preserved : goal.loop-number-preserved
+loop-number-preserved c = record {
+  pass = pass-step c.args.db.now c.args.pivot c.args.clause.now c.numbers-numbers.result.now c.loop-number.number-index (slice_index c.numbers-numbers.result.now c.loop-number.number-index)
+      c.loop-number-test.true refl c.loop-number.invariant.pass
+      (c.is_number_blocked-blocked.ensures c.if-not-blocked.false (standing c.args.db.now));
+}
 
 pub returns : goal.returns
 returns c = λ _.
-    ap (list_all (passes_candidate c.args.clauses.now c.args.pivot c.args.clause.now))
-    (sym (take_all c.loop-other.other-index c.args.clauses.now c.loop-other-test.false))
-    ∙ c.loop-other.invariant.pass
+    all-pass c.args.db.now c.args.pivot c.args.clause.now c.numbers-numbers.result.now
+    (λ number clause stands held. c.numbers-numbers.ensures number clause stands
+    (ap (literals_of clause) c.negated.ensures ∙ held))
+    (λ number other m stands. c.loop-number.invariant.pass number other
+    (subst (λ (l : List ℕ). IsTrue (has_number number l))
+    (sym (take_all c.loop-number.number-index c.numbers-numbers.result.now c.loop-number-test.false)) m) stands)

@@ -1,42 +1,65 @@
--- One pass more, and the last one.
-use Rattle.std.proofs.Common.{◌≡◌, ◌≤◌, length, arith}
-use Rattle.drat_checker.proofs.Propagated.{extends-none, extends-then, extends-longer, same-none, same-then, ended, refuted}
+-- One literal more, a false clause, and the end.
+use Rattle.std.proofs.Common.{◌<◌, ◌≤◌, length, arith}
+use Rattle.drat_checker.specs.Places.{standing}
+use Rattle.drat_checker.specs.Watches.{IsSettled}
+use Rattle.drat_checker.proofs.Propagated.{none-before}
+use Rattle.drat_checker.proofs.Derived.{derives-none, derives-then, derives-extends, derives-same}
+use Rattle.drat_checker.proofs.Settled.{guard-end, guard-next, holds-more, settled-closed}
+use Rattle.drat_checker.proofs.Visited.{more-false}
+use Rattle.drat_checker.proofs.Watched.{moves-none, moves-then}
 use Rattle.drat_checker.proofs.propagation.propagate.Goals as goal
 
-pub passes-init : goal.passes-init
-passes-init c = record { extends = extends-none c.args.trail.now; same = same-none c.args.clauses.now c.args.trail.now }
-
-pub passes-preserved : goal.passes-preserved
-passes-preserved c = record {
-  extends = extends-then c.passes.invariant.extends c.in_ok-conflict.ensures.extends;
-  same = same-then c.passes.invariant.same c.in_ok-conflict.ensures.same;
+pub literals-init : goal.literals-init
+literals-init c = record {
+  watched = c.requires.watched;
+  moves = moves-none c.args.kept.now.pairs.items c.args.trail.now;
+  derives = derives-none (standing c.args.db.now) c.args.trail.now;
+  guarded = c.requires.guarded;
+  holds = c.requires.holds;
 }
 
-pub passes-smaller : goal.passes-smaller
-passes-smaller c =
-    let more : length c.passes.trail ≤ length c.pass_over.new.trail = extends-longer c.in_ok-conflict.ensures.extends in
-    omega arith
+pub literals-preserved : goal.literals-preserved
+literals-preserved c =
+    let so_far = c.literals.invariant in
+    let step = c.in_ok-conflict.ensures in
+    let e = derives-extends step.derives in
+    let within : c.literals.place < length c.literals.trail = omega (arith, c.literals-test.true, c.len.ensures) in
+    record {
+      watched = step.watched;
+      moves = moves-then c.args.trail.now c.literals.trail (more-false (derives-extends so_far.derives)) so_far.moves step.moves;
+      derives = derives-then so_far.derives step.derives;
+      guarded = guard-next c.args.db.now c.literals.kept.pairs.items c.visit.new.self.pairs.items c.literals.trail c.visit.new.trail
+          c.literals.place c.literal-literal.result within c.literal-literal.ensures e so_far.guarded step.moves (step.visited c.if-conflict.false);
+      holds = holds-more c.args.db.now e so_far.holds;
+    }
 
 pub returns-then-conflict-clause-conflict : goal.returns-then-conflict-clause-conflict
-returns-then-conflict-clause-conflict c =
-    refuted c.quiet_law.ensures.none c.quiet_law.ensures.fails c.args.clauses.now c.args.trail.now c.passes.trail
-    c.passes.invariant.same (c.in_ok-conflict.ensures.conflict c.if-conflict.true)
+returns-then-conflict-clause-conflict c = λ is.
+    none-before c.quiet_law.ensures.none c.quiet_law.ensures.fails (standing c.args.db.now) c.args.trail.now c.literals.trail
+    (derives-same c.propagation_law.ensures.forced c.literals.invariant.derives)
+    (c.in_ok-conflict.ensures.conflict c.if-conflict.true)
 
-pub returns-then-conflict-clause-extends : goal.returns-then-conflict-clause-extends
-returns-then-conflict-clause-extends c = extends-then c.passes.invariant.extends c.in_ok-conflict.ensures.extends
+pub returns-then-conflict-clause-derives : goal.returns-then-conflict-clause-derives
+returns-then-conflict-clause-derives c = derives-then c.literals.invariant.derives c.in_ok-conflict.ensures.derives
 
-pub returns-then-conflict-clause-same : goal.returns-then-conflict-clause-same
-returns-then-conflict-clause-same c = same-then c.passes.invariant.same c.in_ok-conflict.ensures.same
+pub returns-then-conflict-clause-moves : goal.returns-then-conflict-clause-moves
+returns-then-conflict-clause-moves c =
+    moves-then c.args.trail.now c.literals.trail (more-false (derives-extends c.literals.invariant.derives)) c.literals.invariant.moves
+    c.in_ok-conflict.ensures.moves
 
-pub returns-then-settled-clause-conflict : goal.returns-then-settled-clause-conflict
-returns-then-settled-clause-conflict c =
-    let kept : length c.pass_over.new.trail ≡ length c.passes.trail = omega arith in
-    ended c.quiet_law.ensures.none c.quiet_law.ensures.fails c.args.clauses.now c.args.trail.now c.pass_over.new.trail
-    (same-then c.passes.invariant.same c.in_ok-conflict.ensures.same) c.apart_law.ensures
-    (c.in_ok-conflict.ensures.closed c.if-conflict.false kept)
+pub returns-clause-settled : goal.returns-clause-settled
+returns-clause-settled c = λ is.
+    let past : length c.literals.trail ≤ c.literals.place = omega (arith, c.literals-test.false, c.len.ensures) in
+    record {
+      guarded = guard-end c.args.db.now c.literals.kept.pairs.items c.literals.place c.literals.trail past c.literals.invariant.guarded;
+      holds = c.literals.invariant.holds;
+    }
 
-pub returns-then-settled-clause-extends : goal.returns-then-settled-clause-extends
-returns-then-settled-clause-extends c = extends-then c.passes.invariant.extends c.in_ok-conflict.ensures.extends
-
-pub returns-then-settled-clause-same : goal.returns-then-settled-clause-same
-returns-then-settled-clause-same c = same-then c.passes.invariant.same c.in_ok-conflict.ensures.same
+pub returns-clause-closed : goal.returns-clause-closed
+returns-clause-closed c = λ is.
+    let past : length c.literals.trail ≤ c.literals.place = omega (arith, c.literals-test.false, c.len.ensures) in
+    let settled : IsSettled c.literals.kept c.args.db.now c.literals.trail = record {
+      guarded = guard-end c.args.db.now c.literals.kept.pairs.items c.literals.place c.literals.trail past c.literals.invariant.guarded;
+      holds = c.literals.invariant.holds;
+    } in
+    settled-closed c.literals.kept c.args.db.now c.literals.trail c.literals.invariant.watched.watched.are c.apart_law.ensures settled

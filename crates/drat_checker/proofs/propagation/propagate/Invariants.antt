@@ -1,13 +1,18 @@
--- What passes keep; each but the last makes more literals false, and a list has fewer than 2 ^ 64.
-use Rattle.std.proofs.Common.{◌-◌, ◌^◌, length}
-use Rattle.drat_checker.specs.Propagation.{Extends, SameQuiet}
+-- The literals before the place are propagated; and a list has fewer than 2 ^ 64.
+use Rattle.std.proofs.Common.{◌-◌, ◌^◌, take}
+use Rattle.drat_checker.specs.Places.{standing}
+use Rattle.drat_checker.specs.Propagation.{Derives}
+use Rattle.drat_checker.specs.Watches.{AreTrue, AreWatched, IsGuarded, MovesWatches}
 use Rattle.drat_checker.proofs.propagation.propagate.Given as goal
 
-abbrev pub invariant-passes : goal.invariant-passes
-invariant-passes l = record {
-  extends : Extends l.fn.trail l.trail;
-  same : SameQuiet l.fn.clauses l.fn.trail l.trail;
+abbrev pub invariant-literals : goal.invariant-literals
+invariant-literals l = record {
+  watched : AreWatched l.kept l.fn.db;
+  moves : MovesWatches l.fn.kept.pairs.items l.kept.pairs.items l.fn.trail;
+  derives : Derives (standing l.fn.db) l.fn.trail l.trail;
+  guarded : IsGuarded l.fn.db l.kept.pairs.items (take l.place l.trail) l.trail;
+  holds : AreTrue l.fn.db l.trail;
 }
 
-abbrev pub decreases-passes : goal.decreases-passes
-decreases-passes l = 2 ^ 64 - length l.trail
+abbrev pub decreases-literals : goal.decreases-literals
+decreases-literals l = 2 ^ 64 - l.place

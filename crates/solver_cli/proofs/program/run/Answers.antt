@@ -17,6 +17,12 @@ returns g c = record {
         sound = c.check_drat_law.ensures.refuted;
         verified = c.check_drat_law.ensures.verified;
         overlong = c.check_drat_law.ensures.overlong;
+      })
+      (record {
+        refutes = c.trim_law.ensures.refutes;
+        named = c.trim_law.ensures.named;
+        verified = c.trim_law.ensures.verified;
+        again = c.trim_law.ensures.again;
       }))
       _ (g.H.Host.channel c.work-status.new.host) (g.H.Host.files c.work-status.new.host) c.requires.unnamed
       c.work-status.ensures.stages c.work-status.ensures.told c.work-status.ensures.files c.complain.ensures.complains

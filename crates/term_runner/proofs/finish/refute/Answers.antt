@@ -1,9 +1,9 @@
 -- What is left to show of `refute`.
-use Rattle.std.proofs.Common.{Result, ap, sym, subst, ◌∙◌}
+use Rattle.std.proofs.Common.{Result, length, ap, sym, subst, ◌∙◌}
 use Rattle.term_runner.specs.declared.error.RunError.{RunError}
 use Rattle.term_runner.specs.declared.outcome.Outcome.{Outcome}
 use Rattle.term_runner.specs.Opened.{IsBehind, Leads}
-use Rattle.term_runner.proofs.Ending.{behind_of}
+use Rattle.term_runner.proofs.Ending.{behind_of, within_at_start}
 use Rattle.term_runner.proofs.OneLine.{Added, added_leads, added_book}
 use Rattle.term_runner.proofs.finish.refute.Goals as goal
 
@@ -27,6 +27,7 @@ returns-clause-ends g c formula order moves limits opened fresh first has some =
     c.derivation_law.ensures.refutes_by_step
     g.S.Sink.tells (g.S.Sink.channel old.origin) (g.S.Sink.channel new.sink) c.args.number old new c.add_empty-found.result added
     formula order moves limits opened c.last_id-last.ensures.numbers behind first has some in
-    c.finish.ensures.ends (g.S.Sink.channel old.origin) formula order moves limits
-    (subst (λ (o : Result Outcome RunError). Leads g.S.Sink.tells (g.S.Sink.channel old.origin)
-    (g.S.Sink.channel new.sink) formula order moves limits new o) (sym c.outcome_of.ensures) leads)
+    within_at_start g.S.Sink.tells (g.S.Sink.channel old.origin) (g.S.Sink.channel c.finish.new.ledger.sink) formula order moves limits
+    c.finish.result (c.finish.ensures.ends (g.S.Sink.channel old.origin) formula order moves limits (length formula.clauses)
+    (subst (λ (o : Result Outcome RunError). Leads (length formula.clauses) g.S.Sink.tells (g.S.Sink.channel old.origin)
+    (g.S.Sink.channel new.sink) formula order moves limits new o) (sym c.outcome_of.ensures) leads))

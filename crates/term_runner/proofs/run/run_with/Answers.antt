@@ -1,17 +1,17 @@
 -- What is left to show of `run_with`.
-use Rattle.std.proofs.Common.{rules, MutBor, ◌≡◌, ℕ, List, [], refl, ap, ◌∙◌, subst}
+use Rattle.std.proofs.Common.{rules, MutBor, ◌≡◌, ℕ, List, [], length, refl, ap, ◌∙◌, subst}
 use Rattle.std.specs.Prelude.{IsTrue}
 use Rattle.cnf_base.specs.Formula.{Formula}
 use Rattle.schedule_plan.specs.declared.limits.Limits.{Limits}
 use Rattle.host_io.specs.Channel.{Channel}
 use Rattle.term_runner.specs.declared.runner.Runner.{Runner}
 use Rattle.clause_ledger.specs.Book.{Book}
-use Rattle.lrat_rules.specs.State.{start}
+use Rattle.lrat_rules.specs.State.{State, start}
 use Rattle.lrat_rules.specs.Derivation.{IsWritten}
-use Rattle.term_runner.specs.Opened.{EndsWithin, IsOpened}
+use Rattle.term_runner.specs.Opened.{EndsWithin, EndsWithinFrom, IsOpened}
 use Rattle.term_runner.specs.Price.{IsPaidFor}
 use Rattle.term_runner.specs.Proofs.{KeepsWithin}
-use Rattle.term_runner.proofs.Ending.{inner_kept, lender_kept, nothing_ends}
+use Rattle.term_runner.proofs.Ending.{inner_kept, lender_kept, nothing_ends, within_at_start}
 use Rattle.term_runner.proofs.OneLine.{some_moves, start_paid, start_within}
 use Rattle.term_runner.proofs.Opening.{whole_at_start, written_at_start}
 use Rattle.term_runner.proofs.run.run_with.Given.{Over}
@@ -70,22 +70,29 @@ module _ (g : Over) (c : After-run_counting-sink g) where
   abbrev runner : Runner (MutBor g.row.S.Denot)
   runner = c.new-runner.result
 
+  -- no step was told before
   ended : EndsWithin g.S.Sink.tells (channel c.args.sink.now) (channel c.run_counting-sink.result.0.now) c.args.formula.now c.args.order.now
       c.args.plan.now c.args.limits c.run_counting-sink.result.1
   ended =
       let opened = c.new-runner.ensures.opened in
+      let unused = opened.unused in
       let tells = g.S.Sink.tells in
       let after = channel c.run_counting-sink.result.0.now in
       let result = c.run_counting-sink.result.1 in
       let moves = c.args.plan.now in
-      subst (λ (s : MutBor g.row.S.Denot). EndsWithin tells (channel s.now) after c.args.formula.now c.args.order.now moves c.args.limits result)
-      opened.origin
-      (subst (λ (f : Formula). EndsWithin tells (channel runner.terms.table.book.origin.now) after f c.args.order.now moves c.args.limits result)
-      opened.of_formula
-      (subst (λ (o : List ℕ). EndsWithin tells (channel runner.terms.table.book.origin.now) after runner.formula.now o moves c.args.limits
-      result) opened.of_order
-      (subst (λ (l : Limits). EndsWithin tells (channel runner.terms.table.book.origin.now) after runner.formula.now
-      runner.terms.table.graph.order moves l result) opened.within c.run_counting-sink.ensures.ends)))
+      let book = runner.terms.table.book in
+      let first : book.state.top ≡ length runner.formula.now.clauses = ap (λ (s : State). s.top) unused.book.state in
+      within_at_start tells (channel c.args.sink.now) after c.args.formula.now c.args.order.now moves c.args.limits result
+      (subst (λ (s : MutBor g.row.S.Denot). EndsWithinFrom (length c.args.formula.now.clauses) tells (channel s.now) after c.args.formula.now
+      c.args.order.now moves c.args.limits result) (unused.sink ∙ opened.origin)
+      (subst (λ (f : Formula). EndsWithinFrom (length f.clauses) tells (channel book.sink.now) after f c.args.order.now moves c.args.limits
+      result) opened.of_formula
+      (subst (λ (o : List ℕ). EndsWithinFrom (length runner.formula.now.clauses) tells (channel book.sink.now) after runner.formula.now o moves
+      c.args.limits result) opened.of_order
+      (subst (λ (l : Limits). EndsWithinFrom (length runner.formula.now.clauses) tells (channel book.sink.now) after runner.formula.now
+      runner.terms.table.graph.order moves l result) opened.within
+      (subst (λ (n : ℕ). EndsWithinFrom n tells (channel book.sink.now) after runner.formula.now runner.terms.table.graph.order moves
+      runner.limits result) first c.run_counting-sink.ensures.ends)))))
 
   -- what is beside it
   still_beside : g.S.Sink.beside c.run_counting-sink.result.0.now ≡ g.S.Sink.beside c.args.sink.now
@@ -114,3 +121,6 @@ returns-clause-beside g c =
       lender_kept c.run_counting-sink.ensures.beside
           ∙ ap (λ (s : MutBor g.row.S.Denot). s.ghost_name) c.new-runner.ensures.opened.origin,
     )) (still_beside g inside)
+
+pub run_counting-sink-requires-clause-none_out : goal.run_counting-sink-requires-clause-none_out
+run_counting-sink-requires-clause-none_out g c = ap length c.new-runner.ensures.opened.unused.none_out

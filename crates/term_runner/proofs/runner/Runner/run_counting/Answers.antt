@@ -1,123 +1,130 @@
 -- What is left to show of `run_counting`.
-use Rattle.std.proofs.Common.{◌≡◌, Result, [], sym, ap, ◌∙◌, subst}
-use Rattle.std.specs.Prelude.{IsTrue}
+use Rattle.std.proofs.Common.{◌≡◌, ◌∙◌, ℤ, Bool, true, false, List, [], Option, None, Result, Ok, Err, refl, sym, ap, subst}
+use Rattle.std.specs.Prelude.{IfOk, IsTrue}
 use Rattle.host_io.specs.Channel.{Channel}
-use Rattle.clause_ledger.specs.Book.{Book}
+use Rattle.clause_ledger.specs.Book.{Book, IsBook, IsProofOf}
+use Rattle.node_table.specs.declared.error.TableError.{TableError}
+use Rattle.node_table.specs.HandedOn.{no_error}
 use Rattle.node_table.specs.Progress.{error_of}
 use Rattle.node_table.specs.Table.{TableState}
 use Rattle.term_runner.specs.declared.error.RunError.{RunError}
 use Rattle.term_runner.specs.declared.outcome.Outcome.{Outcome}
+use Rattle.term_runner.specs.declared.outcome.Outcome.TheVariants.{Unsat}
+use Rattle.term_runner.specs.declared.outcome.Run.{Run}
+use Rattle.term_runner.specs.Caches.{all_entries}
 use Rattle.term_runner.specs.Ends.{outcome_of}
-use Rattle.term_runner.specs.Held.{IsReady}
-use Rattle.term_runner.specs.Opened.{EndsWithin, IsBehind, IsOpened, Leads}
-use Rattle.term_runner.proofs.Ending.{behind_of}
+use Rattle.term_runner.specs.Opened.{EndsWithinFrom, IsBehind, Leads}
+use Rattle.term_runner.proofs.Ending.{behind_of, behind_since}
 use Rattle.term_runner.proofs.Leaving.{formula_left, origin_left, went_on}
-use Rattle.term_runner.proofs.OneLine.{some_moves}
-use Rattle.term_runner.proofs.Opening.{decided_leads, over_at}
+use Rattle.term_runner.proofs.Opening.{decided_leads}
+use Rattle.term_runner.proofs.Resting.{empty_added, nothing, owns_nothing}
 use Rattle.term_runner.proofs.runner.Runner.run_counting.Goals as goal
 
-pub returns-in-Some-clause-ends : goal.returns-in-Some-clause-ends
-returns-in-Some-clause-ends g c =
-    let formula = c.args.self.formula.now in
-    let limits = c.args.self.limits in
-    let order = c.args.self.terms.table.graph.order in
-    let old = c.args.self.terms.table.book in
-    let tells = g.S.Sink.tells in
-    let channel : g.row.S.Denot → Channel = g.S.Sink.channel in
-    let ledger = c.into_ledger-ledger.result in
-    let opened : IsOpened formula limits.max_ids ledger = subst (λ (b : Book g.row.S.Denot). IsOpened formula limits.max_ids b)
-    (sym c.into_ledger-ledger.ensures) c.requires.unused.book in
-    let fresh : IsTrue tells → (channel ledger.origin).written ≡ [] = λ t.
-    ap (λ (b : Book g.row.S.Denot). (channel b.origin).written) c.into_ledger-ledger.ensures ∙ c.requires.fresh t in
-    subst (λ (s : g.row.S.Denot). EndsWithin tells (channel old.origin) (channel s) formula order c.args.plan.now limits c.refute-result.result)
-    (sym c.close.ensures)
-    (subst (λ (b : Book g.row.S.Denot). EndsWithin tells (channel b.origin) (channel c.refute-result.new.ledger.sink) formula order c.args.plan.now
-    limits c.refute-result.result) c.into_ledger-ledger.ensures
-    (c.refute-result.ensures.ends formula order c.args.plan.now limits opened fresh c.in-Some.ensures.0 c.in-Some.ensures.1
-    (some_moves formula c.args.plan.now c.requires.plan c.in-Some.ensures.1)))
+pub decide-found-requires-clause-capacity : goal.decide-found-requires-clause-capacity
+decide-found-requires-clause-capacity g c = c.requires.runner.within.allowed.cache
 
-pub decide-found-requires-clause-ready : goal.decide-found-requires-clause-ready
-decide-found-requires-clause-ready g c =
-    let unused = c.requires.unused in
-    let table = c.args.self.terms.table in
-    let formula = c.args.self.formula.now in
-    record {
-      over = over_at c.start_law.ensures.clauses c.opening_law.ensures formula table.graph.order table.book table
-          c.args.self.limits.max_nodes unused.table unused.book.state unused.book.in_step unused.order unused.vars
-          c.formula_law.ensures.literals;
-      none_empty = c.in_default.ensures;
-    }
+pub decide-found-requires-clause-size : goal.decide-found-requires-clause-size
+decide-found-requires-clause-size g c = c.requires.runner.within.size
+
+pub decide-found-requires-clause-over : goal.decide-found-requires-clause-over
+decide-found-requires-clause-over g c = c.requires.runner.over
+
+pub decide-found-requires-clause-refuted : goal.decide-found-requires-clause-refuted
+decide-found-requires-clause-refuted g c is = empty_added c.args.self c.requires.runner is
+
+pub decide-found-requires-clause-own : goal.decide-found-requires-clause-own
+decide-found-requires-clause-own g c clean = owns_nothing c.args.self c.requires.runner c.requires.none_out clean
+
+pub decide-found-requires-clause-none_out : goal.decide-found-requires-clause-none_out
+decide-found-requires-clause-none_out g c = nothing c.args.self.terms.out.items c.requires.none_out
+
+pub decide-found-requires-clause-no_trail : goal.decide-found-requires-clause-no_trail
+decide-found-requires-clause-no_trail g c = c.requires.runner.no_trail
+
+-- a refusal comes only where the empty clause wasn't added before
+clean_before : {Q : Type 0} (refuted : Bool) (found : Result (Option (List Bool)) TableError)
+    → (refuted ≡ true → found ≡ Ok None) → (refuted ≡ false → Q) → (error : TableError) → found ≡ Err error → Q
+clean_before true found at_once none error is = absurd (no_error (sym (at_once refl) ∙ is))
+clean_before false found at_once none error is = none refl
 
 pub returns-clause-ends : goal.returns-clause-ends
 returns-clause-ends g c =
-    let unused = c.requires.unused in
+    let runner = c.requires.runner in
     let formula = c.args.self.formula.now in
     let limits = c.args.self.limits in
     let moves = c.args.plan.now in
     let table = c.args.self.terms.table in
     let order = table.graph.order in
+    let first = table.book.state.top in
     let tells = g.S.Sink.tells in
     let channel : g.row.S.Denot → Channel = g.S.Sink.channel in
     let new = c.decide-found.new.self.table in
     let found = c.decide-found.result in
     let told = c.decide-found.ensures in
-    let ledger = c.into_ledger-ledger-2.result in
-    let kept : ledger ≡ new.book = c.into_ledger-ledger-2.ensures in
-    let same : new.book.origin ≡ table.book.origin = origin_left table new (error_of found) told.leaves in
-    let of_formula : new.book.formula ≡ formula.clauses = formula_left table new (error_of found) told.leaves ∙ unused.book.of_formula in
-    let before : Channel = channel new.book.origin in
+    let leaves = told.decides.leaves in
+    let ledger = c.into_ledger-ledger.result in
+    let kept : ledger ≡ new.book = c.into_ledger-ledger.ensures in
+    let same : new.book.origin ≡ table.book.origin = origin_left table new (error_of found) leaves in
+    let of_formula : new.book.formula ≡ formula.clauses = formula_left table new (error_of found) leaves ∙ runner.within.of_formula in
+    let law : IsBook tells channel g.S.Sink.beside table.book = subst (IsBook tells channel g.S.Sink.beside) c.ledger.ensures c.book_law.ensures.book in
+    let begun : IsProofOf formula.clauses table.book.steps table.book.state =
+    subst (λ (clauses : List (List ℤ)). IsProofOf clauses table.book.steps table.book.state) runner.within.of_formula law.proof in
+    let origin : Channel = channel new.book.origin in
+    let before : Channel = channel table.book.sink in
     let after : Channel = channel new.book.sink in
-    let fresh : IsTrue tells → before.written ≡ [] = λ t. ap (λ (s : g.row.S.Denot). (channel s).written) same ∙ c.requires.fresh t in
-    let behind : IsBehind tells before after formula.clauses new.book =
+    let fresh : IsTrue tells → origin.written ≡ [] = λ t. ap (λ (s : g.row.S.Denot). (channel s).written) same ∙ c.requires.fresh t in
+    let from_origin : IsBehind tells origin after formula.clauses new.book =
     subst (λ (b : Book g.row.S.Denot). IsBehind tells (channel b.origin) (channel b.sink) formula.clauses b) kept
     (behind_of tells channel _ ledger formula.clauses (ap (λ (b : Book g.row.S.Denot). b.formula) kept ∙ of_formula)
     (λ t. ap (λ (b : Book g.row.S.Denot). (channel b.origin).written) kept ∙ fresh t) c.book_law-2.ensures.book c.book_law-2.ensures.cut) in
-    let ready : IsReady formula table [] = record {
-      over = over_at c.start_law.ensures.clauses c.opening_law.ensures formula order table.book table limits.max_nodes unused.table
-          unused.book.state unused.book.in_step unused.order unused.vars c.formula_law.ensures.literals;
-      none_empty = c.in_default.ensures;
-    } in
-    let unwritten : table.book.sink ≡ new.book.origin = unused.sink ∙ sym same in
-    let leads = decided_leads c.canonical_law.ensures c.soundness_law.ensures.derived c.derivation_law.ensures.refutes c.in_use_law.ensures
-    tells before after formula order moves limits table new found unused.book behind ready
-    (ap (λ (t : TableState g.row.S.Denot). t.inputs) unused.table)
-    (ap (λ (t : TableState g.row.S.Denot). t.max_nodes) unused.table)
-    (record {
-      found = told.found;
-      leaves = told.leaves;
-      tautologies = λ all. ap (λ (t : TableState g.row.S.Denot). (channel t.book.sink).written) (told.tautologies all)
-          ∙ ap (λ (s : g.row.S.Denot). (channel s).written) unwritten;
-      open_clause = told.open_clause;
-      short = told.short;
-      paid = told.paid;
-      lean = told.lean;
-      no_empty = told.no_empty;
-      few = c.table_law.ensures.few_nodes;
-    }) in
-    let outcome = subst (λ (o : Result Outcome RunError). Leads tells before after formula order moves limits new.book o)
+    let behind : IsBehind tells before after formula.clauses new.book =
+    behind_since tells origin before after formula.clauses new.book
+    (law.since.name ∙ ap (λ (s : g.row.S.Denot). (channel s).name) (sym same))
+    (law.since.unfailed runner.over.sound.in_step ∙ ap (λ (s : g.row.S.Denot). (channel s).faults) (sym same)) from_origin in
+    let leads = decided_leads c.canonical_law.ensures c.soundness_law.ensures.derived c.derivation_law.ensures.refutes_by_step
+    c.start_law.ensures.none_above c.in_use_law.ensures tells before after formula moves limits table new c.args.self.terms.caches
+    (all_entries c.args.self.terms.caches) found c.formula_law.ensures.literals runner.over runner.within begun behind
+    (clean_before c.args.self.refuted found (λ is. (told.at_once is).0) runner.unrefuted)
+    (λ unchanged. ap (λ (t : TableState g.row.S.Denot). (channel t.book.sink).written) unchanged) c.table_law.ensures.few_nodes
+    told.decides in
+    let outcome = subst (λ (o : Result Outcome RunError). Leads first tells before after formula order moves limits new.book o)
     (sym c.outcome_of.ensures) leads in
-    let handed = subst (λ (b : Book g.row.S.Denot). Leads tells before (channel b.sink) formula order moves limits b c.outcome_of.result)
-    (sym kept) outcome in
-    let ended = c.finish-result.ensures.ends before formula order moves limits handed in
-    subst (λ (s : g.row.S.Denot). EndsWithin tells (channel table.book.origin) (channel s) formula order moves limits c.finish-result.result)
-    (sym c.close-2.ensures)
-    (subst (λ (s : g.row.S.Denot). EndsWithin tells (channel s) (channel c.finish-result.new.ledger.sink) formula order moves limits
-    c.finish-result.result) same ended)
+    let handed = subst (λ (b : Book g.row.S.Denot). Leads first tells before (channel b.sink) formula order moves limits b
+    c.outcome_of.result) (sym kept) outcome in
+    let ended = c.finish-result.ensures.ends before formula order moves limits first handed in
+    subst (λ (s : g.row.S.Denot). EndsWithinFrom first tells before (channel s) formula order moves limits c.finish-result.result)
+    (sym c.close.ensures) ended
 
 pub finish-result-requires : goal.finish-result-requires
 finish-result-requires g c = record {
-  in_step = λ whole. ap (λ (b : Book g.row.S.Denot). b.in_step) c.into_ledger-ledger-2.ensures
-      ∙ (went_on c.args.self.terms.table c.decide-found.new.self.table c.decide-found.result c.decide-found.ensures.leaves
+  in_step = λ whole. ap (λ (b : Book g.row.S.Denot). b.in_step) c.into_ledger-ledger.ensures
+      ∙ (went_on c.args.self.terms.table c.decide-found.new.self.table c.decide-found.result c.decide-found.ensures.decides.leaves
       (λ torn. whole (c.outcome_of.ensures ∙ ap outcome_of torn))).sound.in_step;
 }
 
+-- an outcome that was found is the run's
+outcome_is : (found other : Result Outcome RunError) (result : Result Run RunError) → found ≡ other → other ≡ Ok Unsat
+    → IfOk result (λ run. found ≡ Ok run.outcome) → IfOk result (λ run. run.outcome ≡ Unsat)
+outcome_is found other (Ok run) one two is = inside run.outcome (sym is ∙ one ∙ two)
+  where
+    inside : (outcome : Outcome) → ◌≡◌ {A = Result Outcome RunError} (Ok outcome) (Ok Unsat) → outcome ≡ Unsat
+    inside outcome e = cc
+outcome_is found other (Err e) one two is = tt
+
+pub returns-clause-refuted : goal.returns-clause-refuted
+returns-clause-refuted g c is =
+    outcome_is c.outcome_of.result (outcome_of c.decide-found.result) c.finish-result.result c.outcome_of.ensures
+    (ap outcome_of (c.decide-found.ensures.at_once is).0) c.finish-result.ensures.outcome
+
+pub returns-clause-as_written : goal.returns-clause-as_written
+returns-clause-as_written g c is =
+    let channel : g.row.S.Denot → Channel = g.S.Sink.channel in
+    ap (λ (s : g.row.S.Denot). (channel s).written) c.close.ensures ∙ c.finish-result.ensures.written
+    ∙ ap (λ (b : Book g.row.S.Denot). (channel b.sink).written) c.into_ledger-ledger.ensures
+    ∙ ap (λ (t : TableState g.row.S.Denot). (channel t.book.sink).written) (c.decide-found.ensures.at_once is).1
+
 pub returns-clause-beside : goal.returns-clause-beside
 returns-clause-beside g c =
-    ap g.S.Sink.beside c.close-2.ensures ∙ c.book_law-3.ensures.book.rest
-    ∙ ap g.S.Sink.beside (c.finish-result.ensures.origin ∙ ap (λ (b : Book g.row.S.Denot). b.origin) c.into_ledger-ledger-2.ensures
-    ∙ origin_left c.args.self.terms.table c.decide-found.new.self.table (error_of c.decide-found.result) c.decide-found.ensures.leaves)
-
-pub returns-in-Some-clause-beside : goal.returns-in-Some-clause-beside
-returns-in-Some-clause-beside g c =
-    ap g.S.Sink.beside c.close.ensures ∙ c.book_law.ensures.book.rest
-    ∙ ap g.S.Sink.beside (c.refute-result.ensures.origin ∙ ap (λ (b : Book g.row.S.Denot). b.origin) c.into_ledger-ledger.ensures)
+    ap g.S.Sink.beside c.close.ensures ∙ c.book_law-3.ensures.book.rest
+    ∙ ap g.S.Sink.beside (c.finish-result.ensures.origin ∙ ap (λ (b : Book g.row.S.Denot). b.origin) c.into_ledger-ledger.ensures
+    ∙ origin_left c.args.self.terms.table c.decide-found.new.self.table (error_of c.decide-found.result) c.decide-found.ensures.decides.leaves)

@@ -1,26 +1,38 @@
 -- What is left to show of `decide`.
-use Rattle.std.proofs.Common.{rules, ◌≡◌, ℕ, List, length, reverse, sym, subst, ◌∙◌, arith}
-use Rattle.node_table.specs.Diagram.{levels}
-use Rattle.node_table.specs.declared.node.Node.{Node}
-use Rattle.node_table.specs.declared.node.Node.TheVariants.{True}
-use Rattle.clause_terms.specs.Recovery.{IsRecoveredFrom}
+use Rattle.std.proofs.Common.{◌≡◌, ◌<◌, ◌≤◌, ◌∙◌, ℕ, Bool, true, false, List, [], length, reverse, Option, Result, Err, refl, sym, ap, subst}
+use Rattle.std.proofs.Common.{inl, inr}
+use Rattle.std.specs.List.{list_all}
+use Rattle.std.proofs.lemmas.Bool.{cases_lt}
 use Rattle.cnf_base.specs.Formula.{Formula}
 use Rattle.cnf_base.specs.Order.{IsOrder}
-use Rattle.schedule_plan.specs.declared.plan.Move.{Move}
-use Rattle.schedule_plan.specs.Plan.{IsAdmissible}
-use Rattle.schedule_plan.specs.SetMove.{SetMoves, in_order}
-use Rattle.term_runner.specs.Price.{IsPaid}
+use Rattle.node_table.specs.declared.error.TableError.{TableError}
 use Rattle.node_table.specs.declared.error.TableError.TheVariants.{OutOfMemory}
-use Rattle.node_table.specs.HandedOn.{if_handed}
-use Rattle.term_runner.proofs.NoEmpty.{no_change}
-use Rattle.term_runner.proofs.Paid.{kind_of_memory, lean_here, none_added}
+use Rattle.node_table.specs.declared.node.Node.{Node}
+use Rattle.node_table.specs.declared.node.Node.TheVariants.{True}
+use Rattle.node_table.specs.HandedOn.{handed_on}
+use Rattle.node_table.specs.Progress.{Continues}
+use Rattle.node_table.specs.Table.{live_nodes}
+use Rattle.clause_terms.specs.Recovery.{IsRecoveredFrom}
+use Rattle.reconstruction.specs.Stack.{Stack}
+use Rattle.schedule_plan.specs.declared.plan.Move.{Move}
+use Rattle.schedule_plan.specs.Plan.{IsAdmissible, no_stage}
+use Rattle.schedule_plan.specs.SetMove.{SetMoves, in_order}
+use Rattle.term_runner.specs.declared.held.HeldTerm.{HeldTerm}
+use Rattle.term_runner.specs.Caches.{all_entries}
+use Rattle.term_runner.specs.Clauses.{is_tautology}
+use Rattle.term_runner.specs.Opened.{Decides}
+use Rattle.term_runner.specs.Terms.{IsAtStage}
+use Rattle.term_runner.specs.Tidy.{LeavesReached, held_nodes}
+use Rattle.term_runner.proofs.Between.{at_first}
+use Rattle.term_runner.proofs.Decided.{decides_kept, decides_line, decides_model, decides_moves, decides_no_line, decides_nothing, decides_refuted}
+use Rattle.term_runner.proofs.Decided.{no_node_yet, none_left}
+use Rattle.term_runner.proofs.OneLine.{some_moves}
 use Rattle.term_runner.proofs.Plans.{all_hold}
-use Rattle.term_runner.proofs.Priced.{no_nodes}
 use Rattle.term_runner.proofs.Tautologies.{tautologies_satisfied}
 use Rattle.term_runner.proofs.Trails.{tautologies_recovered}
 use Rattle.term_runner.proofs.terms.Terms.decide.Given.{Over}
 use Rattle.term_runner.proofs.terms.Terms.decide.Goals as goal
-use Rattle.term_runner.proofs.terms.Terms.decide.Goals.{After-are_tautologies}
+use Rattle.term_runner.proofs.terms.Terms.decide.Goals.{After-table_law}
 
 -- the plan is admissible in the order of the variables
 in_its_order : SetMoves → (formula : Formula) (order : List ℕ) (moves : List Move) → IsOrder order → length order ≡ formula.vars
@@ -28,77 +40,169 @@ in_its_order : SetMoves → (formula : Formula) (order : List ℕ) (moves : List
 in_its_order law formula order moves ordered same plan =
     law.alike formula moves (in_order order moves) (law.ordered formula order moves ordered same plan) plan
 
+-- at the call
+module _ (g : Over) (c : After-table_law g) where
+  continues : Continues c.args.self.now.table c.args.self.now.table
+  continues = (c.steps_law.ensures.none c.args.self.now.table c.requires.over.sound).leaves
+
+  none_yet : c.args.self.now.table.book.state.top ≡ c.args.self.now.table.inputs → live_nodes c.args.self.now.table.graph ≡ 0
+  none_yet = no_node_yet c.marks_law.ensures.start c.marks_law.ensures.fewer c.start_law.ensures.clauses c.in_use_law.ensures
+      c.args.formula.now c.args.self.now.table (all_entries c.args.self.now.caches) c.formula_law.ensures.literals c.requires.over
+
+  ordered_plan : IsAdmissible c.args.formula.now (in_order c.args.self.now.table.graph.order c.args.plan.now)
+  ordered_plan = in_its_order c.set_move_law.ensures c.args.formula.now c.args.self.now.table.graph.order c.args.plan.now
+      c.table_law.ensures.ordered c.requires.over.vars c.requires.plan
+
+  at_start : IsAtStage c.args.formula.now c.args.self.now no_stage
+  at_start = at_first c.args.formula.now c.args.self.now.table.graph c.args.self.now.table.book.state.live c.args.self.now.out.items
+      c.args.self.now.trail c.requires.none_out c.requires.no_trail (c.copies_law.ensures.none c.args.self.now.table.graph [])
+
+pub returns-then-refuted-clause-decides : goal.returns-then-refuted-clause-decides
+returns-then-refuted-clause-decides g c =
+    let at = (goal.at.returns-then-refuted-clause-decides g c).After-table_law in
+    decides_refuted c.lean_law.ensures.lean c.in_use_law.ensures c.args.formula.now c.args.plan.now c.args.capacity c.args.self.now.table
+    (all_entries c.args.self.now.caches) c.requires.over (continues g at) (none_yet g at) (c.requires.refuted c.if-refuted.true)
+
+pub returns-in_err-add_empty-clause-decides : goal.returns-in_err-add_empty-clause-decides
+returns-in_err-add_empty-clause-decides g c =
+    let at = (goal.at.returns-in_err-add_empty-clause-decides g c).After-table_law in
+    let old = c.args.self.now.table in
+    let new = c.add_empty.new.self.table in
+    let came = c.in_err-add_empty.field-0.0 in
+    let refused = c.in_err-add_empty.ensures in
+    subst (λ (r : Result (Option (List Bool)) TableError). Decides c.args.formula.now c.args.plan.now c.args.capacity old new r)
+    (sym (handed_on _ came came c.from_residual.ensures.1 refl))
+    (decides_no_line c.lean_law.ensures.lean c.in_use_law.ensures c.args.formula.now c.args.plan.now c.args.capacity old
+    (all_entries c.args.self.now.caches) c.requires.over (continues g at) (none_yet g at) new c.in-Some.number c.add_empty.ensures.nodes
+    c.add_empty.ensures.adds c.in-Some.ensures.1 (some_moves c.args.formula.now c.args.plan.now c.requires.plan c.in-Some.ensures.1)
+    came refused.leaves (λ is. refused.no_node_limit (ap Err is)) (λ is. refused.id_limit (ap Err is)) refused.refused)
+
+pub returns-in-Some-clause-decides : goal.returns-in-Some-clause-decides
+returns-in-Some-clause-decides g c =
+    let at = (goal.at.returns-in-Some-clause-decides g c).After-table_law in
+    let old = c.args.self.now.table in
+    let done = c.in_ok-add_empty.ensures in
+    decides_line c.lean_law.ensures.lean c.in_use_law.ensures c.args.formula.now c.args.plan.now c.args.capacity old
+    (all_entries c.args.self.now.caches) c.requires.over (continues g at) (none_yet g at) c.add_empty.new.self.table c.in-Some.number
+    c.add_empty.ensures.nodes c.add_empty.ensures.adds c.in-Some.ensures.1
+    (some_moves c.args.formula.now c.args.plan.now c.requires.plan c.in-Some.ensures.1) c.live_law.ensures done.leaves done.state done.told
+    c.in-Some.ensures.0
+
+pub returns-in_err-model-clause-decides : goal.returns-in_err-model-clause-decides
+returns-in_err-model-clause-decides g c =
+    let at = (goal.at.returns-in_err-model-clause-decides g c).After-table_law in
+    let old = c.args.self.now.table in
+    subst (λ (r : Result (Option (List Bool)) TableError). Decides c.args.formula.now c.args.plan.now c.args.capacity old old r)
+    (sym (handed_on _ OutOfMemory OutOfMemory c.from_residual-in_err-model.ensures.1 refl))
+    (decides_nothing c.lean_law.ensures.lean c.in_use_law.ensures c.args.formula.now c.args.plan.now c.args.capacity old
+    (all_entries c.args.self.now.caches) c.requires.over (continues g at) (none_yet g at))
+
+pub returns-then-are_tautologies-clause-decides : goal.returns-then-are_tautologies-clause-decides
+returns-then-are_tautologies-clause-decides g c =
+    let at = (goal.at.returns-then-are_tautologies-clause-decides g c).After-table_law in
+    let formula = c.args.formula.now in
+    let old = c.args.self.now.table in
+    let all : list_all is_tautology formula.clauses ≡ true = sym c.are_tautologies.ensures ∙ c.if-are_tautologies.true in
+    decides_model c.lean_law.ensures.lean c.in_use_law.ensures formula c.args.plan.now c.args.capacity old
+    (all_entries c.args.self.now.caches) c.requires.over (continues g at) (none_yet g at) all c.in_ok-model.model
+    (tautologies_recovered formula old.graph c.args.plan.now (ordered_plan g at) c.table_law.ensures.ordered
+    c.formula_law.ensures.literals c.requires.over.vars
+    (λ a. all_hold formula a (tautologies_satisfied a formula.vars formula.clauses c.formula_law.ensures.literals all))
+    c.in_ok-model.model
+    (subst (λ (trail : List (ℕ × Node)). IsRecoveredFrom old.graph True (reverse trail) c.in_ok-model.model) c.new.ensures
+    c.in_ok-model.ensures.recovered))
+
+pub give_back-requires-clause-ready : goal.give_back-requires-clause-ready
+give_back-requires-clause-ready g c = record { over = c.requires.over; none_empty = c.in_default.ensures }
+
+pub give_back-requires-clause-possible : goal.give_back-requires-clause-possible
+give_back-requires-clause-possible g c = (no_stage, at_start g (goal.at.give_back-requires-clause-possible g c).After-table_law)
+
+pub give_back-requires-clause-own : goal.give_back-requires-clause-own
+give_back-requires-clause-own g c = c.requires.own c.if-refuted.false
+
+pub returns-in_err-self-clause-decides : goal.returns-in_err-self-clause-decides
+returns-in_err-self-clause-decides g c =
+    let at = (goal.at.returns-in_err-self-clause-decides g c).After-table_law in
+    let old = c.args.self.now.table in
+    let came = c.in_err-self.field-0.0 in
+    let back = c.in_err-self.ensures in
+    subst (λ (r : Result (Option (List Bool)) TableError). Decides c.args.formula.now c.args.plan.now c.args.capacity old
+    c.give_back.new.self.table r) (sym (handed_on _ came came c.from_residual-in_err-self.ensures.1 refl))
+    (decides_kept c.lean_law.ensures.lean c.in_use_law.ensures c.args.formula.now c.args.plan.now c.args.capacity old
+    (all_entries c.args.self.now.caches) c.requires.over (continues g at) (none_yet g at) c.give_back.new.self.table back.kept
+    c.give_back.ensures.top came back.error back.leaves (sym c.are_tautologies.ensures ∙ c.if-are_tautologies.false))
+
+-- no term is out, and nothing was quantified
+roots_none : (out : List HeldTerm) (old new : Stack) (live : ℕ) → out ≡ [] → old.recent ≡ [] → (1000 ≤ live → new.recent ≡ [])
+    → (live < 1000 → new.recent ≡ old.recent) → held_nodes out new.recent ≡ []
+roots_none out old new live none bare alone few = elim (cases_lt live 1000) [
+  | inl less ↦ (λ k. held_nodes (none k) ((few less ∙ bare) k))
+  | inr more ↦ (λ k. held_nodes (none k) (alone more k))
+]
+
 pub take_moves-requires-clause-plan : goal.take_moves-requires-clause-plan
 take_moves-requires-clause-plan g c =
-    in_its_order c.set_move_law.ensures c.args.formula.now c.args.self.now.table.graph.order c.args.plan.now c.table_law.ensures.ordered
-    c.requires.ready.over.vars c.requires.plan
+    subst (λ (order : List ℕ). IsAdmissible c.args.formula.now (in_order order c.args.plan.now)) (sym c.in_ok-self.ensures.leaves.order)
+    (ordered_plan g (goal.at.take_moves-requires-clause-plan g c).After-table_law)
 
-pub returns-then-are_tautologies-clause-found : goal.returns-then-are_tautologies-clause-found
-returns-then-are_tautologies-clause-found g c =
-    let formula = c.args.formula.now in
-    tautologies_recovered formula c.args.self.now.table.graph c.args.plan.now
-    (in_its_order c.set_move_law.ensures formula c.args.self.now.table.graph.order c.args.plan.now c.table_law.ensures.ordered
-    c.requires.ready.over.vars c.requires.plan) c.table_law.ensures.ordered
-    c.formula_law.ensures.literals c.requires.ready.over.vars
-    (λ a. all_hold formula a (tautologies_satisfied a formula.vars formula.clauses c.formula_law.ensures.literals
-    (sym c.are_tautologies.ensures ∙ c.if-are_tautologies.true)))
-    c.in_ok-model.model
-    (subst (λ (trail : List (ℕ × Node)). IsRecoveredFrom c.args.self.now.table.graph True
-    (reverse trail) c.in_ok-model.model) c.new.ensures c.in_ok-model.ensures.recovered)
+pub take_moves-requires-clause-size : goal.take_moves-requires-clause-size
+take_moves-requires-clause-size g c = c.give_back.ensures.sizes ∙ c.requires.size
 
-pub returns-then-are_tautologies-clause-leaves : goal.returns-then-are_tautologies-clause-leaves
-returns-then-are_tautologies-clause-leaves g c = (c.steps_law.ensures.none c.args.self.now.table c.requires.ready.over.sound).leaves
+pub take_moves-requires-clause-at : goal.take_moves-requires-clause-at
+take_moves-requires-clause-at g c = c.in_ok-self.ensures.at no_stage (at_start g (goal.at.take_moves-requires-clause-at g c).After-table_law)
 
-pub returns-clause-found : goal.returns-clause-found
-returns-clause-found g c = c.take_moves.ensures.found
+pub take_moves-requires-clause-empty : goal.take_moves-requires-clause-empty
+take_moves-requires-clause-empty g c =
+    let old = c.args.self.now in
+    let new = c.give_back.new.self in
+    let back = c.in_ok-self.ensures in
+    none_left old.table.graph new.table.graph
+    (subst (LeavesReached old.table.graph new.table.graph)
+    (roots_none new.out.items old.trail new.trail (live_nodes old.table.graph)
+    ((λ k. (c.give_back.ensures.same.0 k).items) ∙ c.requires.none_out)
+    (ap (λ (trail : Stack). trail.recent) c.requires.no_trail) back.alone back.few) back.reached)
 
-pub returns-clause-leaves : goal.returns-clause-leaves
-returns-clause-leaves g c = c.take_moves.ensures.leaves
+pub take_moves-requires-clause-none_left : goal.take_moves-requires-clause-none_left
+take_moves-requires-clause-none_left g c =
+    let old = c.args.self.now in
+    let new = c.give_back.new.self in
+    let back = c.in_ok-self.ensures in
+    back.count ∙ none_left old.table.graph new.table.graph
+    (subst (LeavesReached old.table.graph new.table.graph)
+    (roots_none new.out.items old.trail new.trail (live_nodes old.table.graph)
+    ((λ k. (c.give_back.ensures.same.0 k).items) ∙ c.requires.none_out)
+    (ap (λ (trail : Stack). trail.recent) c.requires.no_trail) back.alone back.few) back.reached)
 
-pub returns-clause-short : goal.returns-clause-short
-returns-clause-short g c = c.take_moves.ensures.short
+pub returns-clause-decides : goal.returns-clause-decides
+returns-clause-decides g c =
+    let at = (goal.at.returns-clause-decides g c).After-table_law in
+    let old = c.args.self.now.table in
+    let moved = c.take_moves.ensures in
+    decides_moves c.lean_law.ensures.lean c.in_use_law.ensures c.args.formula.now c.args.plan.now c.args.capacity old
+    (all_entries c.args.self.now.caches) c.requires.over (continues g at) (none_yet g at) c.steps_law.ensures c.give_back.new.self.table
+    c.take_moves.new.self.table c.in_ok-self.ensures.leaves c.give_back.ensures.top
+    (sym c.are_tautologies.ensures ∙ c.if-are_tautologies.false) c.in_default.ensures c.take_moves.result moved.found moved.leaves moved.paid
+    moved.lean moved.short moved.no_empty
 
--- nothing was added to the formula's clauses
-none_there : (g : Over) (c : After-are_tautologies g) (width price : ℕ)
-    → IsPaid (levels c.args.self.now.table.graph) c.args.self.now.table.inputs
-    (length c.args.plan.now) c.args.capacity width price c.args.self.now.table.book.state
-none_there g c width price =
-    let table = c.args.self.now.table in
-    let sound = c.requires.ready.over.sound in
-    let none = no_nodes table.graph c.requires.empty in
-    let uses = c.in_use_law.ensures table.graph table.book.state sound.tied in
-    let lean = lean_here c.lean_law.ensures.lean table sound 0 (none_added table sound c.requires.fresh) in
-    record {
-      within = record { numbers = omega (arith, c.requires.fresh); nodes = omega (arith, none, uses) };
-      lean = omega (arith, lean);
-    }
+-- it wasn't refuted before
+not_both : (b : Bool) → b ≡ true → b ≡ false → ⊥
+not_both b is other = let e : true ≡ false = sym is ∙ other in cc
 
-pub returns-then-are_tautologies-clause-paid : goal.returns-then-are_tautologies-clause-paid
-returns-then-are_tautologies-clause-paid g c width price has is = none_there g
-    (goal.at.returns-then-are_tautologies-clause-paid g c).After-are_tautologies width price
+pub returns-in_err-add_empty-clause-at_once : goal.returns-in_err-add_empty-clause-at_once
+returns-in_err-add_empty-clause-at_once g c is = absurd (not_both c.args.refuted is c.if-refuted.false)
 
-pub returns-in_err-model-clause-paid : goal.returns-in_err-model-clause-paid
-returns-in_err-model-clause-paid g c width price has is =
-    kind_of_memory c.args.self.now.table c.args.self.now.table
-    (IsPaid (levels c.args.self.now.table.graph) c.args.self.now.table.inputs (length c.args.plan.now) c.args.capacity width price) _
-    (search rules)
-    (none_there g (goal.at.returns-in_err-model-clause-paid g c).After-are_tautologies width price)
+pub returns-in-Some-clause-at_once : goal.returns-in-Some-clause-at_once
+returns-in-Some-clause-at_once g c is = absurd (not_both c.args.refuted is c.if-refuted.false)
 
-pub returns-clause-paid : goal.returns-clause-paid
-returns-clause-paid g c = c.take_moves.ensures.paid
+pub returns-in_err-model-clause-at_once : goal.returns-in_err-model-clause-at_once
+returns-in_err-model-clause-at_once g c is = absurd (not_both c.args.refuted is c.if-refuted.false)
 
-pub returns-then-are_tautologies-clause-lean : goal.returns-then-are_tautologies-clause-lean
-returns-then-are_tautologies-clause-lean g c some =
-    let table = c.args.self.now.table in
-    let sound = c.requires.ready.over.sound in
-    let lean = lean_here c.lean_law.ensures.lean table sound 0 (none_added table sound c.requires.fresh) in
-    omega (arith, lean)
+pub returns-then-are_tautologies-clause-at_once : goal.returns-then-are_tautologies-clause-at_once
+returns-then-are_tautologies-clause-at_once g c is = absurd (not_both c.args.refuted is c.if-refuted.false)
 
-pub returns-clause-lean : goal.returns-clause-lean
-returns-clause-lean g c = c.take_moves.ensures.lean
+pub returns-in_err-self-clause-at_once : goal.returns-in_err-self-clause-at_once
+returns-in_err-self-clause-at_once g c is = absurd (not_both c.args.refuted is c.if-refuted.false)
 
-pub returns-clause-no_empty : goal.returns-clause-no_empty
-returns-clause-no_empty g c = c.take_moves.ensures.no_empty
-
-pub returns-in_err-model-clause-no_empty : goal.returns-in_err-model-clause-no_empty
-returns-in_err-model-clause-no_empty g c = if_handed _ OutOfMemory _ c.from_residual.ensures.1 (λ whole. no_change c.args.self.now.table)
+pub returns-clause-at_once : goal.returns-clause-at_once
+returns-clause-at_once g c is = absurd (not_both c.args.refuted is c.if-refuted.false)

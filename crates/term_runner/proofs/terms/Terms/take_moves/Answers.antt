@@ -1,6 +1,6 @@
 -- What is left to show of `take_moves`.
-use Rattle.std.proofs.Common.{rules, ◌≡◌, ℕ, suc, ◌+◌, ◌*◌, ◌≤◌, Bool, true, List, [], Option, Result, length, take, reverse, None, Some}
-use Rattle.std.proofs.Common.{Ok, Err, ap}
+use Rattle.std.proofs.Common.{rules, ◌≡◌, ℕ, suc, ◌+◌, ◌*◌, ◌≤◌, Bool, true, List, Option, Result, length, take, reverse, None, Some}
+use Rattle.std.proofs.Common.{Ok, Err, ap, refl}
 use Rattle.std.proofs.Common.{sym, ◌∙◌, subst, arith, inl, inr}
 use Rattle.std.proofs.Math.Nat.{mul-le-mul_right}
 use Rattle.std.specs.List.{slice_get}
@@ -12,7 +12,6 @@ use Rattle.node_table.specs.declared.error.TableError.TheVariants.{NodeLimit, Ou
 use Rattle.node_table.specs.declared.error.TableError.{TableError}
 use Rattle.node_table.specs.Progress.{Leaves}
 use Rattle.node_table.specs.Table.{live_nodes}
-use Rattle.operations.specs.Entries.{Entry}
 use Rattle.schedule_plan.specs.declared.plan.Move.{Move}
 use Rattle.schedule_plan.specs.Plan.{Stage, after_move, after_moves, no_stage}
 use Rattle.schedule_plan.specs.SetMove.{in_order, move_in_order}
@@ -25,12 +24,11 @@ use Rattle.term_runner.specs.Price.{IsLeanAtEnd, IsMovePrice, IsPaid, most_nodes
 use Rattle.term_runner.specs.Width.{HasWidth, HoldsAtMost}
 use Rattle.term_runner.specs.Nodes.{IsGivenPart, KeepsOrMakes}
 use Rattle.term_runner.specs.Opened.{LeavesKind}
-use Rattle.term_runner.specs.Held.{IsReady, top_node}
+use Rattle.term_runner.specs.Held.{top_node}
 use Rattle.node_table.specs.HandedOn.{no_error, came_from, if_handed, no_answer, same_error}
 use Rattle.term_runner.proofs.Stacks.{top_stands, top_value}
-use Rattle.term_runner.proofs.Between.{IsNext, at_first, at_last, leads_here, next_at, some_at, step_at}
+use Rattle.term_runner.proofs.Between.{IsNext, at_last, leads_here, next_at, some_at, step_at}
 use Rattle.term_runner.specs.Caches.{all_entries}
-use Rattle.term_runner.proofs.Giving.{units_none}
 use Rattle.term_runner.proofs.Least.{recovered}
 use Rattle.term_runner.proofs.Trails.{are_variables}
 use Rattle.term_runner.proofs.Leaving.{error_handed, memory_left}
@@ -40,7 +38,7 @@ use Rattle.term_runner.proofs.Planned.{moved_on}
 use Rattle.term_runner.proofs.Few.{added_between, has_added, held_length}
 use Rattle.term_runner.proofs.FewLeft.{few_left, in_hand_behind}
 use Rattle.term_runner.proofs.Paid.{kind_of_memory, lean_here, paid_behind}
-use Rattle.term_runner.proofs.Priced.{moved_few, no_nodes, one_more, tidy_few}
+use Rattle.term_runner.proofs.Priced.{moved_few, one_more, tidy_few}
 use Rattle.term_runner.proofs.terms.Terms.take_moves.Given.{Over}
 use Rattle.term_runner.proofs.terms.Terms.take_moves.Goals as goal
 use Rattle.term_runner.proofs.terms.Terms.take_moves.Goals.{After-few_law-2, After-take_move}
@@ -51,22 +49,18 @@ unreachable-requires g c = some_at c.args.plan.now c.moves.i (omega (arith, c.mo
 
 pub moves-init : goal.moves-init
 moves-init g c =
-    let formula = c.args.formula.now in
     let table = c.args.self.now.table in
     record {
       few = omega arith;
       counted = c.requires.begun;
-      tidy = inl (let none = no_nodes table.graph c.requires.empty in omega (arith, none));
+      tidy = inl (omega (arith, c.requires.empty));
       left = λ width has. omega (arith, c.requires.none_left);
       price = λ width price has is. omega arith;
       size = c.requires.size;
-      between = at_first formula (in_order c.args.self.now.table.graph.order c.args.plan.now) table.graph table.book.state.live
-          c.args.self.now.out.items c.args.self.now.trail
-          c.requires.none_out c.requires.no_trail (c.copies_law.ensures.none table.graph []);
-      ready = subst (λ (kept : List Entry). IsReady formula table kept) (sym c.requires.no_entries) c.requires.ready;
+      between = record { stage = no_stage; front = refl; rest = refl; at = c.requires.at };
+      ready = c.requires.ready;
       settled = c.requires.settled;
-      own = units_none table (all_entries c.args.self.now.caches) c.args.self.now.out.items c.requires.ready.over.sound c.requires.fresh
-          c.requires.none_out;
+      own = c.requires.own;
       continues = (c.steps_law.ensures.none table c.requires.ready.over.sound).leaves;
       no_empty = no_change table;
     }
@@ -384,7 +378,8 @@ paid_so_far : (g : Over) (c : After-take_move g) (width price : ℕ)
     → IsMovePrice (levels c.args.self.now.table.graph) c.args.capacity width price
     → (error : Option TableError) → Leaves c.moves.self.table c.take_move.new.self.table error
     → LeavesKind c.args.self.now.table c.take_move.new.self.table
-    (IsPaid (levels c.args.self.now.table.graph) c.args.self.now.table.inputs (length c.args.plan.now) c.args.capacity width price) error
+    (IsPaid (levels c.args.self.now.table.graph) c.args.self.now.table.inputs c.args.self.now.table.book.state.top (length c.args.plan.now)
+    c.args.capacity width price) error
 paid_so_far g c width price has is error leaves =
     let first = c.args.self.now.table in
     let mid = c.moves.self.table in
@@ -396,16 +391,16 @@ paid_so_far g c width price has is error leaves =
     c.moves.invariant.settled c.moves.invariant.own c.moves.invariant.between in
     let all = within_all (c.moves.i + 1) (length c.args.plan.now) price first.book.state.top new.book.state.top
     (omega (arith, c.moves-test.true, c.len-i-end.ensures)) (so_far g c width price has is) in
-    paid_behind c.lean_law.ensures.lean c.in_use_law.ensures first mid new c.moves.invariant.continues c.args.capacity
+    paid_behind c.lean_law.ensures.lean c.in_use_law.ensures first mid new c.moves.invariant.continues first.book.state.top c.args.capacity
     (2 * c.args.capacity + length (reverse c.moves.self.out.items)) (length c.args.plan.now) width price
-    added.0 (omega (arith, added.1, c.requires.ready.over.counted)) (omega (arith, all, c.requires.fresh)) (near_by g c width price has is)
+    added.0 (omega (arith, added.1, c.requires.ready.over.counted)) (omega (arith, all)) (near_by g c width price has is)
     (nodes_so_far g c width has) error leaves
 
 pub returns-in_err-take_move-clause-paid : goal.returns-in_err-take_move-clause-paid
 returns-in_err-take_move-clause-paid g c width price has is =
     let first = c.args.self.now.table in
     let new = c.take_move.new.self.table in
-    let kind = IsPaid (levels first.graph) first.inputs (length c.args.plan.now) c.args.capacity width price in
+    let kind = IsPaid (levels first.graph) first.inputs first.book.state.top (length c.args.plan.now) c.args.capacity width price in
     subst (λ (error : Option TableError). LeavesKind first new kind error) (sym
     (error_handed _ c.in_err-take_move.field-0.0 c.from_residual.ensures.1))
     (paid_so_far g (goal.at.returns-in_err-take_move-clause-paid g c).After-take_move width price has is
@@ -421,7 +416,7 @@ returns-then-branch-clause-paid g c width price has is = paid_so_far g
 paid_at_last : (g : Over) (c : After-few_law-2 g) (width price : ℕ)
     → HasWidth c.args.formula.now c.args.self.now.table.graph.order c.args.plan.now width
     → IsMovePrice (levels c.args.self.now.table.graph) c.args.capacity width price
-    → IsPaid (levels c.args.self.now.table.graph) c.args.self.now.table.inputs
+    → IsPaid (levels c.args.self.now.table.graph) c.args.self.now.table.inputs c.args.self.now.table.book.state.top
     (length c.args.plan.now) c.args.capacity width price c.moves.self.table.book.state
 paid_at_last g c width price has is =
     let first = c.args.self.now.table in
@@ -434,15 +429,16 @@ paid_at_last g c width price has is =
     let all = within_all c.moves.i (length c.args.plan.now) price first.book.state.top mid.book.state.top c.moves.invariant.few
     (c.moves.invariant.price width price has is) in
     let few = tidy_few (live_nodes mid.graph) c.moves.self.left width c.moves.invariant.tidy (c.moves.invariant.left width has) in
-    paid_behind c.lean_law.ensures.lean c.in_use_law.ensures first mid mid c.moves.invariant.continues c.args.capacity
+    paid_behind c.lean_law.ensures.lean c.in_use_law.ensures first mid mid c.moves.invariant.continues first.book.state.top c.args.capacity
     (2 * c.args.capacity + length (reverse c.moves.self.out.items)) (length c.args.plan.now) width price
-    added.0 (omega (arith, added.1, c.requires.ready.over.counted)) (omega (arith, all, c.requires.fresh)) (omega arith)
+    added.0 (omega (arith, added.1, c.requires.ready.over.counted)) (omega (arith, all)) (omega arith)
     (omega (arith, few)) None (c.steps_law.ensures.none mid c.moves.invariant.ready.over.sound).leaves
 
 pub returns-in_err-model-clause-paid : goal.returns-in_err-model-clause-paid
 returns-in_err-model-clause-paid g c width price has is =
     kind_of_memory c.args.self.now.table c.moves.self.table
-    (IsPaid (levels c.args.self.now.table.graph) c.args.self.now.table.inputs (length c.args.plan.now) c.args.capacity width price) _
+    (IsPaid (levels c.args.self.now.table.graph) c.args.self.now.table.inputs c.args.self.now.table.book.state.top (length c.args.plan.now)
+    c.args.capacity width price) _
     (search rules)
     (paid_at_last g (goal.at.returns-in_err-model-clause-paid g c).After-few_law-2 width price has is)
 

@@ -1,0 +1,61 @@
+// The parser's commands that make another proof, with their texts of help.
+ghost use Rattle.std.specs.Prelude.{◌≡◌, IfOk, codes, false};
+ghost use Rattle.clap.specs.Words.{app_of};
+ghost use Rattle.clap.specs.declared.Command.TheViews.{out-Command};
+ghost use Rattle.command_line.specs.Parser.{rewrite_app};
+
+use crate::args::{Texts, command, formula_arg, lax_arg, needed_arg, proof_file_arg};
+use clap::Command;
+use std::alloc::{AllocError, Global};
+
+const DRAT: Texts<'static> = Texts {
+    about: "Judges PROOF as check does, and writes it as a DRAT proof to P",
+    usage: "bddsat drat FILE PROOF --out P [--lax]",
+    after: "\
+Example:
+  bddsat drat formula.cnf formula.lrat --out formula.drat",
+};
+
+const TRIM: Texts<'static> = Texts {
+    about: "Judges PROOF as check does, and writes what it needs to P",
+    usage: "bddsat trim FILE PROOF --out P [--lax]",
+    after: "\
+Example:
+  bddsat trim formula.cnf formula.lrat --out trimmed.lrat",
+};
+
+const PROOF_HELP: &str = "The proof, in LRAT";
+
+const DRAT_HELP: &str = "The DRAT proof. PROOF itself by another name would be emptied";
+
+const TRIM_HELP: &str = "The trimmed proof, made once PROOF is verified";
+
+pub fn drat_parser<'a>(alloc: Global) -> Result<Command<'a>, AllocError>
+    ensures app { IfOk result (λ command. app_of command ≡ rewrite_app (codes "drat")) }
+    ensures local { IfOk result (λ command. (out-Command command).has_globals ≡ false) }
+{
+    rewrite_parser(alloc, "drat", DRAT, DRAT_HELP)
+}
+
+pub fn trim_parser<'a>(alloc: Global) -> Result<Command<'a>, AllocError>
+    ensures app { IfOk result (λ command. app_of command ≡ rewrite_app (codes "trim")) }
+    ensures local { IfOk result (λ command. (out-Command command).has_globals ≡ false) }
+{
+    rewrite_parser(alloc, "trim", TRIM, TRIM_HELP)
+}
+
+fn rewrite_parser<'a>(
+    alloc: Global,
+    name: &'a str,
+    texts: Texts<'a>,
+    out_help: &'a str,
+) -> Result<Command<'a>, AllocError>
+    ensures app { IfOk result (λ command. app_of command ≡ rewrite_app name.entry.now) }
+    ensures local { IfOk result (λ command. (out-Command command).has_globals ≡ false) }
+{
+    command(alloc, name, texts)
+        .arg(formula_arg(alloc))?
+        .arg(proof_file_arg(alloc, PROOF_HELP))?
+        .arg(needed_arg(alloc, "out", "P", out_help))?
+        .arg(lax_arg(alloc))
+}

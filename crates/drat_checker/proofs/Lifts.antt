@@ -1,0 +1,18 @@
+-- What follows from a clause on an answer, for the same answer.
+use Rattle.std.proofs.Common.{◌≡◌, subst, Option, None, Some, Result, Ok, Err, OnOk, IfOk, IfSome}
+
+pub if-ok : {T E : Type 0} {P Q : T → Type 0} (r : Result T E) → ((x : T) → P x → Q x) → IfOk r P → IfOk r Q
+if-ok (Ok x) f h = f x h
+if-ok (Err e) f h = tt
+
+pub on-ok : {T E : Type 0} {P Q : Type 0} (r : Result T E) → (P → Q) → OnOk r P → OnOk r Q
+on-ok (Ok x) f h = f h
+on-ok (Err e) f h = tt
+
+pub if-some-any : {T : Type 0} {P : T → Type 0} (o : Option T) → ((x : T) → P x) → IfSome o P
+if-some-any None f = tt
+if-some-any (Some x) f = f x
+
+pub if-some-at : {T : Type 0} (P : T → Type 0) (o : Option T) (x : T) → o ≡ Some x → IfSome o P → P x
+if-some-at P None x e h = cc
+if-some-at P (Some y) x e h = let same : y ≡ x = cc in subst P same h

@@ -1,0 +1,41 @@
+-- The clause of the number is among those that stand.
+use Rattle.std.proofs.Common.{◌≡◌, ◌⊎◌, true, ℤ, List, None, Some, sym, ◌∙◌, subst}
+use Rattle.lrat_rules.specs.declared.outcome.Effect.TheVariants.{NotUnit}
+use Rattle.lrat_rules.specs.Chain.{literals_of, effect}
+use Rattle.drat_rules.specs.Clauses.{is_among}
+use Rattle.drat_checker.specs.Places.{standing}
+use Rattle.drat_checker.specs.Watches.{is_true}
+use Rattle.drat_checker.proofs.Lifts.{if-ok, on-ok}
+use Rattle.drat_checker.proofs.Standing.{among-place, same_inside}
+use Rattle.drat_checker.proofs.propagation.take_number.Goals as goal
+
+pub returns-in-Some-clause-conflict : goal.returns-in-Some-clause-conflict
+returns-in-Some-clause-conflict c =
+    let among : is_among (standing c.args.db.now) c.in-Some.clause.now ≡ true =
+    among-place c.args.db.now c.args.number c.in-Some.clause.now (sym c.in-Some.ensures) in
+    if-ok c.take_clause.result (λ conflict h is. h is (standing c.args.db.now) among) c.take_clause.ensures.conflict
+
+pub returns-in-Some-clause-derives : goal.returns-in-Some-clause-derives
+returns-in-Some-clause-derives c =
+    let among : is_among (standing c.args.db.now) c.in-Some.clause.now ≡ true =
+    among-place c.args.db.now c.args.number c.in-Some.clause.now (sym c.in-Some.ensures) in
+    on-ok c.take_clause.result (λ h. h (standing c.args.db.now) among) c.take_clause.ensures.derives
+
+-- both are the clause that stands under the number
+taken-of : (old new a b : List ℤ) → Some a ≡ Some b → (effect (literals_of old) a ≡ NotUnit) ⊎ (is_true new a ≡ true)
+    → (effect (literals_of old) b ≡ NotUnit) ⊎ (is_true new b ≡ true)
+taken-of old new a b same h =
+    subst (λ (d : List ℤ). (effect (literals_of old) d ≡ NotUnit) ⊎ (is_true new d ≡ true)) (same_inside a b same) h
+
+pub returns-in-Some-clause-taken : goal.returns-in-Some-clause-taken
+returns-in-Some-clause-taken c =
+    if-ok c.take_clause.result
+    (λ conflict h is clause stands.
+    taken-of c.args.trail.now c.take_clause.new.trail c.in-Some.clause.now clause (c.in-Some.ensures ∙ stands) (h is))
+    c.take_clause.ensures.taken
+
+none-some : (clause : List ℤ) → None ≡ Some clause → ⊥
+none-some clause e = cc
+
+pub returns-in-None-clause-taken : goal.returns-in-None-clause-taken
+returns-in-None-clause-taken c = λ is clause stands. absurd (none-some clause (c.in-None.ensures ∙ stands))

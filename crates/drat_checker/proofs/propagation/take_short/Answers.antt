@@ -1,0 +1,63 @@
+-- One number more, a clause that is false, and the end.
+use Rattle.std.proofs.Common.{◌≡◌, ℕ, List, take, get_or, inl, inr, sym, ◌∙◌, ap, subst, nat_eq}
+use Rattle.std.specs.Prelude.{IsTrue, slice_index}
+use Rattle.std.proofs.lemmas.Bool.{or_cases}
+use Rattle.std.proofs.lemmas.List.{take_all}
+use Rattle.std.proofs.lemmas.List.Folds.{list_any_more}
+use Rattle.std.proofs.lemmas.Map.Views.{exact_unsigned_eq}
+use Rattle.lrat_rules.specs.Chain.{literals_of}
+use Rattle.drat_checker.specs.Places.{place_at, standing}
+use Rattle.drat_checker.specs.Numbers.{has_number}
+use Rattle.drat_checker.proofs.Propagated.{none-before}
+use Rattle.drat_checker.proofs.Derived.{derives-none, derives-then, derives-extends, derives-same}
+use Rattle.drat_checker.proofs.Guarded.{short-not-unit}
+use Rattle.drat_checker.proofs.Visited.{true-more}
+use Rattle.drat_checker.proofs.propagation.take_short.Goals as goal
+
+pub loop-number-init : goal.loop-number-init
+loop-number-init c = record {
+  derives = derives-none (standing c.args.db.now) c.args.trail.now;
+  holds = λ number clause none stands short. absurd (cc);
+}
+
+pub loop-number-preserved : goal.loop-number-preserved
+loop-number-preserved c =
+    let so_far = c.loop-number.invariant in
+    let step = c.in_ok-conflict.ensures in
+    let numbers = c.short-numbers.result.now in
+    let i = c.loop-number.number-index in
+    record {
+      derives = derives-then so_far.derives step.derives;
+      holds = λ number clause m stands short.
+          elim (or_cases (has_number number (take i numbers)) _
+          (sym (list_any_more (nat_eq number) numbers i 0 c.loop-number-test.true) ∙ m)) [
+            | inl earlier ↦ true-more clause (derives-extends step.derives) (so_far.holds number clause earlier stands short)
+            | inr now ↦
+                let is : number ≡ slice_index numbers i = exact_unsigned_eq number (get_or numbers i 0) now in
+                elim (step.taken c.if-conflict.false clause (ap (place_at c.args.db.now) (sym is) ∙ stands)) [
+                  | inl nothing ↦ absurd (short-not-unit (literals_of c.loop-number.trail) clause short nothing)
+                  | inr holds ↦ holds
+                ]
+          ];
+    }
+
+pub returns-then-conflict-clause-conflict : goal.returns-then-conflict-clause-conflict
+returns-then-conflict-clause-conflict c = λ is.
+    none-before c.quiet_law.ensures.none c.quiet_law.ensures.fails (standing c.args.db.now) c.args.trail.now c.loop-number.trail
+    (derives-same c.propagation_law.ensures.forced c.loop-number.invariant.derives)
+    (c.in_ok-conflict.ensures.conflict c.if-conflict.true)
+
+pub returns-then-conflict-clause-derives : goal.returns-then-conflict-clause-derives
+returns-then-conflict-clause-derives c = derives-then c.loop-number.invariant.derives c.in_ok-conflict.ensures.derives
+
+pub returns-clause-holds : goal.returns-clause-holds
+returns-clause-holds c = λ is. record {
+  holds = λ number clause stands short.
+      c.loop-number.invariant.holds number clause
+      (subst (λ (l : List ℕ). IsTrue (has_number number l))
+      (sym (take_all c.loop-number.number-index c.short-numbers.result.now c.loop-number-test.false))
+      (c.short-numbers.ensures number clause stands short)) stands short;
+}
+
+pub returns-clause-derives : goal.returns-clause-derives
+returns-clause-derives c = c.loop-number.invariant.derives

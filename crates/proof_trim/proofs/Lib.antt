@@ -1,0 +1,16 @@
+pub mod Counted
+pub mod Taking
+pub mod Entered
+pub mod Sweeping
+pub mod Ahead
+pub mod Answered
+pub mod Chains
+pub mod Groups
+pub mod Additions
+pub mod Shadow
+pub mod Replay
+pub mod Again
+pub mod Printed
+pub mod Least
+pub mod Theorems
+pub mod Written

@@ -1,0 +1,184 @@
+// One step of the proof: judged, and where it is good taken, and cut to what it needs.
+ghost use Rattle.std.specs.Prelude.{◌≡◌, ◌<◌, ◌≤◌, ◌+◌, ◌++◌, [], false, None, IfOk, IfNone, OnOk};
+ghost use Rattle.std.specs.FinMap as map;
+ghost use Rattle.std.specs.Option.{option_copied};
+ghost use Rattle.lrat_rules.specs.State.{clause_at, without_clauses};
+ghost use Rattle.lrat_rules.specs.Run.{step_fault, after_step};
+ghost use Rattle.proof_trim.specs.Trimmed.{id_if_live, live_ids, one_if_addition};
+ghost use Rattle.proof_trim.specs.Answer.{cut_addition_by, with_step};
+
+use crate::kept::KeptSteps;
+use cnf_base::{Id, IdList, Lit, LitList, OutOfMemory, Step};
+use lrat_checker::{Cut, Judge, Uses, cut_law};
+use lrat_rules::Reason;
+use std::alloc::Global;
+
+/// What was cut of a proof so far: its steps up to the end, and how many additions it has.
+#[derive(Debug, Drop)]
+pub struct CutProof {
+    pub steps: KeptSteps,
+    pub total: u64,
+}
+
+impl CutProof {
+    /// Nothing so far.
+    pub fn new(alloc: Global) -> CutProof
+        ensures { result ≡ record { steps = []; total = 0 } }
+    {
+        CutProof {
+            steps: KeptSteps::new(alloc),
+            total: 0,
+        }
+    }
+}
+
+/// Judges a step, and where it is good takes it, counts it, and keeps it cut unless the end was before it.
+pub fn take_step(
+    alloc: Global,
+    judge: &mut Judge,
+    step: &Step,
+    ended: bool,
+    uses: &mut Uses,
+    cut: &mut CutProof,
+) -> Result<Option<Reason>, OutOfMemory>
+    requires counted { cut.old.total ≤ judge.old.top }
+    ensures fault { IfOk result (λ fault. fault ≡ step_fault judge.old step.now) }
+    ensures good { IfOk result (λ fault. IfNone fault (judge.new ≡ after_step judge.old step.now)) }
+    ensures cut { IfOk result (λ fault. IfNone fault (cut.new ≡ with_step ended judge.old step.now cut.old)) }
+    ensures counted { IfOk result (λ fault. IfNone fault (cut.new.total ≤ judge.new.top)) }
+{
+    if ended {
+        count_step(judge, step, cut)
+    } else {
+        cut_step(alloc, judge, step, uses, cut)
+    }
+}
+
+// Behind the end a good step is only counted.
+fn count_step(
+    judge: &mut Judge,
+    step: &Step,
+    cut: &mut CutProof,
+) -> Result<Option<Reason>, OutOfMemory>
+    requires counted { cut.old.total ≤ judge.old.top }
+    ensures fault { IfOk result (λ fault. fault ≡ step_fault judge.old step.now) }
+    ensures good { IfOk result (λ fault. IfNone fault (judge.new ≡ after_step judge.old step.now)) }
+    ensures cut { IfOk result (λ fault. IfNone fault (cut.new ≡ record cut.old { total = cut.old.total + one_if_addition step.now })) }
+    ensures counted { IfOk result (λ fault. IfNone fault (cut.new.total ≤ judge.new.top)) }
+{
+    if let Some(reason) = judge.step(step)? {
+        return Ok(Some(reason));
+    }
+    if let Step::Add { id, .. } = step {
+        count(&mut cut.total, id.get());
+    }
+    Ok(None)
+}
+
+// Up to the end.
+fn cut_step(
+    alloc: Global,
+    judge: &mut Judge,
+    step: &Step,
+    uses: &mut Uses,
+    cut: &mut CutProof,
+) -> Result<Option<Reason>, OutOfMemory>
+    requires counted { cut.old.total ≤ judge.old.top }
+    ensures fault { IfOk result (λ fault. fault ≡ step_fault judge.old step.now) }
+    ensures good { IfOk result (λ fault. IfNone fault (judge.new ≡ after_step judge.old step.now)) }
+    ensures cut { IfOk result (λ fault. IfNone fault (cut.new ≡ with_step false judge.old step.now cut.old)) }
+    ensures counted { IfOk result (λ fault. IfNone fault (cut.new.total ≤ judge.new.top)) }
+{
+    cut_law();
+    match step {
+        Step::Add { id, .. } => {
+            if let Some(reason) = judge.step_with(step, uses)? {
+                return Ok(Some(reason));
+            }
+            cut.steps.push(cut_addition(alloc, step, uses)?)?;
+            count(&mut cut.total, id.get());
+            Ok(None)
+        }
+        Step::Delete { id, ids } => {
+            let ids = take_live(alloc, judge, ids.as_slice())?;
+            cut.steps.push(Step::Delete { id: *id, ids })?;
+            Ok(None)
+        }
+    }
+}
+
+// One addition more, whose number is above the count.
+fn count(total: &mut u64, number: u64)
+    requires below { total.old < number }
+    ensures { total.new ≡ total.old + 1 }
+{
+    *total += 1;
+}
+
+// The step with what it needs. (A deletion, which is cut by another, would stay without numbers.)
+fn cut_addition(alloc: Global, step: &Step, uses: &Uses) -> Result<Step, OutOfMemory>
+    ensures { IfOk result (λ cut. cut ≡ cut_addition_by uses.now step.now) }
+{
+    match step {
+        Step::Add {
+            id,
+            lits,
+            pos,
+            groups,
+        } => {
+            let cut = Cut::by(alloc, uses, pos.as_slice(), groups.as_slice())?;
+            Ok(Step::Add {
+                id: *id,
+                lits: copied(alloc, lits.as_slice())?,
+                pos: cut.pos,
+                groups: cut.groups,
+            })
+        }
+        Step::Delete { id, .. } => Ok(Step::Delete {
+            id: *id,
+            ids: IdList::new(alloc),
+        }),
+    }
+}
+
+fn copied(alloc: Global, literals: &[Lit]) -> Result<LitList, OutOfMemory>
+    ensures { IfOk result (λ list. list ≡ literals.now) }
+{
+    let mut list = LitList::new(alloc);
+    for literal in literals {
+        list.push(*literal)?;
+    }
+    Ok(list)
+}
+
+// Takes out the clauses of these numbers, each at its turn, and answers the numbers that were live then. So a number that is
+// named twice is answered once.
+fn take_live(alloc: Global, judge: &mut Judge, ids: &[Id]) -> Result<IdList, OutOfMemory>
+    ensures live { IfOk result (λ list. list ≡ live_ids judge.old.live ids.now) }
+    ensures taken { OnOk result (judge.new ≡ record judge.old { live = without_clauses judge.old.live ids.now }) }
+{
+    let mut list = IdList::new(alloc);
+    for id in ids {
+        take_one(judge, *id, &mut list)?;
+    }
+    Ok(list)
+}
+
+// The same of one number.
+fn take_one(judge: &mut Judge, id: Id, list: &mut IdList) -> Result<(), OutOfMemory>
+    ensures live { OnOk result (list.new ≡ list.old ++ id_if_live id (clause_at judge.old.live id) []) }
+    ensures taken { OnOk result (judge.new ≡ record judge.old { live = map.remove judge.old.live id }) }
+{
+    push_live(list, id, judge.clause(id))?;
+    judge.remove(id);
+    Ok(())
+}
+
+fn push_live(list: &mut IdList, id: Id, clause: Option<&[Lit]>) -> Result<(), OutOfMemory>
+    ensures { OnOk result (list.new ≡ list.old ++ id_if_live id (option_copied clause.entry) []) }
+{
+    match clause {
+        Some(_) => list.push(id),
+        None => Ok(()),
+    }
+}

@@ -1,0 +1,33 @@
+// What the trimmed form of a verified proof is, as clauses of a function without work.
+ghost use Rattle.std.specs.Prelude.{◌≡◌, ℕ, ◌≤◌, Bool, ℤ, List, length, Some, IsTrue};
+ghost use Rattle.cnf_base.specs.declared.step.Step.{Step};
+ghost use Rattle.lrat_rules.specs.Run.{Refutes};
+ghost use Rattle.lrat_checker.specs.declared.verdict.Verdict.TheVariants.{Verified};
+ghost use Rattle.lrat_checker.specs.TextVerdict.{max_bytes, text_verdict};
+ghost use Rattle.proof_trim.specs.Trimmed.{IsClosed, each_named, needed, trim, trimmed};
+
+use cnf_base::step_range_law;
+use lrat_checker::check_law;
+use lrat_rules::{start_law, steps_text_law};
+use lrat_text::whole_text_law;
+
+/// The trimmed form of a verified proof refutes the formula. Each of its additions but that of the empty clause is named by a later
+/// step. As a text within the limit it is verified too, and trimming it again gives the same.
+pub fn trim_law()
+    ensures refutes { (clauses : List (List ℤ)) (bytes : List ℕ) → text_verdict clauses bytes ≡ Some Verified
+        → Refutes clauses (trim clauses bytes) }
+    ensures named { (clauses : List (List ℤ)) (bytes : List ℕ) → IsTrue (each_named (trimmed clauses bytes)) }
+    // No smaller set of numbers has what its own additions and the end name.
+    ensures least { (steps : List Step) (numbers : ℕ → Bool) → IsClosed steps numbers → (id : ℕ) → IsTrue (needed steps id)
+        → IsTrue (numbers id) }
+    ensures verified { (clauses : List (List ℤ)) (bytes : List ℕ) → text_verdict clauses bytes ≡ Some Verified
+        → length (trim clauses bytes) ≤ max_bytes → text_verdict clauses (trim clauses bytes) ≡ Some Verified }
+    ensures again { (clauses : List (List ℤ)) (bytes : List ℕ) → text_verdict clauses bytes ≡ Some Verified
+        → length (trim clauses bytes) ≤ max_bytes → trim clauses (trim clauses bytes) ≡ trim clauses bytes }
+{
+    start_law();
+    step_range_law();
+    whole_text_law();
+    steps_text_law();
+    check_law();
+}

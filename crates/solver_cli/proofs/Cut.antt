@@ -1,0 +1,203 @@
+-- What trimming an opened proof, and writing its trimmed form, says of the run.
+use Rattle.std.proofs.Common.{◌≡◌, ℕ, ℤ, Bool, List, [], ◌++◌, length, refl, sym, ap, ◌∙◌, subst, arith, None, Some, Ok, Err, IsTrue, IsOk}
+use Rattle.std.proofs.Common.{inl, inr}
+use Rattle.std.specs.Prelude.{◌≢◌, Option, Result, IsErr, ⊤, drop}
+use Rattle.cnf_base.specs.Formula.{Formula}
+use Rattle.cnf_base.specs.declared.step.Step.{Step}
+use Rattle.host_io.specs.Channel.{Channel, Rose}
+use Rattle.host_io.specs.Files.{Files, Opens}
+use Rattle.host_io.specs.declared.role.Role.TheVariants.{ProofIn}
+use Rattle.host_io.specs.declared.source.Failed.{Failed}
+use Rattle.text_scan.specs.Decides.{gained, Decides, OnlyReads, Decides-whole, Decides-taken}
+use Rattle.dimacs_reader.specs.Cnf.{formula}
+use Rattle.lrat_checker.specs.TextVerdict.{Answers, text_verdict, verdict_so_far}
+use Rattle.lrat_checker.specs.declared.verdict.Verdict.{Verdict}
+use Rattle.lrat_checker.specs.declared.verdict.Verdict.TheVariants as judgement
+use Rattle.lrat_checker.specs.declared.verdict.CheckError.{CheckError}
+use Rattle.lrat_checker.specs.declared.verdict.CheckError.TheVariants.{ReadFault, TooLong, OutOfMemory}
+use Rattle.drat_proof.specs.TwoRoles.{added}
+use Rattle.proof_trim.specs.Answer.{Trims}
+use Rattle.proof_trim.specs.Trimmed.{additions, additions_of_text, trimmed}
+use Rattle.proof_trim.specs.declared.text.Trimmed.{Trimmed}
+use Rattle.proof_trim.specs.declared.text.Trimmed.TheVariants.{Steps, Refused}
+use Rattle.command_line.specs.declared.format.ProofFormat.TheVariants.{Lrat}
+use Rattle.command_line.specs.Command.{ToRewrite, Trim, command}
+use Rattle.solver_cli.specs.Phases.{JudgesProof, PutsText}
+use Rattle.solver_cli.specs.TrimmedProof.{PutsFile, TrimsBytes, TrimsOpened, TrimsProof, TrimsText}
+use Rattle.solver_cli.specs.Run.{Run, taken_in, AsksOver, HasVerdict}
+use Rattle.solver_cli.proofs.Facts.{whole_of}
+use Rattle.solver_cli.proofs.Reading.{none_taken, ok_err, rose_since}
+
+-- an opened proof, as trimming tells it
+seen : (tells : Bool) (old new : Channel) (clauses : List (List ℤ)) (result : Result Trimmed CheckError)
+    → (IsTrue tells → Decides old new (λ bytes more. TrimsBytes result clauses bytes))
+    → (result ≡ Err ReadFault → Rose old.faults new.faults) → (result ≢ Err ReadFault → new.faults ≡ old.faults)
+    → (IsTrue tells → result ≡ Err ReadFault → verdict_so_far clauses (gained old new) ≡ None) → OnlyReads old new
+    → TrimsOpened tells old new clauses result
+seen tells old new clauses result decides fault unfailed undecided reads = record {
+  told = λ t. Decides-whole (decides t);
+  decided = λ t. Decides-taken (decides t);
+  fault = fault;
+  unfailed = unfailed;
+  undecided = undecided;
+  written = reads.written;
+  name = reads.name;
+  faults = reads.faults;
+}
+
+pub cut : {tells : Bool} {seen_old seen_new old new : Channel} {clauses : List (List ℤ)} {result : Result Trimmed CheckError}
+    → seen_old ≡ old → new ≡ seen_new
+    → (IsTrue tells → Decides seen_old seen_new (λ bytes more. TrimsBytes result clauses bytes))
+    → (result ≡ Err ReadFault → Rose seen_old.faults seen_new.faults) → (result ≢ Err ReadFault → seen_new.faults ≡ seen_old.faults)
+    → (IsTrue tells → result ≡ Err ReadFault → verdict_so_far clauses (gained seen_old seen_new) ≡ None) → OnlyReads seen_old seen_new
+    → TrimsOpened tells old new clauses result
+cut {tells = tells} {seen_old = seen_old} {seen_new = seen_new} {old = old} {new = new} {clauses = clauses} {result = result} from to
+    decides fault unfailed undecided reads =
+    subst (λ (o : Channel). TrimsOpened tells o new clauses result) from
+    (subst (λ (n : Channel). TrimsOpened tells seen_old n clauses result) (sym to)
+    (seen tells seen_old seen_new clauses result decides fault unfailed undecided reads))
+
+empty_text : (clauses : List (List ℤ)) → verdict_so_far clauses [] ≡ None
+empty_text clauses = refl
+
+-- the file was not opened
+pub unopened : {tells : Bool} {old new : Channel} {files : Files} {file : List ℕ} {clauses : List (List ℤ)} {answer : Result ⊤ Failed}
+    → Opens old new file answer → IsErr answer → TrimsProof tells old new files file clauses (Err ReadFault)
+unopened {clauses = clauses} opens failed = record {
+  read = λ t. inl refl;
+  fault = λ e. opens.faults.cause failed;
+  unfailed = λ no. absurd (no refl);
+  undecided = λ t e. ap (verdict_so_far clauses) (none_taken opens) ∙ empty_text clauses;
+  written = opens.idle.written ∙ sym opens.was_idle.written;
+  name = opens.failed failed;
+  faults = opens.faults.no_less;
+}
+
+-- the file was opened, and then its text trimmed
+pub cut_whole : {tells : Bool} {old opened new : Channel} {files : Files} {file : List ℕ} {clauses : List (List ℤ)}
+    {answer : Result ⊤ Failed} {result : Result Trimmed CheckError}
+    → Opens old opened file answer → IsOk answer → (IsTrue tells → files file ≡ Some opened.left)
+    → TrimsOpened tells opened new clauses result → TrimsProof tells old new files file clauses result
+cut_whole {old = old} {opened = opened} {new = new} {clauses = clauses} {result = result} opens ok content trims =
+    let same : gained opened new ≡ gained old new = ap (λ (l : List ℕ). drop (length l) new.taken) (opens.idle.taken
+    ∙ sym opens.was_idle.taken) in
+    record {
+      read = λ t. inr (record {
+        bytes = opened.left;
+        stands = content t;
+        told = trims.told t;
+        decided = subst (λ (l : List ℕ). TrimsBytes result clauses l) same (trims.decided t);
+      });
+      fault = λ e. rose_since opens.faults.no_less (trims.fault e);
+      unfailed = λ no. trims.unfailed no ∙ opens.faults.unfailed ok;
+      undecided = λ t e. ap (verdict_so_far clauses) (sym same) ∙ trims.undecided t e;
+      written = trims.written ∙ opens.idle.written ∙ sym opens.was_idle.written;
+      name = inl (trims.name ∙ opens.named ok);
+      faults = omega (arith, opens.faults.no_less, trims.faults);
+    }
+
+-- trimming judges as a check does
+abbrev pub answer_of : Result Trimmed CheckError → Result Verdict CheckError
+answer_of (Ok (Steps steps kept total)) = Ok judgement.Verified
+answer_of (Ok (Refused line reason)) = Ok (judgement.Refused line reason)
+answer_of (Err error) = Err error
+
+as_answers : (result : Result Trimmed CheckError) (text : Option Verdict) (steps : List Step) (count : ℕ) → Trims result text steps count
+    → Answers (answer_of result) text
+as_answers (Ok (Steps kept_steps kept total)) text steps count is = is.0
+as_answers (Ok (Refused line reason)) text steps count is = is
+as_answers (Err TooLong) text steps count is = is
+as_answers (Err ReadFault) text steps count is = tt
+as_answers (Err OutOfMemory) text steps count is = tt
+
+read_failed : (result : Result Trimmed CheckError) → answer_of result ≡ Err ReadFault → result ≡ Err ReadFault
+read_failed (Ok (Steps steps kept total)) e = absurd (ok_err e)
+read_failed (Ok (Refused line reason)) e = absurd (ok_err e)
+read_failed (Err TooLong) e = cc
+read_failed (Err ReadFault) e = refl
+read_failed (Err OutOfMemory) e = cc
+
+pub judges_of : {tells : Bool} {old new : Channel} {files : Files} {file : List ℕ} {clauses : List (List ℤ)}
+    (result : Result Trimmed CheckError) → TrimsProof tells old new files file clauses result → (answer_of result ≡ Err OutOfMemory → ⊥)
+    → JudgesProof Lrat tells old new files file clauses (answer_of result)
+judges_of {old = old} {new = new} {clauses = clauses} result trims plenty = record {
+  read = λ t. elim (trims.read t) [
+    | inl e ↦ inl (ap answer_of e)
+    | inr text ↦ inr (record {
+      bytes = text.bytes;
+      stands = text.stands;
+      judged = as_answers result (text_verdict clauses text.bytes) (trimmed clauses text.bytes) (additions_of_text text.bytes) text.told;
+      decided = as_answers result (text_verdict clauses (gained old new)) (trimmed clauses (gained old new))
+          (additions_of_text (gained old new)) text.decided;
+      memory = λ e. absurd (plenty e);
+    })
+  ];
+  fault = λ e. trims.fault (read_failed result e);
+  unfailed = λ differs. trims.unfailed (λ e. differs (ap answer_of e));
+  undecided = λ t e. trims.undecided t (read_failed result e);
+  written = trims.written;
+  name = trims.name;
+  faults = trims.faults;
+}
+
+-- The proof that the words name is verified, and these are the steps of its trimmed form, and the counts.
+pub record VerifiedBy (run : Run) (task : ToRewrite) (problem : Formula) (steps : List Step) (kept total : ℕ) : Type 0 where
+  pub bytes : List ℕ
+  pub stands : run.files task.proof ≡ Some bytes
+  pub judged : text_verdict problem.clauses bytes ≡ Some judgement.Verified
+  pub verdict : HasVerdict run problem bytes judgement.Verified
+  pub steps_are : steps ≡ trimmed problem.clauses bytes
+  pub kept_are : kept ≡ additions (trimmed problem.clauses bytes)
+  pub total_is : total ≡ additions_of_text bytes
+
+pub verified : (run : Run) (task : ToRewrite) (problem : Formula) {steps : List Step} {kept total : ℕ}
+    → command run.words ≡ Some (Trim task) → (IsTrue run.tells → AsksOver run (Trim task) (formula problem))
+    → TrimsProof run.tells (run.before ProofIn) (run.after ProofIn) run.files task.proof problem.clauses (Ok (Steps steps kept total))
+    → IsTrue run.tells → VerifiedBy run task problem steps kept total
+verified run task problem {steps = steps} {kept = kept} {total = total} asked read trims t = by (trimmed_text) where
+  trimmed_text : TrimsText run.files task.proof problem.clauses (taken_in run ProofIn) (Ok (Steps steps kept total))
+  trimmed_text = elim (trims.read t) [ inl e ↦ absurd (ok_err e) | inr text ↦ text ]
+
+  by : TrimsText run.files task.proof problem.clauses (taken_in run ProofIn) (Ok (Steps steps kept total))
+      → VerifiedBy run task problem steps kept total
+  by text = record {
+    bytes = text.bytes;
+    stands = text.stands;
+    judged = text.told.0;
+    verdict = record {
+      asked = record { asked = Trim task; asks = read t; file = task.proof; named = refl; stands = text.stands };
+      judged = text.told.0;
+    };
+    steps_are = text.told.1;
+    kept_are = text.told.2;
+    total_is = text.told.3;
+  }
+
+-- the file of the trimmed proof was not created
+pub uncreated : {tells : Bool} {old new : Channel} {file text : List ℕ} {answer : Result ⊤ Failed} {error : Failed}
+    → Opens old new file answer → IsErr answer → PutsFile tells old new file text (Err error)
+uncreated {old = old} {new = new} {text = text} opens failed =
+    let none : added old new ≡ [] = whole_of old new opens.was_idle.written ∙ opens.idle.written in
+    record {
+      done = λ t ok. cc;
+      flushed = λ t ok. cc;
+      front = λ t. (text, ap (λ (l : List ℕ). l ++ text) (sym none));
+      fault = λ _. opens.faults.cause failed;
+      unfailed = λ ok. cc;
+      name = opens.failed failed;
+    }
+
+-- it was created, and its lines written or not
+pub put_whole : {tells : Bool} {old created new : Channel} {file text : List ℕ} {answer result : Result ⊤ Failed}
+    → Opens old created file answer → IsOk answer → PutsText tells created new text result → PutsFile tells old new file text result
+put_whole {old = old} {created = created} {new = new} {text = text} opens ok puts = record {
+  done = λ t done. all text (puts.done t done);
+  flushed = puts.flushed;
+  front = λ t. let part = puts.front t in (part.1, part.3 ∙ ap (λ (l : List ℕ). l ++ part.1) (sym (all part.0 part.2)));
+  fault = λ failed. rose_since opens.faults.no_less (puts.fault failed);
+  unfailed = λ done. puts.unfailed done ∙ opens.faults.unfailed ok;
+  name = inl (puts.only.name ∙ opens.named ok);
+} where
+  -- nothing stood in the file
+  all : (part : List ℕ) → new.written ≡ created.written ++ part → added old new ≡ part
+  all part grown = whole_of old new opens.was_idle.written ∙ grown ∙ ap (λ (l : List ℕ). l ++ part) opens.idle.written

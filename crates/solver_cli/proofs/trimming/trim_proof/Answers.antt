@@ -1,0 +1,14 @@
+-- What is left to show of `trim_proof`.
+use Rattle.std.proofs.Common.{rules, IsOk}
+use Rattle.solver_cli.proofs.Converting.{on_ok}
+use Rattle.solver_cli.proofs.Cut.{cut_whole, unopened}
+use Rattle.solver_cli.proofs.trimming.trim_proof.Goals as goal
+
+pub returns-then-is_err-clause-trims : goal.returns-then-is_err-clause-trims
+returns-then-is_err-clause-trims g c = unopened c.open_read.ensures.opens (search rules)
+
+pub returns-clause-trims : goal.returns-clause-trims
+returns-clause-trims g c =
+    let opened : IsOk c.open_read.result = search rules in
+    cut_whole c.open_read.ensures.opens opened (λ t. on_ok c.open_read.result opened (c.open_read.ensures.content t))
+    c.trim_opened.ensures.trims

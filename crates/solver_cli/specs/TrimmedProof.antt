@@ -1,0 +1,57 @@
+-- What `trim` leaves of the proof that it reads, and of the one that it writes.
+use Rattle.std.specs.Prelude.{◌≡◌, ◌≢◌, ◌⊎◌, ◌≤◌, ◌++◌, ℕ, ℤ, Bool, List, None, Some, Result, Err, length, IsTrue, IsOk, IsErr, ⊤}
+use Rattle.host_io.specs.declared.source.Failed.{Failed}
+use Rattle.host_io.specs.Channel.{Channel, Rose}
+use Rattle.host_io.specs.Files.{Files}
+use Rattle.text_scan.specs.Decides.{gained}
+use Rattle.lrat_checker.specs.TextVerdict.{text_verdict, verdict_so_far}
+use Rattle.lrat_checker.specs.declared.verdict.CheckError.{CheckError}
+use Rattle.lrat_checker.specs.declared.verdict.CheckError.TheVariants.{ReadFault}
+use Rattle.drat_proof.specs.TwoRoles.{added}
+use Rattle.proof_trim.specs.Answer.{Trims}
+use Rattle.proof_trim.specs.Trimmed.{additions_of_text, trimmed}
+use Rattle.proof_trim.specs.declared.text.Trimmed.{Trimmed}
+
+-- the answer is what trimming this text gives
+abbrev pub TrimsBytes : Result Trimmed CheckError → List (List ℤ) → List ℕ → Type 0
+TrimsBytes result clauses bytes = Trims result (text_verdict clauses bytes) (trimmed clauses bytes) (additions_of_text bytes)
+
+-- The answer is that of the text in the opened proof's file, and already of the bytes taken; where a call on it failed, these decide
+-- nothing yet.
+pub record TrimsOpened (tells : Bool) (old new : Channel) (clauses : List (List ℤ)) (result : Result Trimmed CheckError) : Type 0 where
+  pub told : IsTrue tells → TrimsBytes result clauses old.left
+  pub decided : IsTrue tells → TrimsBytes result clauses (gained old new)
+  pub fault : result ≡ Err ReadFault → Rose old.faults new.faults
+  pub unfailed : result ≢ Err ReadFault → new.faults ≡ old.faults
+  pub undecided : IsTrue tells → result ≡ Err ReadFault → verdict_so_far clauses (gained old new) ≡ None
+  pub written : new.written ≡ old.written
+  pub name : new.name ≡ old.name
+  pub faults : old.faults ≤ new.faults
+
+-- what the file of this name holds was trimmed
+pub record TrimsText (files : Files) (file : List ℕ) (clauses : List (List ℤ)) (taken : List ℕ) (result : Result Trimmed CheckError)
+    : Type 0 where
+  pub bytes : List ℕ
+  pub stands : files file ≡ Some bytes
+  pub told : TrimsBytes result clauses bytes
+  pub decided : TrimsBytes result clauses taken
+
+-- the proof's file was opened, and its text trimmed
+pub record TrimsProof (tells : Bool) (old new : Channel) (files : Files) (file : List ℕ) (clauses : List (List ℤ))
+    (result : Result Trimmed CheckError) : Type 0 where
+  pub read : IsTrue tells → (result ≡ Err ReadFault) ⊎ TrimsText files file clauses (gained old new) result
+  pub fault : result ≡ Err ReadFault → Rose old.faults new.faults
+  pub unfailed : result ≢ Err ReadFault → new.faults ≡ old.faults
+  pub undecided : IsTrue tells → result ≡ Err ReadFault → verdict_so_far clauses (gained old new) ≡ None
+  pub written : new.written ≡ old.written
+  pub name : (new.name ≡ Some file) ⊎ (new.name ≡ None)
+  pub faults : old.faults ≤ new.faults
+
+-- The file of this name was created, and the text written to it and flushed, or a front of it where a call failed.
+pub record PutsFile (tells : Bool) (old new : Channel) (file text : List ℕ) (result : Result ⊤ Failed) : Type 0 where
+  pub done : IsTrue tells → IsOk result → added old new ≡ text
+  pub flushed : IsTrue tells → IsOk result → new.flushed ≡ length new.written
+  pub front : IsTrue tells → (rest : List ℕ) × (text ≡ added old new ++ rest)
+  pub fault : IsErr result → Rose old.faults new.faults
+  pub unfailed : IsOk result → new.faults ≡ old.faults
+  pub name : (new.name ≡ Some file) ⊎ (new.name ≡ None)

@@ -1,0 +1,36 @@
+-- A proof that goes on stays within the limits.
+use Rattle.std.proofs.Common.{◌≡◌, ◌∙◌, ◌+◌, ◌++◌, ℕ, List, [], ◌∷◌, sym, subst, arith}
+use Rattle.cnf_base.specs.declared.step.Step.{Step}
+use Rattle.cnf_base.specs.Formula.{Formula}
+use Rattle.clause_ledger.specs.Told.{told_formula, told_steps}
+use Rattle.node_table.specs.Progress.{AreStepsUpTo, Continues}
+use Rattle.node_table.specs.Table.{TableState, last_variable}
+use Rattle.operations.specs.Entries.{Entry}
+use Rattle.schedule_plan.specs.declared.limits.Limits.{Limits}
+use Rattle.term_runner.specs.declared.caches.Caches.{Caches}
+use Rattle.term_runner.specs.Caches.{sizes}
+use Rattle.term_runner.specs.Held.{IsOver}
+use Rattle.term_runner.specs.Opened.{IsWithinLimits}
+
+pub further_steps : (most : ℕ) (front back : List Step) → AreStepsUpTo most front → AreStepsUpTo most back → AreStepsUpTo most (front ++ back)
+further_steps most [] back few more = more
+further_steps most (step ∷ front) back few more = (few.0, further_steps most front back few.1 more)
+
+module _ {S : Type 0} (formula : Formula) (limits : Limits) (old : TableState S) (caches : Caches) (entries : List Entry)
+    (over : IsOver formula old entries) (within : IsWithinLimits formula limits old caches) where
+  pub last_is : last_variable old ≡ formula.vars + limits.max_nodes
+  last_is = λ i. over.vars i + within.max_nodes i
+
+  pub within_after : (new : TableState S) (after : Caches) → Continues old new → sizes after ≡ sizes caches
+      → IsWithinLimits formula limits new after
+  within_after new after more same = record {
+    allowed = within.allowed;
+    of_formula = told_formula more.told ∙ within.of_formula;
+    max_ids = more.limit ∙ within.max_ids;
+    max_nodes = more.max_nodes ∙ within.max_nodes;
+    size = same ∙ within.size;
+    numbers = omega (arith, more.numbers, within.max_ids, within.numbers);
+    variables = subst (AreStepsUpTo (formula.vars + limits.max_nodes)) (sym (told_steps more.told))
+        (further_steps (formula.vars + limits.max_nodes) old.book.steps more.more within.variables
+        (subst (λ (most : ℕ). AreStepsUpTo most more.more) last_is more.variables));
+  }
