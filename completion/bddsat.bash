@@ -3,7 +3,7 @@ _bddsat() {
     local word="${COMP_WORDS[COMP_CWORD]}" words='solve check drat trim order bench make help' options='--help --version'
     case "$([ "$COMP_CWORD" -eq 1 ] || echo "${COMP_WORDS[1]}")" in
     solve) words='' options='--proof --lax --search --order --buckets --schedule --plan --max-nodes --max-ids --cache --progress --help' ;;
-    check) words='' options='--format --lax --progress --help' ;;
+    check) words='' options='--format --any-order --lax --progress --help' ;;
     drat) words='' options='--out --lax --help' ;;
     trim) words='' options='--out --lax --help' ;;
     order) words='' options='--by --out --lax --help' ;;

@@ -11,7 +11,7 @@ use Rattle.node_table.specs.Diagram.{Graph, IsReduced, IsOrder, variable_at}
 use Rattle.node_table.specs.Tied.{IsOverNodes}
 use Rattle.operations.specs.Additions.{Literals}
 use Rattle.operations.specs.declared.operands.Operands.{Operands}
-use Rattle.operations.specs.declared.parts.Side.{Side}
+use Rattle.operations.specs.Sides.{Side}
 use Rattle.operations.specs.Results.{conjunction_atoms}
 use Rattle.operations.specs.Operands.{AreSplit, Splitting}
 use Rattle.apply_and.specs.Additions.{IsSide}

@@ -3,7 +3,6 @@
 // Extended Resolution Proofs with a BDD-Based SAT Solver, 2021, section 4.2.)
 ghost use Rattle.std.specs.Prelude.{◌≡◌, ◌≢◌, ◌+◌, ◌++◌, ℕ, [], ◌∷◌, Ok, Err, IfOk};
 ghost use Rattle.hint_chain.specs.Atoms.{clause_from_atoms};
-ghost use Rattle.hint_chain.specs.Greedy.{AreLiveParts};
 ghost use Rattle.node_table.specs.declared.error.TableError.TheVariants.{NodeLimit};
 ghost use Rattle.node_table.specs.Table.{IsSound, UnlessTorn};
 ghost use Rattle.node_table.specs.declared.node.Justification.TheVariants.{Trivial, Clause};
@@ -12,23 +11,23 @@ ghost use Rattle.node_table.specs.Progress.{Steps, error_of};
 ghost use Rattle.operations.specs.Operands.{AreSplit};
 ghost use Rattle.operations.specs.Results.{conjunction_atoms};
 ghost use Rattle.operations.specs.Accounts.{GivesOne, RetiresNew, given_just};
-ghost use Rattle.operations.specs.Additions.{parts_in};
 ghost use Rattle.operations.specs.Entries.{IsNewJustification};
-ghost use Rattle.apply_and.specs.Additions.{AddsConjunction, AreSideParts, AreSides, IsSide};
+ghost use Rattle.operations.specs.Sides.{High, Low};
+ghost use Rattle.apply_and.specs.Additions.{AddsConjunction, AreSides, HasSide};
 
-use hint_chain::{Atom, ShortClause, clause_from_atoms, clause_law, closing_law, conjunction_law};
+use hint_chain::{
+    Atom, ShortClause, StepParts, clause_from_atoms, clause_law, closing_law, conjunction_law,
+};
 use host_io::Sink;
 use node_table::{Justification, Node, Table, TableError, steps_law};
 use operations::{
-    Operands, Side, StepParts, add_both, down_part, high_clause_law, just_part, literal_law,
-    operand_law, up_part,
+    Operands, add_both, down_parts, high_clause_law, just_number, literal_law, operand_law,
+    up_parts,
 };
-use std::alloc::Global;
 
 /// Justifies that w is the conjunction of the operands, where it is neither of them. Unless a write failed, the high
 /// clause is retired, also where the low one is refused.
 pub fn justify<S: Sink + Drop>(
-    alloc: Global,
     table: &mut Table<S>,
     operands: &Operands,
     w: Node,
@@ -63,9 +62,8 @@ pub fn justify<S: Sink + Drop>(
     let Some(clause) = conjunction_clause(table, operands, w) else {
         return Ok(Justification::Trivial);
     };
-    let high = parts_of(table, operands, w, Side::High, high);
-    let low = parts_of(table, operands, w, Side::Low, low);
-    let id = add_both(alloc, table, operands.level, clause.as_slice(), &high, &low)?;
+    let (high, low) = parts_of(table, operands, w, high, low);
+    let id = add_both(table, operands.level, clause.as_slice(), &high, &low)?;
     Ok(Justification::Clause(id))
 }
 
@@ -91,28 +89,35 @@ fn atoms_of<S: Sink + Drop>(table: &Table<S>, u: Node, v: Node, w: Node) -> [Ato
     ]
 }
 
-// The clauses that lead on one side from w, u and v to their children, and the conjunction of these.
+// What is kept of the clauses that lead from w, u and v to their children, and of the conjunctions of these, on both sides.
 fn parts_of<S: Sink + Drop>(
     table: &Table<S>,
     operands: &Operands,
     w: Node,
-    side: Side,
-    found: &(Node, Justification),
-) -> StepParts
+    high: &(Node, Justification),
+    low: &(Node, Justification),
+) -> (StepParts, StepParts)
     requires sound { IsSound table.now }
     requires split { AreSplit table.now.graph operands.now }
-    requires side { IsSide table.now.graph table.now.book.state.live operands.now w side found.now }
-    ensures parts { AreSideParts table.now.graph operands.now w side result }
-    ensures live { AreLiveParts table.now.book.state.live (parts_in result) }
+    requires sides { AreSides table.now.graph table.now.book.state.live operands.now w high.now low.now }
+    ensures high { HasSide table.now.graph table.now.book.state.live operands.now w High result.0 }
+    ensures low { HasSide table.now.graph table.now.book.state.live operands.now w Low result.1 }
 {
     operand_law();
-    let level = operands.level;
-    let (u, v) = operands.children(side);
-    let child = atoms_of(table, u, v, found.0);
-    StepParts {
-        result: up_part(table, level, side, w),
-        first: down_part(table, level, side, operands.u),
-        second: down_part(table, level, side, operands.v),
-        children: just_part(&found.1, &child),
-    }
+    let result = up_parts(table, operands.level, w);
+    let first = down_parts(table, operands.level, operands.u);
+    let second = down_parts(table, operands.level, operands.v);
+    let on_high = StepParts {
+        result: result.high,
+        first: first.high,
+        second: second.high,
+        children: just_number(&high.1),
+    };
+    let on_low = StepParts {
+        result: result.low,
+        first: first.low,
+        second: second.low,
+        children: just_number(&low.1),
+    };
+    (on_high, on_low)
 }

@@ -148,7 +148,7 @@ impl<S: Sink + Drop> Operation<S> for AndOperation {
         operand_law();
         growth_law();
         table.keys_law();
-        let found = finish(cache.alloc(), table, operands, high, low)?;
+        let found = finish(table, operands, high, low)?;
         let stored = StoredJustification::from_just(&found.1);
         match cache.keep(NodePair::of(operands.u, operands.v), (found.0, stored)) {
             Ok(given) => {
@@ -208,7 +208,6 @@ fn plain(u: Node, v: Node) -> Option<Node>
 // The conjunction from its two sides: the node of their results, and its clause. Where the node is an operand the clause is true by
 // itself, and nothing is added.
 fn finish<S: Sink + Drop>(
-    alloc: Global,
     table: &mut Table<S>,
     operands: &Operands,
     high: &(Node, Justification),
@@ -246,7 +245,7 @@ fn finish<S: Sink + Drop>(
     if is_operand(w, operands) {
         return Ok((w, Justification::Trivial));
     }
-    let just = justify(alloc, table, operands, w, high, low)?;
+    let just = justify(table, operands, w, high, low)?;
     Ok((w, just))
 }
 

@@ -1,8 +1,9 @@
 -- Told steps add up.
-use Rattle.std.specs.Prelude.{◌≡◌, ◌++◌, ℕ, Bool, true, List, [], ◌∷◌, IsTrue, refl}
-use Rattle.std.proofs.Common.{◌∙◌, sym, append-nil, append_assoc}
+use Rattle.std.specs.Prelude.{◌≡◌, ◌++◌, ◌&&◌, ℕ, Bool, true, false, List, [], ◌∷◌, IsTrue, refl}
+use Rattle.std.proofs.Common.{◌∙◌, ap, sym, append-nil, append_assoc}
 use Rattle.cnf_base.specs.declared.step.Step.{Step}
 use Rattle.lrat_rules.specs.State.{State}
+use Rattle.lrat_rules.specs.Conservative.{are_conservative, is_conservative}
 use Rattle.lrat_rules.specs.Run.{after_step}
 use Rattle.clause_ledger.specs.Book.{AreTold, Book, after_steps}
 
@@ -10,6 +11,25 @@ pub after_steps-append : (state : State) (front back : List Step) → after_step
     ≡ after_steps (after_steps state front) back
 after_steps-append state [] back = refl
 after_steps-append state (step ∷ front) back = after_steps-append (after_step state step) front back
+
+and_assoc : (p q r : Bool) → (p && (q && r)) ≡ ((p && q) && r)
+and_assoc true q r = refl
+and_assoc false q r = refl
+
+both : {p q : Bool} → IsTrue p → IsTrue q → IsTrue (p && q)
+both {p} {q} one two = ap (λ b. b && q) one ∙ two
+
+pub conservative-append : (vars : ℕ) (state : State) (front back : List Step) → are_conservative vars state (front ++ back)
+    ≡ (are_conservative vars state front && are_conservative vars (after_steps state front) back)
+conservative-append vars state [] back = refl
+conservative-append vars state (step ∷ front) back =
+    ap (λ b. is_conservative vars state step && b) (conservative-append vars (after_step state step) front back)
+    ∙ and_assoc (is_conservative vars state step) (are_conservative vars (after_step state step) front)
+    (are_conservative vars (after_steps (after_step state step) front) back)
+
+pub conservative_further : (vars : ℕ) (state : State) (front back : List Step) → IsTrue (are_conservative vars state front)
+    → IsTrue (are_conservative vars (after_steps state front) back) → IsTrue (are_conservative vars state (front ++ back))
+conservative_further vars state front back first second = conservative-append vars state front back ∙ both first second
 
 -- nothing was told, and the room may be another
 pub told_none : {S : Type 0} (book : Book S) (spare : ℕ) → IsTrue book.in_step → AreTold true book (record book { spare = spare }) []

@@ -25,7 +25,7 @@ children_differ : (negative : Bool) (below : Node) → below ≢ True → (if ne
 children_differ true below not_true = not_true
 children_differ false below not_true = λ same. not_true (sym same)
 
-size_of_negation : (x : ℕ) → nat_abs (neg_ℤ (pos x)) ≡ x
+pub size_of_negation : (x : ℕ) → nat_abs (neg_ℤ (pos x)) ≡ x
 size_of_negation zero = refl
 size_of_negation (suc x) = refl
 

@@ -13,7 +13,7 @@ use Rattle.clause_terms.specs.ClauseDiagram.{LiesFrom}
 abbrev pub AllLieFrom : Graph → ℕ → List ℤ → Type 0
 AllLieFrom graph level literals = (literal : ℤ) → IsTrue (list_any (int_eq literal) literals) → LiesFrom graph level literal
 
-int_eq-own : (x : ℤ) → int_eq x x ≡ true
+pub int_eq-own : (x : ℤ) → int_eq x x ≡ true
 int_eq-own x = (Decides-int_eq x x).1 refl
 
 -- a variable that none of the literals has

@@ -32,20 +32,20 @@ is_negative-pos x = le-ltb x 0 (omega arith)
 
 module _ (live : Live) (graph : Graph) (b : Branch) (defined : IsDefined live graph b) where
   -- the clause from the high child up, by what the child is
-  hu_at : (h : Node) → b.high ≡ h → is_false_node h ≡ false → (defs_of b).hu ≡ Some b.first
+  pub hu_at : (h : Node) → b.high ≡ h → is_false_node h ≡ false → (defs_of b).hu ≡ Some b.first
   hu_at h is open_ = ap (λ n. given_if (not (is_false_node n)) b.first) is ∙ ap (λ t. given_if (not t) b.first) open_
 
-  lu_at : (l : Node) → b.low ≡ l → is_false_node l ≡ false → (defs_of b).lu ≡ Some (lu_first b.high b.first)
+  pub lu_at : (l : Node) → b.low ≡ l → is_false_node l ≡ false → (defs_of b).lu ≡ Some (lu_first b.high b.first)
   lu_at l is open_ = ap (λ n. given_if (not (is_false_node n)) (lu_first b.high b.first)) is
       ∙ ap (λ t. given_if (not t) (lu_first b.high b.first)) open_
 
-  hu_clause : (h : Node) → b.high ≡ h → is_false_node h ≡ false
+  pub hu_clause : (h : Node) → b.high ≡ h → is_false_node h ≡ false
       → clause_at live b.first ≡ clause_from_atoms (high_up (pos b.variable) (pos (variable_at graph b.level)) (atom_of graph h))
   hu_clause h is open_ =
       ap (clause_named live) (sym (hu_at h is open_)) ∙ defined.hu
       ∙ ap (λ n. clause_from_atoms (high_up (pos b.variable) (pos (variable_at graph b.level)) (atom_of graph n))) is
 
-  lu_clause : (l : Node) → b.low ≡ l → is_false_node l ≡ false
+  pub lu_clause : (l : Node) → b.low ≡ l → is_false_node l ≡ false
       → clause_at live (lu_first b.high b.first) ≡ clause_from_atoms (low_up (pos b.variable) (pos (variable_at graph b.level)) (atom_of graph l))
   lu_clause l is open_ =
       ap (clause_named live) (sym (lu_at l is open_)) ∙ defined.lu

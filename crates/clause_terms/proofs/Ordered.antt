@@ -79,7 +79,7 @@ one_more placed i e some small none before k d among level = elim (cases_lt (k +
 ]
 
 -- a literal holds where the variable of its level has the value
-literal_value : (v : Assignment) (negative : Bool) (x : ℕ) (t : Bool) → 0 < x → v x ≡ t
+pub literal_value : (v : Assignment) (negative : Bool) (x : ℕ) (t : Bool) → 0 < x → v x ≡ t
     → literal_holds v (if negative then neg_ℤ (pos x) else pos x) ≡ (if negative then not t else t)
 literal_value v true zero t positive is = absurd (omega (arith, positive))
 literal_value v true (suc n) t positive is = ap not is
@@ -108,7 +108,7 @@ pub same_literals : (graph : Graph) (clause : List ℤ) (placed : List Placed) �
 same_literals graph clause placed in_order x = list_any-IsPermutation (int_eq x) clause (map (literal_at graph) placed) in_order.same
 
 -- the value of a level's variable is that of the level
-value_there : (graph : Graph) → IsOrder graph.order → (a : Levels) (level : ℕ) → level < levels graph
+pub value_there : (graph : Graph) → IsOrder graph.order → (a : Levels) (level : ℕ) → level < levels graph
     → by_variable graph.order a (variable_at graph level) ≡ a level
 value_there graph ordered a level small =
     ap a (position_or_len_is (λ x. x == variable_at graph level) graph.order level 0 (omega (arith, small))

@@ -48,7 +48,7 @@ repeated same_set graph live q rest node path diagram =
       };
     }
 
-same_placed : (p q : Placed) → p.level ≡ q.level → p.negative ≡ q.negative → p ≡ q
+pub same_placed : (p q : Placed) → p.level ≡ q.level → p.negative ≡ q.negative → p ≡ q
 same_placed p q level negative = λ i. record { level = level i; negative = negative i }
 
 pub skipped : SameSetLaw → (graph : Graph) (live : Live) (placed : List Placed) (i : ℕ) (d : Placed) → i + 1 < length placed

@@ -6,3 +6,4 @@ pub mod ProofText
 pub mod Cut
 pub mod Order
 pub mod Limits
+pub mod Cube

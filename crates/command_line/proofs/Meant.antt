@@ -19,7 +19,7 @@ use Rattle.dimacs_reader.specs.declared.mode.Mode.{Mode}
 use Rattle.schedule_plan.specs.declared.limits.Limits.{Limits}
 use Rattle.command_line.specs.Parser.{the_app}
 use Rattle.command_line.specs.Command.{Command, Meaning, Asks, AsksHelp, Misuse, IsOneOf, MayMean, Planned, bench_means, check_means, command}
-use Rattle.command_line.specs.Command.{rewrite_among, format_given}
+use Rattle.command_line.specs.Command.{any_order_among, rewrite_among, format_given}
 use Rattle.command_line.specs.Command.{is_set, limits_among, make_means, means, meanings, method_named, mode_given, names_among}
 use Rattle.command_line.specs.Command.{only_command, order_means, part_named, plan_among, plan_given, progress_among, refusal_means}
 use Rattle.command_line.specs.Command.{size_among}
@@ -129,18 +129,21 @@ two_alone None (Some other) = refl
 two_alone (Some file) None = refl
 two_alone (Some file) (Some other) = refl
 
-pub check_values : (values : ArgMatches) (file proof format lax : Option Text) (progress : Bool)
+pub check_values : (values : ArgMatches) (file proof format lax : Option Text) (any_order progress : Bool)
     → file ≡ first_value (found_of values) (codes "FILE") → proof ≡ first_value (found_of values) (codes "PROOF") → format
     ≡ first_value (found_of values) (codes "format") → lax
-    ≡ first_value (found_of values) (codes "lax") → progress ≡ progress_among (rows_of (found_of values))
+    ≡ first_value (found_of values) (codes "lax") → any_order ≡ any_order_among (rows_of (found_of values))
+    → progress ≡ progress_among (rows_of (found_of values))
     → check_means (rows_of (found_of values))
-    ≡ to_check (two_names file proof (None ∷ None ∷ None ∷ [])) (format_given format) (mode_given lax) progress
-check_values values file proof format lax progress file_is proof_is format_is lax_is progress_is =
-    let read : check_means (rows_of (found_of values)) ≡ to_check (two_names file proof []) (format_given format) (mode_given lax) progress = λ i.
+    ≡ to_check (two_names file proof (None ∷ None ∷ None ∷ [])) (format_given any_order format) (mode_given lax) progress
+check_values values file proof format lax any_order progress file_is proof_is format_is lax_is any_order_is progress_is =
+    let read : check_means (rows_of (found_of values))
+    ≡ to_check (two_names file proof []) (format_given any_order format) (mode_given lax) progress = λ i.
     to_check (two_names (of_row values (codes "FILE") file file_is i) (of_row values (codes "PROOF") proof proof_is i) [])
-    (format_given (of_row values (codes "format") format format_is i))
+    (format_given (sym any_order_is i) (of_row values (codes "format") format format_is i))
     (mode_given (of_row values (codes "lax") lax lax_is i)) (sym progress_is i) in
-    read ∙ ap (λ (names : Option (Text × Text)). to_check names (format_given format) (mode_given lax) progress) (two_alone file proof)
+    read
+    ∙ ap (λ (names : Option (Text × Text)). to_check names (format_given any_order format) (mode_given lax) progress) (two_alone file proof)
 
 -- nor do they beside a third one
 three_alone : (file other third : Option Text) → two_names file other (third ∷ []) ≡ two_names file other (third ∷ None ∷ None ∷ [])

@@ -15,7 +15,7 @@ use Rattle.dimacs_reader.specs.declared.mode.Mode.TheVariants.{Strict, Lax}
 use Rattle.schedule_plan.specs.Limits.{most_ids}
 use Rattle.schedule_plan.specs.declared.limits.Limits.{Limits}
 use Rattle.command_line.specs.declared.format.ProofFormat.{ProofFormat}
-use Rattle.command_line.specs.declared.format.ProofFormat.TheVariants.{Lrat, Drat}
+use Rattle.command_line.specs.declared.format.ProofFormat.TheVariants.{Lrat, Drat, DratBySet}
 use Rattle.command_line.specs.declared.method.OrderMethod.{OrderMethod}
 use Rattle.command_line.specs.declared.method.OrderMethod.TheVariants.{Degree, Cardinality, Levels, Profile}
 use Rattle.command_line.specs.declared.plan.PlanName.{PlanName}
@@ -227,13 +227,21 @@ plan_given None None (Some file) false = Some (ByBuckets file)
 plan_given None None None true = Some Found
 plan_given _ _ _ _ = None
 
--- the format of this name, if it is one, and the one that the option `--format` gives
+-- the format of this name, if it is one, and the one that the options `--format` and `--any-order` give
 abbrev pub format_named : Text → Option ProofFormat
 format_named name = if bytes_eq name (codes "lrat") then Some Lrat else if bytes_eq name (codes "drat") then Some Drat else None
 
-abbrev pub format_given : Option Text → Option ProofFormat
-format_given None = Some Lrat
-format_given (Some name) = format_named name
+abbrev pub format_of_name : Option Text → Option ProofFormat
+format_of_name None = Some Lrat
+format_of_name (Some name) = format_named name
+
+abbrev pub in_any_order : ProofFormat → Option ProofFormat
+in_any_order Lrat = None
+in_any_order Drat = Some DratBySet
+in_any_order DratBySet = Some DratBySet
+
+abbrev pub format_given : Bool → Option Text → Option ProofFormat
+format_given any_order name = if any_order then option_and_then in_any_order (format_of_name name) else format_of_name name
 
 -- the method of this name, if it is one
 abbrev pub method_named : Text → Option OrderMethod
@@ -323,6 +331,10 @@ names_among rows =
 abbrev pub progress_among : List Row → Bool
 progress_among rows = is_set (first_of (codes "progress") rows)
 
+-- whether deletions name sets of literals, among these values
+abbrev pub any_order_among : List Row → Bool
+any_order_among rows = is_set (first_of (codes "any-order") rows)
+
 abbrev pub solve_means : List Row → Meaning
 solve_means rows =
     to_solve (names_among rows) (mode_given (first_of (codes "lax") rows)) (first_of (codes "order") rows) (plan_among rows)
@@ -330,7 +342,7 @@ solve_means rows =
 
 abbrev pub check_means : List Row → Meaning
 check_means rows = to_check (two_names (first_of (codes "FILE") rows) (first_of (codes "PROOF") rows) [])
-    (format_given (first_of (codes "format") rows)) (mode_given (first_of (codes "lax") rows)) (progress_among rows)
+    (format_given (any_order_among rows) (first_of (codes "format") rows)) (mode_given (first_of (codes "lax") rows)) (progress_among rows)
 
 -- what is to be rewritten, among these values
 abbrev pub rewrite_among : List Row → Option ToRewrite

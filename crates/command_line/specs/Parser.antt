@@ -58,10 +58,10 @@ solve_app =
 abbrev pub proof_file_rule : Rule
 proof_file_rule = record (new_rule (codes "PROOF")) { required = true }
 
--- `check FILE PROOF [--format FORMAT] [--lax] [--progress]`
+-- `check FILE PROOF [--format FORMAT] [--any-order] [--lax] [--progress]`
 abbrev pub check_app : App
 check_app = with_rules (new_app (codes "check"))
-    (file_rule ∷ proof_file_rule ∷ option_rule (codes "format") ∷ lax_rule ∷ progress_rule ∷ [])
+    (file_rule ∷ proof_file_rule ∷ option_rule (codes "format") ∷ flag_rule (codes "any-order") ∷ lax_rule ∷ progress_rule ∷ [])
 
 -- `drat FILE PROOF --out P [--lax]`, and `trim` so
 abbrev pub rewrite_app : Text → App

@@ -1,7 +1,7 @@
 // The flags of the command line, and the mode in which a formula is read, by the flag `--lax`.
 ghost use Rattle.std.specs.Prelude.{◌≡◌};
 ghost use Rattle.clap.specs.Words.{found_of, rows_of};
-ghost use Rattle.command_line.specs.Command.{is_set, mode_given, progress_among};
+ghost use Rattle.command_line.specs.Command.{any_order_among, is_set, mode_given, progress_among};
 ghost use Rattle.command_line.specs.Reading.{text_of};
 
 use clap::ArgMatches;
@@ -23,6 +23,13 @@ pub fn progress_among(values: &ArgMatches<'_>) -> bool
     ensures { result ≡ progress_among (rows_of (found_of values.now)) }
 {
     is_set(values.get_str("progress"))
+}
+
+/// Whether the deletions of a proof name sets of literals, among these values.
+pub fn any_order_among(values: &ArgMatches<'_>) -> bool
+    ensures { result ≡ any_order_among (rows_of (found_of values.now)) }
+{
+    is_set(values.get_str("any-order"))
 }
 
 /// Whether a flag is among the words, by the text that the parser gives it.

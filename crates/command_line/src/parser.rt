@@ -24,7 +24,7 @@ const ALL: Texts<'static> = Texts {
 bddsat solve FILE --proof P [--lax] [--order F]
                     [--search | --buckets F | --schedule F | --plan PLAN]
                     [--max-nodes N] [--max-ids N] [--cache N] [--progress]
-       bddsat check FILE PROOF [--format FORMAT] [--lax] [--progress]
+       bddsat check FILE PROOF [--format FORMAT] [--any-order] [--lax] [--progress]
        bddsat drat FILE PROOF --out P [--lax]
        bddsat trim FILE PROOF --out P [--lax]
        bddsat order FILE --by METHOD --out F [--lax]
@@ -69,16 +69,18 @@ Example:
 
 const CHECK: Texts<'static> = Texts {
     about: "Judges the proof in PROOF that FILE is unsatisfiable",
-    usage: "bddsat check FILE PROOF [--format FORMAT] [--lax] [--progress]",
+    usage: "bddsat check FILE PROOF [--format FORMAT] [--any-order] [--lax] [--progress]",
     after: "\
 Example:
   bddsat check formula.cnf formula.lrat
-  bddsat check formula.cnf formula.drat --format drat",
+  bddsat check formula.cnf formula.drat --format drat --any-order",
 };
 
 const PROOF_HELP: &str = "The proof, in LRAT or in textual DRAT";
 
 const FORMAT_HELP: &str = "lrat, or drat, which has no hints [default: lrat]";
+
+const ANY_ORDER_HELP: &str = "DRAT: a deletion names its literals in any order";
 
 const SEARCH_HELP: &str = "Finds the orders by trial runs; what to try first";
 
@@ -185,6 +187,7 @@ fn check_parser<'a>(alloc: Global) -> Result<Command<'a>, AllocError>
         .arg(formula_arg(alloc))?
         .arg(proof_file_arg(alloc, PROOF_HELP))?
         .arg(option_arg(alloc, "format", "FORMAT", FORMAT_HELP))?
+        .arg(flag_arg(alloc, "any-order", ANY_ORDER_HELP))?
         .arg(lax_arg(alloc))?;
     with_progress(alloc, command)
 }

@@ -13,7 +13,7 @@ ghost use Rattle.command_line.specs.Reading.{IsRefusal, IsRefusalOf, IsTaken, Is
 use crate::board::{BenchTask, MakeTask, bench_asked, make_asked};
 use crate::format::{ProofFormat, format_given};
 use crate::limits::limits_among;
-use crate::mode::{mode_given, progress_among};
+use crate::mode::{any_order_among, mode_given, progress_among};
 use crate::names::{FileNames, names_among, two_names};
 use crate::order::{OrderTask, order_asked};
 use crate::parser::parser;
@@ -222,7 +222,8 @@ fn check_asked<'a>(values: &ArgMatches<'a>) -> Option<Asked<'a>>
         None,
         None,
     )?;
-    let format = format_given(values.get_str("format"))?;
+    let any_order = any_order_among(values);
+    let format = format_given(any_order, values.get_str("format"))?;
     let mode = mode_given(values.get_str("lax"));
     let progress = progress_among(values);
     let files = FileNames { formula, proof };

@@ -1,6 +1,8 @@
 //! Tests of the layers of diagrams: `node_table`, `apply_and`, `quantify`, `imply`, `term_runner`.
 #![tactic(auto)]
 
+#[cfg(test)]
+mod asked;
 mod cache;
 #[cfg(test)]
 mod checked;

@@ -2,6 +2,7 @@
 ghost use Rattle.node_table.specs.Table.{IsSound};
 ghost use Rattle.diagram_tests.specs.Plain.{IsPlain};
 
+use crate::asked::{ask_cubes, sum_and_weaken};
 use crate::retired::delete;
 use crate::runner::{give_and_release, give_and_run};
 use crate::script::{play, push_left};
@@ -20,6 +21,8 @@ fn tell(rt: &impl Abort, alloc: Global, script: &str, text: &mut String) -> Resu
         "trial" => run_and_try(alloc, script, text),
         "runner" => give_and_release(alloc, script, text),
         "behind" => give_and_run(alloc, script, text),
+        "sum" => sum_and_weaken(alloc, script, text),
+        "cubes" => ask_cubes(alloc, script, text),
         _ => tell_table(rt, alloc, script, text),
     }
 }
@@ -273,6 +276,46 @@ const BEHIND: &str = "\
 #[test]
 fn behind_terms(rt: HostRuntime) -> Result<(), Fail> {
     expect_rows(&rt, rt.alloc(), BEHIND)
+}
+
+// The odd sum of both variables beside the terms of two clauses, and the first term and both together weakened to it. In the first row
+// both together are that sum, whose unit is added again; in the second one they imply it, with two clauses; in the third one they are
+// False, and the unit follows from the empty clause. The first term never implies it.
+const SUMS: &str = "\
+    sum|1 2,-1 -2;true true false 22 Refused { line: 22, reason: NoEmptyClause };3 3 -2 0 0/4 -3 2 0 -3 0/5 4 -1 0 0/6 4 1 -3 0 0/\
+    7 -4 1 3 0 -5 -6 0/8 4 0 5 6 3 1 0/9 5 2 0 0/10 -5 -2 0 -9 0/11 6 -1 -5 0 0/12 6 1 0 0/13 -6 -1 5 0 -11 -12 0/14 6 0 12 11 9 2 \
+    0/15 7 -1 -5 0 0/16 7 1 -3 0 0/17 -7 -1 5 0 -15 -16 0/18 -7 1 3 0 -15 -16 0/19 -1 -4 -6 7 0 15 13 0/20 -4 -6 7 0 19 16 7 0/21 7 \
+    0 8 14 20 0/21 d 19 0/22 7 0 21 0/\n\
+    sum|1,-2;false true false 23 Refused { line: 24, reason: NoEmptyClause };3 3 -1 0 0/4 -3 1 0 -3 0/5 3 0 3 1 0/6 4 2 0 0/7 -4 -2 \
+    0 -6 0/8 4 0 6 2 0/9 5 -1 -4 0 0/10 -5 -1 4 0 -9 0/11 -5 1 0 -9 0/12 -1 -3 -4 5 0 9 0/13 -3 -4 5 0 12 4 0/14 5 0 5 8 13 0/14 d \
+    12 0/15 6 -2 0 0/16 -6 2 0 -15 0/17 7 -1 -4 0 0/18 7 1 -6 0 0/19 -7 -1 4 0 -17 -18 0/20 -7 1 6 0 -17 -18 0/21 -1 -5 7 0 10 17 \
+    0/22 -5 7 0 21 11 0/23 7 0 14 22 0/23 d 21 0/\n\
+    sum|1,-1;false true false 20 Verified;3 3 -1 0 0/4 -3 1 0 -3 0/5 3 0 3 1 0/6 4 1 0 0/7 -4 -1 0 -6 0/8 4 0 6 2 0/9 -1 -3 -4 0 7 \
+    0/10 -3 -4 0 9 4 0/11 0 5 8 10 0/11 d 9 0/12 5 -2 0 0/13 -5 2 0 -12 0/14 6 2 0 0/15 -6 -2 0 -14 0/16 7 -1 -6 0 0/17 7 1 -5 0 0/\
+    18 -7 -1 6 0 -16 -17 0/19 -7 1 5 0 -16 -17 0/20 7 0 11 0/";
+
+#[test]
+fn sums(rt: HostRuntime) -> Result<(), Fail> {
+    expect_rows(&rt, rt.alloc(), SUMS)
+}
+
+// Two cubes beside True, and then beside the terms of two clauses together. In the first row these are the second variable, and the
+// first cube is refused: its clause follows by a clause of each of its nodes, the term's unit, and that of their conjunction, which is
+// deleted once the cache of one entry keeps the next conjunction in the place of this one. In the second row they are False, and each
+// cube's clause follows from the empty clause.
+const CUBES: &str = "\
+    cubes|1 2,-1 2|1 -2|-1 2;10 01 none 01 28 Refused { line: 30, reason: NoEmptyClause };3 3 -2 0 0/4 -3 2 0 -3 0/5 4 -1 0 0/6 4 1 \
+    -3 0 0/7 -4 1 3 0 -5 -6 0/8 4 0 5 6 3 1 0/9 5 -1 -3 0 0/10 5 1 0 0/11 -5 -1 3 0 -9 -10 0/12 5 0 10 9 3 2 0/13 -1 -4 -5 3 0 11 0/\
+    14 -4 -5 3 0 13 7 0/15 3 0 8 12 14 0/15 d 13 0/16 6 2 0 0/17 -6 -2 0 -16 0/18 7 -1 -6 0 0/19 -7 -1 6 0 -18 0/20 -7 1 0 -18 0/21 \
+    8 1 -3 0 0/22 -8 -1 0 -21 0/23 -8 1 3 0 -21 0/24 -2 -6 -3 0 17 0/25 -6 -3 0 24 4 0/26 -1 -7 -3 0 19 25 0/27 -7 -3 0 26 20 0/28 \
+    -1 2 0 16 18 15 27 0/28 d 24 14 26 25 0/28 d 27 0/\n\
+    cubes|1,-1|1 2|-1 -2;11 00 none none 23 Verified;3 3 -1 0 0/4 -3 1 0 -3 0/5 3 0 3 1 0/6 4 1 0 0/7 -4 -1 0 -6 0/8 4 0 6 2 0/9 -1 \
+    -3 -4 0 7 0/10 -3 -4 0 9 4 0/11 0 5 8 10 0/11 d 9 0/12 5 -2 0 0/13 -5 2 0 -12 0/14 6 -1 -5 0 0/15 -6 -1 5 0 -14 0/16 -6 1 0 -14 \
+    0/17 7 2 0 0/18 -7 -2 0 -17 0/19 8 1 -7 0 0/20 -8 -1 0 -19 0/21 -8 1 7 0 -19 0/22 -1 -2 0 11 0/23 1 2 0 11 0/";
+
+#[test]
+fn cubes(rt: HostRuntime) -> Result<(), Fail> {
+    expect_rows(&rt, rt.alloc(), CUBES)
 }
 
 /// The refusal that no script comes to.

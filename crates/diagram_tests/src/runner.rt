@@ -57,7 +57,7 @@ fn give_both(runner: &mut Runner<ProofText>) -> Result<(u32, u32), Fail>
     Ok((none, all))
 }
 
-fn give(runner: &mut Runner<ProofText>, number: u32) -> Result<Term, Fail>
+pub fn give(runner: &mut Runner<ProofText>, number: u32) -> Result<Term, Fail>
     requires runner { IsRunner runner.old }
     requires from_one { 1 ≤ number }
     requires to_len { number ≤ length runner.old.formula.now.clauses }
@@ -67,7 +67,7 @@ fn give(runner: &mut Runner<ProofText>, number: u32) -> Result<Term, Fail>
     Ok(runner.term(number)?)
 }
 
-fn meet(runner: &mut Runner<ProofText>, u: &Term, v: &Term) -> Result<Term, Fail>
+pub fn meet(runner: &mut Runner<ProofText>, u: &Term, v: &Term) -> Result<Term, Fail>
     requires { IsRunner runner.old }
     ensures runner { OnOk result (IsRunner runner.new) }
     ensures same { OnOk result (IsSameRun runner.old runner.new) }
@@ -81,8 +81,8 @@ fn meet(runner: &mut Runner<ProofText>, u: &Term, v: &Term) -> Result<Term, Fail
     Ok(runner.meet(u, v)?)
 }
 
-// Releases a term that is out.
-fn take_back(runner: &mut Runner<ProofText>, term: Term)
+/// Releases a term that is out.
+pub fn take_back(runner: &mut Runner<ProofText>, term: Term)
     requires { IsRunner runner.old }
     ensures runner { IsRunner runner.new }
     ensures formula { runner.new.formula ≡ runner.old.formula }

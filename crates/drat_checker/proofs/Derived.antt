@@ -1,5 +1,5 @@
 -- Literals that propagation puts behind others: which sets have them, and that they stay derived as clauses come, or go that force nothing.
-use Rattle.std.proofs.Common.{◌≡◌, true, false, cond, not, ℤ, neg_ℤ, List, [], ◌∷◌, ◌++◌, if◌then◌else◌, int_eq}
+use Rattle.std.proofs.Common.{◌≡◌, ℕ, set, None, Some, true, false, cond, not, ℤ, neg_ℤ, List, [], ◌∷◌, ◌++◌, if◌then◌else◌, int_eq}
 use Rattle.std.proofs.Common.{refl, sym, ap, ◌∙◌, subst, append_assoc}
 use Rattle.std.specs.List.{list_any, list_all}
 use Rattle.std.proofs.lemmas.Bool.{and_parts, and_from, or_left}
@@ -9,12 +9,13 @@ use Rattle.lrat_rules.specs.declared.outcome.Effect.{Effect}
 use Rattle.lrat_rules.specs.declared.outcome.Effect.TheVariants.{Conflict, Unit as Forced, NotUnit}
 use Rattle.lrat_rules.specs.Chain.{FalseSet, literals_of, outside, effect_of_outside, effect}
 use Rattle.lrat_rules.specs.Trail.{with_last}
-use Rattle.drat_rules.specs.Clauses.{is_among, without_first}
+use Rattle.drat_rules.specs.Clauses.{is_among}
 use Rattle.drat_rules.specs.Quiet.{IsQuiet, Includes}
+use Rattle.drat_checker.specs.Places.{Places, place_at, standing}
 use Rattle.drat_checker.specs.Propagation.{Derives, Extends, SameQuiet, derived, makes_false}
 use Rattle.drat_checker.proofs.FalseSets.{int_eq-true, eq-int_eq, at_member, all-last, and_known}
 use Rattle.drat_checker.proofs.Propagated.{ForcedLaw}
-use Rattle.drat_checker.proofs.Standing.{some-clause, any-among, any-without}
+use Rattle.drat_checker.proofs.Standing.{some-clause, any-among, any-emptied}
 
 pub derives-none : (clauses : List (List ℤ)) (xs : List ℤ) → Derives clauses xs xs
 derives-none clauses xs = record { rest = []; parts = sym (append-nil xs); derived = refl }
@@ -152,22 +153,23 @@ in-front : (xs ys : List ℤ) (x : ℤ) → literals_of xs x ≡ true → litera
 in-front xs ys x m = list_any-append (int_eq x) xs ys ∙ or_left _ _ m
 
 -- a clause that forces nothing goes
-derived-fewer : (clauses : List (List ℤ)) (clause front rest : List ℤ) → effect (literals_of (front ++ rest)) clause ≡ NotUnit
-    → derived clauses front rest ≡ true → derived (without_first clause clauses) front rest ≡ true
-derived-fewer clauses clause front [] e h = refl
-derived-fewer clauses clause front (x ∷ rest) e h =
-    let parts = and_parts (list_any (λ c. makes_false x (effect (literals_of front) c)) clauses) _ h in
-    let before : effect (literals_of front) clause ≡ NotUnit =
-    not_unit-before (literals_of front) (literals_of (front ++ x ∷ rest)) (record { includes = in-front front (x ∷ rest) }) clause e in
-    and_from _ _
-    (any-without (λ c. makes_false x (effect (literals_of front) c)) clauses clause (ap (makes_false x) before) parts.0)
-    (derived-fewer clauses clause (front ++ x ∷ []) rest
-    (ap (λ (l : List ℤ). effect (literals_of l) clause) (append_assoc front (x ∷ []) rest) ∙ e) parts.1)
+module _ (places : Places) (number : ℕ) (own : List ℤ) (stands : place_at places number ≡ Some own) where
+  derived-emptied : (front rest : List ℤ) → effect (literals_of (front ++ rest)) own ≡ NotUnit → derived (standing places) front rest ≡ true
+      → derived (standing (set places number None)) front rest ≡ true
+  derived-emptied front [] e h = refl
+  derived-emptied front (x ∷ rest) e h =
+      let parts = and_parts (list_any (λ c. makes_false x (effect (literals_of front) c)) (standing places)) _ h in
+      let before : effect (literals_of front) own ≡ NotUnit =
+      not_unit-before (literals_of front) (literals_of (front ++ x ∷ rest)) (record { includes = in-front front (x ∷ rest) }) own e in
+      and_from _ _
+      (any-emptied (λ c. makes_false x (effect (literals_of front) c)) places number own stands (ap (makes_false x) before) parts.0)
+      (derived-emptied (front ++ x ∷ []) rest
+      (ap (λ (l : List ℤ). effect (literals_of l) own) (append_assoc front (x ∷ []) rest) ∙ e) parts.1)
 
-pub derives-fewer : {clauses : List (List ℤ)} {a b : List ℤ} (clause : List ℤ) → effect (literals_of b) clause ≡ NotUnit
-    → Derives clauses a b → Derives (without_first clause clauses) a b
-derives-fewer {clauses} {a} {b} clause e d = record {
-  rest = d.rest;
-  parts = d.parts;
-  derived = derived-fewer clauses clause a d.rest (ap (λ (l : List ℤ). effect (literals_of l) clause) (sym d.parts) ∙ e) d.derived;
-}
+  pub derives-emptied : {a b : List ℤ} → effect (literals_of b) own ≡ NotUnit → Derives (standing places) a b
+      → Derives (standing (set places number None)) a b
+  derives-emptied {a} {b} e d = record {
+    rest = d.rest;
+    parts = d.parts;
+    derived = derived-emptied a d.rest (ap (λ (l : List ℤ). effect (literals_of l) own) (sym d.parts) ∙ e) d.derived;
+  }

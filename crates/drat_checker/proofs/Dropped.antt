@@ -1,5 +1,6 @@
 -- A number is dropped from a list, and the last one takes its place: no other number is lost.
-use Rattle.std.proofs.Common.{◌≡◌, ℕ, zero, suc, ◌+◌, ◌-◌, ◌<◌, ◌≤◌, true, false, cond, ◌||◌, List, [], ◌∷◌, length, take, set, get_or, nat_eq}
+use Rattle.std.proofs.Common.{◌≡◌, ℕ, zero, suc, ◌+◌, ◌-◌, ◌<◌, ◌≤◌, true, false, cond, ◌||◌, List, [], ◌∷◌, length, take, set, get_or}
+use Rattle.std.proofs.Common.{nat_eq}
 use Rattle.std.proofs.Common.{refl, sym, ap, ◌∙◌, subst, arith}
 use Rattle.std.specs.List.{sum_by, swap_remove}
 use Rattle.std.proofs.lemmas.List.{take-take, take-set}
@@ -38,7 +39,8 @@ pub dropped-kept : (xs : List ℕ) (i d : ℕ) → i < length xs → (n : ℕ) �
     → has_number n (swap_remove xs i d) ≡ true
 dropped-kept xs i d within n other listed =
     let all : sum_by (one_of n) (swap_remove xs i d) + one_of n (get_or xs i 0) ≡ sum_by (one_of n) xs =
-    ap (λ k. sum_by (one_of n) (swap_remove xs i d) + one_of n k) (get_or-any xs i 0 d within) ∙ sum_by-swap_remove (one_of n) xs i d within in
+    ap (λ k. sum_by (one_of n) (swap_remove xs i d) + one_of n k) (get_or-any xs i 0 d within)
+    ∙ sum_by-swap_remove (one_of n) xs i d within in
     let gone : one_of n (get_or xs i 0) ≡ 0 = ap (λ b. cond b 1 0) other in
     let some : 0 < sum_by (one_of n) xs = counted n xs listed in
     found n (swap_remove xs i d) (omega arith)

@@ -32,7 +32,11 @@ pub watched-none : (kept : Watches) → kept.pairs.items ≡ [] → AreWatched k
 watched-none kept none = record {
   many = ap length none;
   watched = record {
-    are = record { own = λ n clause pair at is. absurd (nothing-at n clause at); there = λ n clause at long. absurd (nothing-at n clause at) };
+    are = record {
+      own = λ n clause pair at is. absurd (nothing-at n clause at);
+      there = λ n clause at long. absurd
+          (nothing-at n clause at);
+    };
     listed = λ n clause x at watched. absurd (nothing-at n clause at);
   };
 }

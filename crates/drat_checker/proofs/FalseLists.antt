@@ -8,10 +8,6 @@ use Rattle.drat_checker.specs.Trail.{IsFalseList}
 use Rattle.drat_checker.proofs.FalseSets.{apart-push}
 use Rattle.drat_checker.proofs.Trails.{literals_of-last, once-last}
 
-pub flags-same : {old new : Flags} {literals : List ℤ} → IsFalseList old literals → ((x : ℤ) → is_set new x ≡ is_set old x)
-    → IsFalseList new literals
-flags-same f same = record { apart = f.apart; flagged = λ x. same x ∙ f.flagged x; once = f.once }
-
 pub false-push : {old new : Flags} {literals : List ℤ} → IsFalseList old literals → (literal : ℤ) → 0 < nat_abs literal
     → literals_of literals (neg_ℤ literal) ≡ false → literals_of literals literal ≡ false
     → ((x : ℤ) → is_set new x ≡ (int_eq x literal || is_set old x)) → IsFalseList new (literals ++ literal ∷ [])

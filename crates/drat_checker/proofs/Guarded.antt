@@ -38,7 +38,8 @@ all-one x y (z ∷ zs) all m =
     ]
 
 -- what is outside has a literal whose negation is false, or two different ones
-closed-by : (n : FalseSet) (y : ℤ) (xs : List ℤ) → literals_of xs y ≡ true → n (neg_ℤ y) ≡ true → adds_nothing n (effect_of_outside xs) ≡ true
+closed-by : (n : FalseSet) (y : ℤ) (xs : List ℤ) → literals_of xs y ≡ true → n (neg_ℤ y) ≡ true
+    → adds_nothing n (effect_of_outside xs) ≡ true
 closed-by n y [] m negated = cc
 closed-by n y (x ∷ xs) m negated =
     elim (list_all (int_eq x) xs)
@@ -49,7 +50,8 @@ closed-by n y (x ∷ xs) m negated =
       | false ↦ λ other. refl
     ] refl
 
-two-outside : (a b : ℤ) (xs : List ℤ) → literals_of xs a ≡ true → literals_of xs b ≡ true → int_eq a b ≡ false → effect_of_outside xs ≡ NotUnit
+two-outside : (a b : ℤ) (xs : List ℤ) → literals_of xs a ≡ true → literals_of xs b ≡ true → int_eq a b ≡ false
+    → effect_of_outside xs ≡ NotUnit
 two-outside a b [] one two apart = cc
 two-outside a b (x ∷ xs) one two apart =
     elim (list_all (int_eq x) xs) as (λ c. list_all (int_eq x) xs ≡ c → (if c then Forced x else NotUnit) ≡ NotUnit) [
@@ -96,9 +98,11 @@ module _ (n : FalseSet) (other : ℤ) where
   all-other [] h = refl
   all-other (y ∷ ys) h =
       let parts = and_parts (int_eq y other || n y) (list_all (λ z. int_eq z other || n z) ys) h in
-      elim (n y) as (λ b. n y ≡ b → (int_eq y other || b) ≡ true → list_all (int_eq other) (cond (not b) (y ∷ outside n ys) (outside n ys)) ≡ true) [
+      elim (n y) as (λ b. n y ≡ b → (int_eq y other || b) ≡ true → list_all (int_eq other) (cond (not b) (y ∷ outside n ys)
+      (outside n ys)) ≡ true) [
         | true ↦ λ e _. all-other ys parts.1
-        | false ↦ λ e one. and_from _ _ (eq-int_eq other y (sym (int_eq-true y other (or_last (int_eq y other) one)))) (all-other ys parts.1)
+        | false ↦ λ e one. and_from _ _ (eq-int_eq other y (sym (int_eq-true y other (or_last (int_eq y other) one))))
+            (all-other ys parts.1)
       ] refl parts.0
 
   forced-one : (xs : List ℤ) → list_all (int_eq other) xs ≡ true → literals_of xs other ≡ true → effect_of_outside xs ≡ Forced other

@@ -46,19 +46,25 @@ module _ {by_literal by_hash : NumberLists} {shorts : List ℕ} {by_literal' by_
     ];
   }
 
-  -- a clause that goes
-  pub indexed-clear : (gone : ℕ) (after : Places) → after ≡ set places gone None → KeepsStandingLists after by_literal by_literal'
-      → KeepsStandingLists after by_hash by_hash' → KeepsStanding after shorts shorts'
-      → IsIndexed by_literal' by_hash' shorts' after
-  indexed-clear gone after is literals hashes short =
+  -- the lists without numbers of clauses that are gone
+  pub indexed-left : KeepsStandingLists places by_literal by_literal' → KeepsStandingLists places by_hash by_hash'
+      → KeepsStanding places shorts shorts' → IsIndexed by_literal' by_hash' shorts' places
+  indexed-left literals hashes short = record {
+    held = λ number clause at. record {
+      held = λ x m. (literals.kept (place_of x)).kept number (ap is_some at) ((index.held number clause at).held x m);
+    };
+    hashed = λ number clause at. (hashes.kept (hash_of clause)).kept number (ap is_some at) (index.hashed number clause at);
+    short = λ number clause at few. short.kept number (ap is_some at) (index.short number clause at few);
+  }
+
+-- a clause that goes: the lists are complete still
+module _ {by_literal by_hash : NumberLists} {shorts : List ℕ} {places : Places} (index : IsIndexed by_literal by_hash shorts places) where
+  pub indexed-clear : (gone : ℕ) (after : Places) → after ≡ set places gone None → IsIndexed by_literal by_hash shorts after
+  indexed-clear gone after is =
       let before : (number : ℕ) (clause : List ℤ) → place_at after number ≡ Some clause → place_at places number ≡ Some clause =
       λ number clause at. place-set places gone number clause (ap (λ (ps : Places). place_at ps number) (sym is) ∙ at) in
       record {
-        held = λ number clause at. record {
-          held = λ x m. (literals.kept (place_of x)).kept number (ap is_some at) ((index.held number clause (before number clause
-              at)).held x m);
-        };
-        hashed = λ number clause at. (hashes.kept (hash_of clause)).kept number (ap is_some at)
-            (index.hashed number clause (before number clause at));
-        short = λ number clause at few. short.kept number (ap is_some at) (index.short number clause (before number clause at) few);
+        held = λ number clause at. index.held number clause (before number clause at);
+        hashed = λ number clause at. index.hashed number clause (before number clause at);
+        short = λ number clause at few. index.short number clause (before number clause at) few;
       }

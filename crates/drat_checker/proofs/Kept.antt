@@ -3,7 +3,7 @@ use Rattle.std.proofs.Common.{◌≡◌, ℕ, true, List, filter, nat_eq, ◌∙
 use Rattle.std.proofs.lemmas.Map.Views.{any-filter_same, exact_unsigned_eq}
 use Rattle.drat_checker.specs.declared.number_lists.NumberLists.{NumberLists}
 use Rattle.drat_checker.specs.Places.{Places}
-use Rattle.drat_checker.specs.Numbers.{KeepsNumbers, KeepsStanding, KeepsLists, KeepsStandingLists, stands}
+use Rattle.drat_checker.specs.Numbers.{KeepsNumbers, KeepsStanding, KeepsLists, stands}
 
 -- a filter keeps the numbers that pass it
 pub standing_filter : (places : Places) (numbers : List ℕ) → KeepsStanding places numbers (filter (stands places) numbers)
@@ -11,15 +11,6 @@ standing_filter places numbers = record {
   kept = λ number alive h.
       any-filter_same (nat_eq number) (stands places) true (λ other e. subst (λ n. stands places n
       ≡ true) (exact_unsigned_eq number other e) alive) numbers ∙ h;
-}
-
-pub along : {a b c : NumberLists} → KeepsLists a b → KeepsLists b c → KeepsLists a c
-along k l = record { kept = λ key. record { kept = λ number h. (l.kept key).kept number ((k.kept key).kept number h) } }
-
-pub along-standing : {places : Places} {a b c : NumberLists} → KeepsStandingLists places a b → KeepsStandingLists places b c
-    → KeepsStandingLists places a c
-along-standing k l = record {
-  kept = λ key. record { kept = λ number alive h. (l.kept key).kept number alive ((k.kept key).kept number alive h) };
 }
 
 pub same-lists : (lists : NumberLists) → KeepsLists lists lists

@@ -3,6 +3,7 @@ pub mod Trails
 pub mod FalseLists
 pub mod Passes
 pub mod Standing
+pub mod Hashes
 pub mod LeastNumbers
 pub mod Propagated
 pub mod Derived

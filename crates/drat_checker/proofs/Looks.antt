@@ -61,5 +61,6 @@ pub not-of : (pair : Pair) (literal : ℤ) → int_eq pair.first literal ≡ fal
 not-of pair literal one two =
     false_from_ne_true _ (λ either. elim (or_cases (int_eq literal pair.first) _ either) [
       | inl first ↦ both_ways (int_eq pair.first literal) one (eq-int_eq pair.first literal (sym (int_eq-true literal pair.first first)))
-      | inr second ↦ both_ways (int_eq pair.second literal) two (eq-int_eq pair.second literal (sym (int_eq-true literal pair.second second)))
+      | inr second ↦ both_ways (int_eq pair.second literal) two (eq-int_eq pair.second literal (sym
+          (int_eq-true literal pair.second second)))
     ])

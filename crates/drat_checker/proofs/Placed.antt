@@ -1,5 +1,6 @@
 -- Lists of numbers by literals: what becomes of each as one is changed, or as places are added.
-use Rattle.std.proofs.Common.{◌≡◌, ℕ, zero, suc, ◌<◌, ◌≤◌, ◌≢◌, true, false, ℤ, pos, negsuc, List, [], ◌∷◌, ◌++◌, length, set, get_or, nat_lt, nat_eq}
+use Rattle.std.proofs.Common.{◌≡◌, ℕ, zero, suc, ◌<◌, ◌≤◌, ◌≢◌, true, false, ℤ, pos, negsuc, List, [], ◌∷◌, ◌++◌, length, set, get_or}
+use Rattle.std.proofs.Common.{nat_lt, nat_eq}
 use Rattle.std.proofs.Common.{int_eq, if◌then◌else◌, refl, sym, ap, ◌∙◌, arith, eqb-true, lt-ltb, le-ltb}
 use Rattle.std.proofs.Math.Seq.{get_or-set_same, get_or-set_other}
 use Rattle.std.proofs.lemmas.Bool.{both_ways, false_from_ne_true}

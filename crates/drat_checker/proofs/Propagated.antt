@@ -1,7 +1,7 @@
 -- What one clause, a pass over all clauses, and passes to the end do to the quiet sets that have the false literals. The laws on
 -- quiet sets and on propagation are given.
-use Rattle.std.proofs.Common.{◌≡◌, ◌≤◌, Bool, true, false, cond, not, ◌||◌, ◌&&◌, ℤ, neg_ℤ, List, [], ◌∷◌, ◌++◌, length, take}
-use Rattle.std.proofs.Common.{Option, None, Some, if◌then◌else◌, refl, sym, ap, ◌∙◌, subst, append_assoc, length-append, arith}
+use Rattle.std.proofs.Common.{◌≡◌, Bool, true, false, cond, not, ◌||◌, ◌&&◌, ℤ, neg_ℤ, List, [], ◌∷◌, ◌++◌, length, take}
+use Rattle.std.proofs.Common.{Option, None, Some, if◌then◌else◌, refl, sym, ap, ◌∙◌, subst, append_assoc}
 use Rattle.std.specs.List.{list_all}
 use Rattle.std.proofs.Math.Seq.{take-append_seam}
 use Rattle.std.proofs.lemmas.Bool.{both_ways}
@@ -59,22 +59,6 @@ extends-is is e = record { rest = e.rest; parts = is ∙ e.parts }
 
 pub extends-front : {a b : List ℤ} → Extends a b → take (length a) b ≡ a
 extends-front {a} {b} e = ap (take (length a)) e.parts ∙ take-append_seam a e.rest
-
-pub extends-longer : {a b : List ℤ} → Extends a b → length a ≤ length b
-extends-longer {a} {b} e = omega (arith, ap length e.parts, length-append a e.rest)
-
-no_rest : (xs : List ℤ) → length xs ≡ 0 → xs ≡ []
-no_rest [] e = refl
-no_rest (x ∷ xs) e = cc
-
-pub extends-same : {a b : List ℤ} → Extends a b → length b ≡ length a → b ≡ a
-extends-same {a} {b} e same =
-    let none : length e.rest ≡ 0 = omega (arith, ap length e.parts, length-append a e.rest) in
-    e.parts ∙ ap (λ (l : List ℤ). a ++ l) (no_rest e.rest none) ∙ append-nil a
-
--- lists that the same quiet sets have
-pub same-none : (clauses : List (List ℤ)) (xs : List ℤ) → SameQuiet clauses xs xs
-same-none clauses xs = record { same = λ q quiet. refl }
 
 pub same-then : {clauses : List (List ℤ)} {a b c : List ℤ} → SameQuiet clauses a b → SameQuiet clauses b c → SameQuiet clauses a c
 same-then s t = record { same = λ q quiet. s.same q quiet ∙ t.same q quiet }

@@ -1,13 +1,10 @@
 -- An addition whose resolvents with its candidates are tautologies is good.
-use Rattle.std.proofs.Common.{◌≡◌, ◌<◌, ◌++◌, ℕ, true, false, not, ◌||◌, ℤ, neg_ℤ, List, ◌∷◌, length, get_or, None, Some, refl, sym, ◌∙◌, ap}
-use Rattle.std.specs.Prelude.{if◌then◌else◌}
+use Rattle.std.proofs.Common.{◌≡◌, ◌<◌, ◌++◌, ℕ, true, not, ◌||◌, ℤ, neg_ℤ, List, length, get_or, sym}
+use Rattle.std.proofs.Common.{◌∙◌, ap}
 use Rattle.std.specs.List.{filter, list_all}
 use Rattle.std.proofs.lemmas.Bool.{and_parts, both_ways}
 use Rattle.std.proofs.lemmas.List.Folds.{list_all-append}
-use Rattle.lrat_rules.specs.declared.outcome.Reason.TheVariants.{CandidateOpen}
 use Rattle.lrat_rules.specs.Chain.{FalseSet, literals_of}
-use Rattle.drat_rules.specs.Quiet.{has_quiet}
-use Rattle.drat_rules.specs.Addition.{drat_fault, open_fault, passes_candidate}
 use Rattle.drat_checker.specs.Propagation.{Clashes}
 use Rattle.drat_checker.proofs.FalseSets.{all-at, all-filter, at_member}
 
@@ -22,11 +19,3 @@ clash-beside p start clause i x within at passes there = record {
       ap (λ b. not b || q x) (sym passes) ∙ ap (λ y. not (p y) || q y) at ∙ all-at (λ y. not (p y) || q y) clause i x within each in
       both_ways (q (neg_ℤ x)) (apart x own) (at_member q start (neg_ℤ x) parts.0 there);
 }
-
-pub blocked-good : (clauses : List (List ℤ)) (pivot : ℤ) (others : List ℤ)
-    → list_all (passes_candidate clauses pivot (pivot ∷ others)) clauses ≡ true → drat_fault clauses (pivot ∷ others) ≡ None
-blocked-good clauses pivot others all =
-    elim (has_quiet clauses (pivot ∷ others)) as (λ b. (if b then open_fault clauses (pivot ∷ others) else None) ≡ None) [
-      | true ↦ ap (λ b. if b then None else Some CandidateOpen) all
-      | false ↦ refl
-    ]

@@ -1,5 +1,6 @@
 -- Where propagation ends by watched literals: the clauses are closed, and stay guarded as watches move and literals are taken back.
-use Rattle.std.proofs.Common.{◌≡◌, ℕ, ◌+◌, ◌<◌, ◌≤◌, Bool, true, false, ◌||◌, ℤ, List, [], ◌∷◌, length, take, drop, get_or, None, Some, is_some}
+use Rattle.std.proofs.Common.{◌≡◌, ℕ, ◌+◌, ◌<◌, ◌≤◌, Bool, true, false, ◌||◌, ℤ, List, [], ◌∷◌, length, take, drop, get_or, None, Some}
+use Rattle.std.proofs.Common.{is_some}
 use Rattle.std.proofs.Common.{int_eq, inl, inr, refl, sym, ap, ◌∙◌, subst, arith}
 use Rattle.std.proofs.lemmas.Bool.{or_cases, or_left}
 use Rattle.std.proofs.lemmas.List.{take_all, take_more, take-append-le, take-append-drop}
@@ -12,7 +13,8 @@ use Rattle.drat_checker.specs.Places.{Places, standing}
 use Rattle.drat_checker.specs.Propagation.{Extends, IsClosed}
 use Rattle.drat_checker.specs.Trail.{IsApart}
 use Rattle.drat_checker.specs.Database.{is_short}
-use Rattle.drat_checker.specs.Watches.{Pairs, ArePairs, AreTrue, AreVisited, IsGuarded, IsSettled, MovesWatches, is_in, is_true, pair_at, watches}
+use Rattle.drat_checker.specs.Watches.{Pairs, ArePairs, AreTrue, AreVisited, IsGuarded, IsSettled, MovesWatches, is_in, is_true}
+use Rattle.drat_checker.specs.Watches.{pair_at, watches}
 use Rattle.drat_checker.proofs.FalseSets.{int_eq-true}
 use Rattle.drat_checker.proofs.Guarded.{true-closed, two-closed}
 use Rattle.drat_checker.proofs.Standing.{all-standing}
@@ -32,7 +34,8 @@ false-not-true : false ≡ true → ⊥
 false-not-true e = cc
 
 -- the literal at the place is visited
-pub guard-next : (places : Places) (pairs pairs' : Pairs) (old new : List ℤ) (place : ℕ) (x : ℤ) → place < length old → x ≡ get_or old place x
+pub guard-next : (places : Places) (pairs pairs' : Pairs) (old new : List ℤ) (place : ℕ) (x : ℤ) → place < length old
+    → x ≡ get_or old place x
     → Extends old new → IsGuarded places pairs (take place old) old → MovesWatches pairs pairs' old → AreVisited places pairs' x new []
     → IsGuarded places pairs' (take (place + 1) new) new
 guard-next places pairs pairs' old new place x within at e guard moves visited = record {
@@ -105,8 +108,10 @@ settled-closed kept places literals pairs apart settled =
                         | false ↦ λ not_one. elim (literals_of literals pair.second)
                             as (λ b. literals_of literals pair.second ≡ b → closed_under (literals_of literals) clause ≡ true) [
                               | true ↦ λ two. true-closed literals clause apart
-                                  (settled.guarded.guarded n clause pair.second stands (watched-is n pair pair.second is (own-second pair)) two)
-                              | false ↦ λ not_two. two-closed literals clause pair.first pair.second own.first own.second own.apart not_one not_two
+                                  (settled.guarded.guarded n clause pair.second stands (watched-is n pair pair.second is
+                                  (own-second pair)) two)
+                              | false ↦ λ not_two. two-closed literals clause pair.first pair.second own.first own.second own.apart
+                                  not_one not_two
                             ] refl
                       ] refl
                 ] refl (pairs.there n clause stands long)

@@ -5,7 +5,7 @@ use Rattle.std.specs.List.{list_all, list_any}
 use Rattle.std.proofs.lemmas.Bool.{and_from, and_parts, or_cases, or_left, or_right, both_ways}
 use Rattle.std.proofs.lemmas.Bool.Decides.{Decides-int_eq}
 use Rattle.std.proofs.lemmas.Slice.Eq.{slice_eq-Decides}
-use Rattle.drat_rules.specs.Clauses.{same_list, is_among, without_first}
+use Rattle.drat_rules.specs.Clauses.{Equality, same_list, is_among, without_first_by}
 use Rattle.drat_checker.specs.Places.{Places, place_at, standing}
 
 -- the test of two clauses, both ways
@@ -74,32 +74,58 @@ place-set (p ∷ ps) zero (suc n) d at = at
 place-set (p ∷ ps) (suc k) zero d at = at
 place-set (p ∷ ps) (suc k) (suc n) d at = place-set ps k n d at
 
-pub remove-least : (ps : Places) (n : ℕ) (c : List ℤ) → place_at ps n ≡ Some c → ((m : ℕ) → place_at ps m ≡ Some c → n ≤ m)
-    → standing (set ps n None) ≡ without_first c (standing ps)
-remove-least [] n c at least = cc
-remove-least (None ∷ ps) zero c at least = cc
-remove-least (None ∷ ps) (suc n) c at least =
-    remove-least ps n c at (λ m is. let le : suc n ≤ suc m = least (suc m) is in omega arith)
-remove-least (Some d ∷ ps) zero c at least =
-    sym (ap (λ b. if b then standing ps else d ∷ without_first c (standing ps)) (eq-same_list c d (sym (same_inside d c at))))
-remove-least (Some d ∷ ps) (suc n) c at least =
-    elim (same_list c d)
-    as (λ b. same_list c d ≡ b → d ∷ standing (set ps n None) ≡ (if b then standing ps else d ∷ without_first c (standing ps))) [
-      | true ↦ λ same. let low : suc n ≤ zero = least zero (ap Some (sym (same_list-true c d same))) in absurd (omega arith)
+pub remove-first : (same : Equality) (ps : Places) (n : ℕ) (c own : List ℤ) → place_at ps n ≡ Some own → same c own ≡ true
+    → ((m : ℕ) (d : List ℤ) → place_at ps m ≡ Some d → same c d ≡ true → n ≤ m)
+    → standing (set ps n None) ≡ without_first_by same c (standing ps)
+remove-first same [] n c own at twin least = cc
+remove-first same (None ∷ ps) zero c own at twin least = cc
+remove-first same (None ∷ ps) (suc n) c own at twin least =
+    remove-first same ps n c own at twin (λ m d is t. let le : suc n ≤ suc m = least (suc m) d is t in omega arith)
+remove-first same (Some d ∷ ps) zero c own at twin least =
+    sym (ap (λ b. if b then standing ps else d ∷ without_first_by same c (standing ps))
+    (ap (same c) (same_inside d own at) ∙ twin))
+remove-first same (Some d ∷ ps) (suc n) c own at twin least =
+    elim (same c d)
+    as (λ b. same c d ≡ b → d ∷ standing (set ps n None) ≡ (if b then standing ps else d ∷ without_first_by same c (standing ps))) [
+      | true ↦ λ t. let low : suc n ≤ zero = least zero d refl t in absurd (omega arith)
       | false ↦ λ other.
-          ap (λ l. d ∷ l) (remove-least ps n c at (λ m is. let le : suc n ≤ suc m = least (suc m) is in omega arith))
+          ap (λ l. d ∷ l)
+          (remove-first same ps n c own at twin (λ m e is t. let le : suc n ≤ suc m = least (suc m) e is t in omega arith))
     ] refl
 
 -- there is none of its kind
-pub without-absent : (ps : Places) (c : List ℤ) → ((m : ℕ) → place_at ps m ≡ Some c → ⊥) → without_first c (standing ps) ≡ standing ps
-without-absent [] c none = refl
-without-absent (None ∷ ps) c none = without-absent ps c (λ m is. none (suc m) is)
-without-absent (Some d ∷ ps) c none =
-    elim (same_list c d)
-    as (λ b. same_list c d ≡ b → (if b then standing ps else d ∷ without_first c (standing ps)) ≡ d ∷ standing ps) [
-      | true ↦ λ same. absurd (none zero (ap Some (sym (same_list-true c d same))))
-      | false ↦ λ other. ap (λ l. d ∷ l) (without-absent ps c (λ m is. none (suc m) is))
-    ] refl
+pub without-none : (same : Equality) (ps : Places) (c : List ℤ) → ((m : ℕ) (d : List ℤ) → place_at ps m ≡ Some d → same c d ≡ false)
+    → without_first_by same c (standing ps) ≡ standing ps
+without-none same [] c none = refl
+without-none same (None ∷ ps) c none = without-none same ps c (λ m d is. none (suc m) d is)
+without-none same (Some d ∷ ps) c none =
+    ap (λ b. if b then standing ps else d ∷ without_first_by same c (standing ps)) (none zero d refl)
+    ∙ ap (λ l. d ∷ l) (without-none same ps c (λ m e is. none (suc m) e is))
+
+-- a place is emptied: what another clause passes is passed still, and what each passes each does
+pub any-emptied : (p : List ℤ → Bool) (ps : Places) (n : ℕ) (own : List ℤ) → place_at ps n ≡ Some own → p own ≡ false
+    → list_any p (standing ps) ≡ true → list_any p (standing (set ps n None)) ≡ true
+any-emptied p [] n own at fails any = cc
+any-emptied p (None ∷ ps) zero own at fails any = cc
+any-emptied p (None ∷ ps) (suc n) own at fails any = any-emptied p ps n own at fails any
+any-emptied p (Some d ∷ ps) zero own at fails any =
+    elim (or_cases (p d) _ any) [
+      | inl here ↦ absurd (both_ways (p d) (ap p (same_inside d own at) ∙ fails) here)
+      | inr later ↦ later
+    ]
+any-emptied p (Some d ∷ ps) (suc n) own at fails any =
+    elim (or_cases (p d) _ any) [
+      | inl here ↦ or_left _ _ here
+      | inr later ↦ or_right (p d) _ (any-emptied p ps n own at fails later)
+    ]
+
+pub all-emptied : (p : List ℤ → Bool) (ps : Places) (n : ℕ) → list_all p (standing ps) ≡ true
+    → list_all p (standing (set ps n None)) ≡ true
+all-emptied p [] n all = all
+all-emptied p (None ∷ ps) zero all = all
+all-emptied p (None ∷ ps) (suc n) all = all-emptied p ps n all
+all-emptied p (Some d ∷ ps) zero all = (and_parts (p d) _ all).1
+all-emptied p (Some d ∷ ps) (suc n) all = and_from _ _ (and_parts (p d) _ all).0 (all-emptied p ps n (and_parts (p d) _ all).1)
 
 -- some clause passes: it is among them, and the other way; and what fails on a clause is passed still once that goes
 pub some-clause : (p : List ℤ → Bool) (cs : List (List ℤ)) → list_any p cs ≡ true → (c : List ℤ) × (is_among cs c ≡ true) × (p c ≡ true)
@@ -118,27 +144,4 @@ any-among p (d ∷ ds) c passes among =
     elim (or_cases (same_list c d) _ among) [
       | inl here ↦ or_left _ _ (subst (λ e. p e ≡ true) (same_list-true c d here) passes)
       | inr later ↦ or_right (p d) _ (any-among p ds c passes later)
-    ]
-
-pub any-without : (p : List ℤ → Bool) (cs : List (List ℤ)) (c : List ℤ) → p c ≡ false → list_any p cs ≡ true
-    → list_any p (without_first c cs) ≡ true
-any-without p [] c fails any = cc
-any-without p (d ∷ ds) c fails any =
-    elim (same_list c d) as (λ b. same_list c d ≡ b → list_any p (if b then ds else d ∷ without_first c ds) ≡ true) [
-      | true ↦ λ same. elim (or_cases (p d) _ any) [
-        | inl here ↦ absurd (both_ways (p d) (ap p (sym (same_list-true c d same)) ∙ fails) here)
-        | inr later ↦ later
-      ]
-      | false ↦ λ other. elim (or_cases (p d) _ any) [
-        | inl here ↦ or_left _ _ here
-        | inr later ↦ or_right (p d) _ (any-without p ds c fails later)
-      ]
-    ] refl
-
-pub all-without : (p : List ℤ → Bool) (cs : List (List ℤ)) (c : List ℤ) → list_all p cs ≡ true → list_all p (without_first c cs) ≡ true
-all-without p [] c all = refl
-all-without p (d ∷ ds) c all =
-    elim (same_list c d) as (λ b. list_all p (if b then ds else d ∷ without_first c ds) ≡ true) [
-      | true ↦ (and_parts (p d) _ all).1
-      | false ↦ and_from _ _ (and_parts (p d) _ all).0 (all-without p ds c (and_parts (p d) _ all).1)
     ]

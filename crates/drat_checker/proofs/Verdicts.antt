@@ -18,9 +18,11 @@ use Rattle.drat_text.specs.declared.step.DratStep.{DratStep}
 use Rattle.drat_text.specs.declared.step.DratStep.TheVariants.{Add as adds, Delete as deletes}
 use Rattle.drat_text.specs.DratText.{DratLine, clause_with, clause_from, clause_of, drat_step_of, drat_line_of, drat_lines}
 use Rattle.drat_text.specs.DratSteps.{drat_lines_then, drat_lines_within, drat_steps_in}
-use Rattle.drat_rules.specs.Run.{after, adds_empty, drat_step_fault, fault_or, first_fault, drat_verdict_at, drat_verdict, DratRefutes}
+use Rattle.drat_rules.specs.Clauses.{Equality}
+use Rattle.drat_rules.specs.Run.{after_by, adds_empty, drat_step_fault, fault_or, first_fault_by, drat_verdict_at, drat_verdict_by}
+use Rattle.drat_rules.specs.Run.{DratRefutesBy}
 use Rattle.drat_rules.specs.Soundness.{drat_step_has_no_zero}
-use Rattle.drat_checker.specs.DratVerdict.{drat_steps_verdict, drat_text_verdict, numbered_lines, steps_of_lines, with_step}
+use Rattle.drat_checker.specs.DratVerdict.{drat_steps_verdict_by, drat_text_verdict_by, numbered_lines, steps_of_lines, with_step}
 
 or_assoc : (a b c : Bool) → ((a || b) || c) ≡ (a || (b || c))
 or_assoc true b c = refl
@@ -36,98 +38,104 @@ at_end end true = refl
 at_end end false = refl
 
 -- Where each line spells a step, and they follow each other.
-pub numbered-verdict : (end : ℕ) (steps : List DratStep) (line : ℕ) (clauses : List (List ℤ)) (has_empty : Bool)
-    → drat_steps_verdict clauses has_empty (drat_lines_then (numbered_lines line steps) (no_more end))
-    ≡ Some (verdict_as (drat_verdict_at end (has_empty || list_any adds_empty steps) (first_fault line clauses steps)))
-numbered-verdict end [] line clauses has_empty = rw (or_false has_empty) (at_end end has_empty)
-numbered-verdict end (step ∷ steps) line clauses has_empty =
+pub numbered-verdict : (same : Equality) (end : ℕ) (steps : List DratStep) (line : ℕ) (clauses : List (List ℤ)) (has_empty : Bool)
+    → drat_steps_verdict_by same clauses has_empty (drat_lines_then (numbered_lines line steps) (no_more end))
+    ≡ Some (verdict_as (drat_verdict_at end (has_empty || list_any adds_empty steps) (first_fault_by same line clauses steps)))
+numbered-verdict same end [] line clauses has_empty = rw (or_false has_empty) (at_end end has_empty)
+numbered-verdict same end (step ∷ steps) line clauses has_empty =
     elim (drat_step_fault clauses step)
-    as (λ (fault : Option Reason). judged fault line (drat_steps_verdict (after clauses step) (has_empty || adds_empty step)
+    as (λ (fault : Option Reason). judged fault line (drat_steps_verdict_by same (after_by same clauses step) (has_empty || adds_empty step)
     (drat_lines_then (numbered_lines (line + 1) steps) (no_more end)))
     ≡ Some (verdict_as (drat_verdict_at end (has_empty || (adds_empty step || list_any adds_empty steps))
-    (fault_or line fault (first_fault (line + 1) (after clauses step) steps))))) [
-      | None ↦ numbered-verdict end steps (line + 1) (after clauses step) (has_empty || adds_empty step)
-          ∙ ap (λ (b : Bool). Some (verdict_as (drat_verdict_at end b (first_fault (line + 1) (after clauses step) steps))))
+    (fault_or line fault (first_fault_by same (line + 1) (after_by same clauses step) steps))))) [
+      | None ↦ numbered-verdict same end steps (line + 1) (after_by same clauses step) (has_empty || adds_empty step)
+          ∙ ap (λ (b : Bool). Some (verdict_as (drat_verdict_at end b (first_fault_by same (line + 1) (after_by same clauses step) steps))))
           (or_assoc has_empty (adds_empty step) (list_any adds_empty steps))
       | Some reason ↦ refl
     ]
 
 -- Lines that are verified: each spells a step, each step is good, and some step adds the empty clause.
-pub record IsVerified (clauses : List (List ℤ)) (has_empty : Bool) (lines : List DratLine) : Type 0 where
+pub record IsVerified (same : Equality) (clauses : List (List ℤ)) (has_empty : Bool) (lines : List DratLine) : Type 0 where
   pub steps : List DratStep
   pub spelled : steps_of_lines lines ≡ Some steps
-  pub good : (place : ℕ) → first_fault place clauses steps ≡ None
+  pub good : (place : ℕ) → first_fault_by same place clauses steps ≡ None
   pub empty : (has_empty || list_any adds_empty steps) ≡ true
 
 end_is : (end : ℕ) (has_empty : Bool) → Some (end_verdict has_empty end) ≡ Some Verified → has_empty ≡ true
 end_is end true e = refl
 end_is end false e = cc
 
-one_more : (clauses : List (List ℤ)) (has_empty : Bool) (step : DratStep) (lines : List DratLine) (line : ℕ)
-    → drat_step_fault clauses step ≡ None → IsVerified (after clauses step) (has_empty || adds_empty step) lines
-    → IsVerified clauses has_empty (record { line = line; step = Some step } ∷ lines)
-one_more clauses has_empty step lines line good v = record {
+one_more : (same : Equality) (clauses : List (List ℤ)) (has_empty : Bool) (step : DratStep) (lines : List DratLine) (line : ℕ)
+    → drat_step_fault clauses step ≡ None → IsVerified same (after_by same clauses step) (has_empty || adds_empty step) lines
+    → IsVerified same clauses has_empty (record { line = line; step = Some step } ∷ lines)
+one_more same clauses has_empty step lines line good v = record {
   steps = step ∷ v.steps;
   spelled = ap (with_step (Some step)) v.spelled;
-  good = λ place. ap (λ (f : Option Reason). fault_or place f (first_fault (place + 1) (after clauses step) v.steps)) good
+  good = λ place. ap (λ (f : Option Reason). fault_or place f (first_fault_by same (place + 1) (after_by same clauses step) v.steps)) good
       ∙ v.good (place + 1);
   empty = sym (or_assoc has_empty (adds_empty step) (list_any adds_empty v.steps)) ∙ v.empty;
 }
 
-pub verified-lines : (end : ℕ) (lines : List DratLine) (clauses : List (List ℤ)) (has_empty : Bool)
-    → drat_steps_verdict clauses has_empty (drat_lines_then lines (no_more end)) ≡ Some Verified → IsVerified clauses has_empty lines
-verified-lines end [] clauses has_empty e = record {
+pub verified-lines : (same : Equality) (end : ℕ) (lines : List DratLine) (clauses : List (List ℤ)) (has_empty : Bool)
+    → drat_steps_verdict_by same clauses has_empty (drat_lines_then lines (no_more end)) ≡ Some Verified
+    → IsVerified same clauses has_empty lines
+verified-lines same end [] clauses has_empty e = record {
   steps = [];
   spelled = refl;
   good = λ place. refl;
   empty = or_false has_empty ∙ end_is end has_empty e;
 }
-verified-lines end (line ∷ lines) clauses has_empty e =
+verified-lines same end (line ∷ lines) clauses has_empty e =
     elim line.step
-    as (λ (given : Option DratStep). drat_steps_verdict clauses has_empty (step_then given line.line (drat_lines_then lines (no_more end)))
-    ≡ Some Verified → IsVerified clauses has_empty (record { line = line.line; step = given } ∷ lines)) [
+    as (λ (given : Option DratStep). drat_steps_verdict_by same clauses has_empty (step_then given line.line (drat_lines_then lines (no_more
+    end)))
+    ≡ Some Verified → IsVerified same clauses has_empty (record { line = line.line; step = given } ∷ lines)) [
       | None ↦ λ refused. cc
       | Some step ↦ λ given. elim (drat_step_fault clauses step)
           as (λ (fault : Option Reason). drat_step_fault clauses step ≡ fault
-          → judged fault line.line (drat_steps_verdict (after clauses step) (has_empty || adds_empty step)
+          → judged fault line.line (drat_steps_verdict_by same (after_by same clauses step) (has_empty || adds_empty step)
           (drat_lines_then lines (no_more end))) ≡ Some Verified
-          → IsVerified clauses has_empty (record { line = line.line; step = Some step } ∷ lines)) [
-            | None ↦ λ good later. one_more clauses has_empty step lines line.line good
-                (verified-lines end lines (after clauses step) (has_empty || adds_empty step) later)
+          → IsVerified same clauses has_empty (record { line = line.line; step = Some step } ∷ lines)) [
+            | None ↦ λ good later. one_more same clauses has_empty step lines line.line good
+                (verified-lines same end lines (after_by same clauses step) (has_empty || adds_empty step) later)
             | Some reason ↦ λ bad later. cc
           ] refl given
     ] e
 
 -- That the text is too long verifies nothing.
-pub long-open : (lines : List DratLine) (clauses : List (List ℤ)) (has_empty : Bool)
-    → drat_steps_verdict clauses has_empty (drat_lines_then lines overlong) ≡ Some Verified → ⊥
-long-open [] clauses has_empty = λ e. cc
-long-open (line ∷ lines) clauses has_empty =
+pub long-open : (same : Equality) (lines : List DratLine) (clauses : List (List ℤ)) (has_empty : Bool)
+    → drat_steps_verdict_by same clauses has_empty (drat_lines_then lines overlong) ≡ Some Verified → ⊥
+long-open same [] clauses has_empty = λ e. cc
+long-open same (line ∷ lines) clauses has_empty =
     elim line.step
-    as (λ (given : Option DratStep). drat_steps_verdict clauses has_empty (step_then given line.line (drat_lines_then lines overlong))
+    as (λ (given : Option DratStep). drat_steps_verdict_by same clauses has_empty (step_then given line.line (drat_lines_then lines
+    overlong))
     ≡ Some Verified → ⊥) [
       | None ↦ λ e. cc
       | Some step ↦ elim (drat_step_fault clauses step)
-          as (λ (fault : Option Reason). judged fault line.line (drat_steps_verdict (after clauses step) (has_empty || adds_empty step)
+          as (λ (fault : Option Reason). judged fault line.line (drat_steps_verdict_by same (after_by same clauses step) (has_empty ||
+          adds_empty step)
           (drat_lines_then lines overlong)) ≡ Some Verified → ⊥) [
-            | None ↦ λ e. long-open lines (after clauses step) (has_empty || adds_empty step) e
+            | None ↦ λ e. long-open same lines (after_by same clauses step) (has_empty || adds_empty step) e
             | Some reason ↦ λ e. cc
           ]
     ]
 
 -- A text within the limit has a verdict.
-pub some-verdict : (end : ℕ) (lines : List DratLine) (clauses : List (List ℤ)) (has_empty : Bool)
-    → drat_steps_verdict clauses has_empty (drat_lines_then lines (no_more end)) ≡ None → ⊥
-some-verdict end [] clauses has_empty = λ e. cc
-some-verdict end (line ∷ lines) clauses has_empty =
+pub some-verdict : (same : Equality) (end : ℕ) (lines : List DratLine) (clauses : List (List ℤ)) (has_empty : Bool)
+    → drat_steps_verdict_by same clauses has_empty (drat_lines_then lines (no_more end)) ≡ None → ⊥
+some-verdict same end [] clauses has_empty = λ e. cc
+some-verdict same end (line ∷ lines) clauses has_empty =
     elim line.step
-    as (λ (given : Option DratStep). drat_steps_verdict clauses has_empty (step_then given line.line (drat_lines_then lines (no_more end)))
+    as (λ (given : Option DratStep). drat_steps_verdict_by same clauses has_empty (step_then given line.line (drat_lines_then lines (no_more
+    end)))
     ≡ None → ⊥) [
       | None ↦ λ e. cc
       | Some step ↦ elim (drat_step_fault clauses step)
-          as (λ (fault : Option Reason). judged fault line.line (drat_steps_verdict (after clauses step) (has_empty || adds_empty step)
+          as (λ (fault : Option Reason). judged fault line.line (drat_steps_verdict_by same (after_by same clauses step) (has_empty ||
+          adds_empty step)
           (drat_lines_then lines (no_more end))) ≡ None → ⊥) [
-            | None ↦ λ e. some-verdict end lines (after clauses step) (has_empty || adds_empty step) e
+            | None ↦ λ e. some-verdict same end lines (after_by same clauses step) (has_empty || adds_empty step) e
             | Some reason ↦ λ e. cc
           ]
     ]
@@ -141,35 +149,37 @@ abbrev pub WithinLaw : Type 0
 WithinLaw = (limit : ℕ) (bytes : List ℕ) → limit < length bytes → drat_steps_in limit bytes
     ≡ drat_lines_then (drat_lines_within limit bytes) overlong
 
-pub same-verdict : WholeLaw → (clauses : List (List ℤ)) (bytes : List ℕ) (steps : List DratStep) → length bytes ≤ max_bytes
+pub same-verdict : (same : Equality) → WholeLaw → (clauses : List (List ℤ)) (bytes : List ℕ) (steps : List DratStep)
+    → length bytes ≤ max_bytes
     → drat_lines bytes ≡ numbered_lines 1 steps → end_line bytes ≡ length steps + 1
-    → drat_text_verdict clauses bytes ≡ Some (verdict_as (drat_verdict clauses steps))
-same-verdict law clauses bytes steps fits lines ends =
-    ap (drat_steps_verdict clauses false) (law max_bytes bytes fits)
-    ∙ ap (λ ls. drat_steps_verdict clauses false (drat_lines_then ls (no_more (end_line bytes)))) lines
-    ∙ ap (λ (end : ℕ). drat_steps_verdict clauses false (drat_lines_then (numbered_lines 1 steps) (no_more end))) ends
-    ∙ numbered-verdict (length steps + 1) steps 1 clauses false
+    → drat_text_verdict_by same clauses bytes ≡ Some (verdict_as (drat_verdict_by same clauses steps))
+same-verdict same law clauses bytes steps fits lines ends =
+    ap (drat_steps_verdict_by same clauses false) (law max_bytes bytes fits)
+    ∙ ap (λ ls. drat_steps_verdict_by same clauses false (drat_lines_then ls (no_more (end_line bytes)))) lines
+    ∙ ap (λ (end : ℕ). drat_steps_verdict_by same clauses false (drat_lines_then (numbered_lines 1 steps) (no_more end))) ends
+    ∙ numbered-verdict same (length steps + 1) steps 1 clauses false
 
-module _ (whole : WholeLaw) (within : WithinLaw) (clauses : List (List ℤ)) (bytes : List ℕ) where
-  pub verified-text : drat_text_verdict clauses bytes ≡ Some Verified → IsVerified clauses false (drat_lines bytes)
+module _ (same : Equality) (whole : WholeLaw) (within : WithinLaw) (clauses : List (List ℤ)) (bytes : List ℕ) where
+  pub verified-text : drat_text_verdict_by same clauses bytes ≡ Some Verified → IsVerified same clauses false (drat_lines bytes)
   verified-text e =
       elim (cases_lt max_bytes (length bytes)) [
-        | inl beyond ↦ absurd (long-open (drat_lines_within max_bytes bytes) clauses false
-            (sym (ap (drat_steps_verdict clauses false) (within max_bytes bytes beyond)) ∙ e))
-        | inr fits ↦ verified-lines (end_line bytes) (drat_lines bytes) clauses false
-            (sym (ap (drat_steps_verdict clauses false) (whole max_bytes bytes fits)) ∙ e)
+        | inl beyond ↦ absurd (long-open same (drat_lines_within max_bytes bytes) clauses false
+            (sym (ap (drat_steps_verdict_by same clauses false) (within max_bytes bytes beyond)) ∙ e))
+        | inr fits ↦ verified-lines same (end_line bytes) (drat_lines bytes) clauses false
+            (sym (ap (drat_steps_verdict_by same clauses false) (whole max_bytes bytes fits)) ∙ e)
       ]
 
-  pub overlong-text : drat_text_verdict clauses bytes ≡ None → max_bytes < length bytes
+  pub overlong-text : drat_text_verdict_by same clauses bytes ≡ None → max_bytes < length bytes
   overlong-text e =
       elim (cases_lt max_bytes (length bytes)) [
         | inl beyond ↦ beyond
-        | inr fits ↦ absurd (some-verdict (end_line bytes) (drat_lines bytes) clauses false
-            (sym (ap (drat_steps_verdict clauses false) (whole max_bytes bytes fits)) ∙ e))
+        | inr fits ↦ absurd (some-verdict same (end_line bytes) (drat_lines bytes) clauses false
+            (sym (ap (drat_steps_verdict_by same clauses false) (whole max_bytes bytes fits)) ∙ e))
       ]
 
-pub refutes : (clauses : List (List ℤ)) (lines : List DratLine) (v : IsVerified clauses false lines) → DratRefutes clauses v.steps
-refutes clauses lines v = record {
+pub refutes : (same : Equality) (clauses : List (List ℤ)) (lines : List DratLine) (v : IsVerified same clauses false lines)
+    → DratRefutesBy same clauses v.steps
+refutes same clauses lines v = record {
   verified = ap (drat_verdict_at (length v.steps + 1) (list_any adds_empty v.steps)) (v.good 1)
       ∙ ap (λ (b : Bool). drat_verdict_at (length v.steps + 1) b None) v.empty;
 }

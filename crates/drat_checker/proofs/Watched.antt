@@ -81,7 +81,8 @@ module _ (pairs : Pairs) (all all' : Watchers) (places : Places) (number : ℕ) 
               | inr two ↦ subst (λ (y : ℤ). has_number number (all' y) ≡ true) (sym (int_eq-true x pair.second two))
                   (keeps.kept number pair.second
                   (false_from_ne_true _ (λ both.
-                  both_ways (int_eq pair.second literal) moved.other (and_parts (nat_eq number number) (int_eq pair.second literal) both).1))
+                  both_ways (int_eq pair.second literal) moved.other (and_parts (nat_eq number number)
+                  (int_eq pair.second literal) both).1))
                   (w.listed number moved.clause pair.second moved.stands moved.kept))
             ])
         | inr other ↦

@@ -1,5 +1,5 @@
 -- In which lists the number of a clause that stands is found.
-use Rattle.std.specs.Prelude.{◌≡◌, ℕ, ◌+◌, ◌*◌, ◌%◌, Bool, true, false, not, ℤ, List, [], ◌∷◌, Some}
+use Rattle.std.specs.Prelude.{◌≡◌, ℕ, ◌+◌, ◌*◌, ◌%◌, max, Bool, true, false, not, ℤ, List, [], ◌∷◌, Some}
 use Rattle.lrat_rules.specs.Chain.{literals_of}
 use Rattle.lrat_rules.specs.ByLiteral.{place_of}
 use Rattle.drat_rules.specs.Quiet.{closed_under}
@@ -11,13 +11,22 @@ use Rattle.drat_checker.specs.Numbers.{has_number, numbers_of}
 abbrev pub is_short : List ℤ → Bool
 is_short clause = not (closed_under (λ _. false) clause)
 
--- a number for a list of literals, by which lists are told apart but for few
-abbrev pub hash_from : ℕ → List ℤ → ℕ
-hash_from hash [] = hash
-hash_from hash (x ∷ xs) = hash_from ((hash * 1000003 + place_of x) % 4294967291) xs
+-- a literal's place, mixed
+abbrev pub mixed : ℕ → ℤ → ℕ
+mixed shift x = (place_of x * 2654435761 + shift) % 4294967291
 
+-- the greatest of the mixed places of a clause: neither their order nor a repetition matters
+abbrev pub greatest : ℕ → List ℤ → ℕ
+greatest shift [] = 0
+greatest shift (x ∷ xs) = max (mixed shift x) (greatest shift xs)
+
+abbrev pub joined : ℕ → ℕ → ℕ
+joined hash more = (hash * 1000003 + more) % 4294967291
+
+-- a number for a clause, by which clauses are told apart but for few; one and the same for the same set of literals
 abbrev pub hash_of : List ℤ → ℕ
-hash_of clause = hash_from 0 clause
+hash_of clause =
+    joined (joined (joined (greatest 0 clause) (greatest 1073741823 clause)) (greatest 2147483647 clause)) (greatest 3221225471 clause)
 
 -- the number is in the list of each of these literals
 pub record IsHeld (by_literal : NumberLists) (number : ℕ) (clause : List ℤ) : Type 0 where
@@ -28,4 +37,5 @@ pub record IsIndexed (by_literal by_hash : NumberLists) (shorts : List ℕ) (pla
   pub held : (number : ℕ) (clause : List ℤ) → place_at places number ≡ Some clause → IsHeld by_literal number clause
   pub hashed : (number : ℕ) (clause : List ℤ) → place_at places number ≡ Some clause
       → has_number number (numbers_of by_hash (hash_of clause)) ≡ true
-  pub short : (number : ℕ) (clause : List ℤ) → place_at places number ≡ Some clause → is_short clause ≡ true → has_number number shorts ≡ true
+  pub short : (number : ℕ) (clause : List ℤ) → place_at places number ≡ Some clause → is_short clause ≡ true
+      → has_number number shorts ≡ true

@@ -9,25 +9,35 @@ use Rattle.lrat_rules.specs.declared.outcome.Reason.TheVariants.{Syntax}
 use Rattle.lrat_checker.specs.declared.verdict.Verdict.{Verdict}
 use Rattle.lrat_checker.specs.declared.verdict.Verdict.TheVariants.{Refused}
 use Rattle.lrat_checker.specs.TextVerdict.{end_verdict, judged, max_bytes}
-use Rattle.drat_rules.specs.Run.{after, adds_empty, drat_step_fault}
+use Rattle.drat_rules.specs.Clauses.{Equality, same_list}
+use Rattle.drat_rules.specs.Run.{after_by, adds_empty, drat_step_fault}
 
 -- The verdict of these steps where these clauses stand, and where earlier ones did or didn't add the empty clause. Nothing where
 -- they are good up to the limit.
-abbrev pub drat_steps_verdict : List (List ℤ) → Bool → StepsOf DratStep → Option Verdict
-drat_steps_verdict clauses has_empty (no_more line) = Some (end_verdict has_empty line)
-drat_steps_verdict clauses has_empty overlong = None
-drat_steps_verdict clauses has_empty (no_step line) = Some (Refused line Syntax)
-drat_steps_verdict clauses has_empty (next_step step line steps) =
-    judged (drat_step_fault clauses step) line (drat_steps_verdict (after clauses step) (has_empty || adds_empty step) steps)
+-- Clauses are told to be the same by this equality.
+abbrev pub drat_steps_verdict_by : Equality → List (List ℤ) → Bool → StepsOf DratStep → Option Verdict
+drat_steps_verdict_by same clauses has_empty (no_more line) = Some (end_verdict has_empty line)
+drat_steps_verdict_by same clauses has_empty overlong = None
+drat_steps_verdict_by same clauses has_empty (no_step line) = Some (Refused line Syntax)
+drat_steps_verdict_by same clauses has_empty (next_step step line steps) =
+    judged (drat_step_fault clauses step) line
+    (drat_steps_verdict_by same (after_by same clauses step) (has_empty || adds_empty step) steps)
 
 -- the verdict of a text, nothing where it is too long and no line under the limit is bad
-abbrev pub drat_text_verdict : List (List ℤ) → List ℕ → Option Verdict
-drat_text_verdict clauses bytes = drat_steps_verdict clauses false (drat_steps_in max_bytes bytes)
+abbrev pub drat_text_verdict_by : Equality → List (List ℤ) → List ℕ → Option Verdict
+drat_text_verdict_by same clauses bytes = drat_steps_verdict_by same clauses false (drat_steps_in max_bytes bytes)
 
 -- The verdict that the front of a longer text decides, whatever comes after it: some line of it is bad, and a token of a later
 -- line has come. Nothing where none is bad so far.
+abbrev pub drat_verdict_so_far_by : Equality → List (List ℤ) → List ℕ → Option Verdict
+drat_verdict_so_far_by same clauses bytes = drat_steps_verdict_by same clauses false (steps_so_far_by drat_step_of bytes)
+
+-- the same where clauses are told by their lists
+abbrev pub drat_text_verdict : List (List ℤ) → List ℕ → Option Verdict
+drat_text_verdict clauses bytes = drat_text_verdict_by same_list clauses bytes
+
 abbrev pub drat_verdict_so_far : List (List ℤ) → List ℕ → Option Verdict
-drat_verdict_so_far clauses bytes = drat_steps_verdict clauses false (steps_so_far_by drat_step_of bytes)
+drat_verdict_so_far clauses bytes = drat_verdict_so_far_by same_list clauses bytes
 
 -- the steps of lines, where each of them spells one
 abbrev pub with_step : Option DratStep → Option (List DratStep) → Option (List DratStep)

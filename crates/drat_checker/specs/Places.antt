@@ -1,6 +1,6 @@
 -- The clauses that stand, by their numbers: the number of a clause is its place, and a place is empty once its clause is deleted.
-use Rattle.std.specs.Prelude.{ℕ, ◌≤◌, min, Bool, false, ℤ, List, [], ◌∷◌, Option, None, Some, slice_index_or}
-use Rattle.drat_rules.specs.Clauses.{same_list}
+use Rattle.std.specs.Prelude.{◌≡◌, ℕ, ◌≤◌, min, Bool, true, false, ℤ, List, [], ◌∷◌, Option, None, Some, slice_index_or}
+use Rattle.drat_rules.specs.Clauses.{Equality}
 use Rattle.std.specs.Coded.{Coded, coded_ℤ, coded_list, coded_option}
 
 -- nothing, or a clause
@@ -32,10 +32,21 @@ abbrev pub IsAtMost : Option ℕ → ℕ → Type 0
 IsAtMost None number = ⊥
 IsAtMost (Some least) number = least ≤ number
 
--- the place has this very list of literals
-abbrev pub is_twin : List ℤ → Place → Bool
-is_twin clause None = false
-is_twin clause (Some own) = same_list clause own
+-- the place has a clause that is told to be this one
+abbrev pub is_twin : Equality → List ℤ → Place → Bool
+is_twin same clause None = false
+is_twin same clause (Some own) = same clause own
+
+-- The clause of this number is told to be that one, and no clause of a lesser number is.
+pub record IsFirst (same : Equality) (clause : List ℤ) (places : Places) (number : ℕ) : Type 0 where
+  pub own : List ℤ
+  pub stands : place_at places number ≡ Some own
+  pub twin : same clause own ≡ true
+  pub least : (n : ℕ) (other : List ℤ) → place_at places n ≡ Some other → same clause other ≡ true → number ≤ n
+
+-- no clause is
+pub record IsNone (same : Equality) (clause : List ℤ) (places : Places) : Type 0 where
+  pub absent : (number : ℕ) (other : List ℤ) → place_at places number ≡ Some other → same clause other ≡ false
 
 -- the lesser of two numbers, or the only one
 abbrev pub lesser : Option ℕ → ℕ → Option ℕ

@@ -1,5 +1,5 @@
--- What unit propagation does to the false literals of an addition: which are forced, and which clauses it has taken.
-use Rattle.std.specs.Prelude.{◌≡◌, ℕ, Bool, true, false, ◌||◌, ◌&&◌, ℤ, neg_ℤ, List, [], ◌∷◌, ◌++◌, drop, Option, None, Some, if◌then◌else◌}
+-- What unit propagation does to the false literals of an addition: which are forced, and where it has ended.
+use Rattle.std.specs.Prelude.{◌≡◌, Bool, true, false, ◌&&◌, ℤ, neg_ℤ, List, [], ◌∷◌, ◌++◌, Option, None, Some, if◌then◌else◌}
 use Rattle.std.specs.List.{list_any, list_all}
 use Rattle.std.specs.Ordering.{int_eq}
 use Rattle.lrat_rules.specs.declared.outcome.Effect.{Effect}
@@ -9,7 +9,7 @@ use Rattle.lrat_rules.specs.declared.outcome.Reason.TheVariants.{NoConflict, Can
 use Rattle.lrat_rules.specs.Chain.{FalseSet, literals_of, effect}
 use Rattle.drat_rules.specs.Quiet.{closed_under, IsQuiet, Falsifies}
 use Rattle.drat_rules.specs.Addition.{passes_candidate}
-use Rattle.drat_checker.specs.Places.{Place, Places, place_at}
+use Rattle.drat_checker.specs.Places.{Place}
 
 -- literals were put behind those that were there
 pub record Extends (old new : List ℤ) : Type 0 where
@@ -33,14 +33,6 @@ pub record Derives (clauses : List (List ℤ)) (old new : List ℤ) : Type 0 whe
   pub rest : List ℤ
   pub parts : new ≡ old ++ rest
   pub derived : derived clauses old rest ≡ true
-
--- propagation on the clause finds nothing new, or the clause has a literal that stands behind so many and may still be propagated
-abbrev pub is_taken : ℕ → List ℤ → List ℤ → Bool
-is_taken count literals clause = closed_under (literals_of literals) clause || list_any (literals_of clause) (drop count literals)
-
--- so it is for each clause that stands
-pub record AreTaken (places : Places) (count : ℕ) (literals : List ℤ) : Type 0 where
-  pub taken : (number : ℕ) (clause : List ℤ) → place_at places number ≡ Some clause → is_taken count literals clause ≡ true
 
 -- propagation finds nothing new on any clause
 pub record IsClosed (clauses : List (List ℤ)) (literals : List ℤ) : Type 0 where

@@ -1,13 +1,12 @@
 -- The literals that are false whatever is added: propagation finds them from the clauses alone.
-use Rattle.std.specs.Prelude.{◌≡◌, ℕ, false, ℤ, List, [], ◌∷◌, ◌++◌, length, true, Some, ⊤}
+use Rattle.std.specs.Prelude.{◌≡◌, false, ℤ, List, [], ◌∷◌, ◌++◌, length, true, Some, ⊤}
 use Rattle.lrat_rules.specs.declared.outcome.Effect.TheVariants.{NotUnit}
 use Rattle.lrat_rules.specs.Chain.{literals_of, effect}
 use Rattle.drat_rules.specs.Quiet.{has_quiet}
 use Rattle.drat_checker.specs.declared.roots.Roots.{Roots}
 use Rattle.drat_checker.specs.declared.roots.Roots.TheVariants.{Lost, Stale, Settled, Clash}
 use Rattle.drat_checker.specs.declared.watches.Watches.{Watches}
-use Rattle.drat_rules.specs.Clauses.{without_first}
-use Rattle.drat_checker.specs.Places.{Places, place_at, standing}
+use Rattle.drat_checker.specs.Places.{Places, standing}
 use Rattle.drat_checker.specs.Propagation.{Derives, IsClosed}
 use Rattle.drat_checker.specs.Watches.{AreTrue, AreWatched, IsGuarded, IsSettled, is_in, pair_at}
 
@@ -31,7 +30,8 @@ pub record WereKept (roots : Roots) (places : Places) (clause : List ℤ) (watch
   pub is : places ≡ before ++ Some clause ∷ []
   pub kept : AreKept roots before watches literals
 
--- The last clause came where the roots were known: those of the others are derived still, and where it forces nothing it watches nothing false.
+-- The last clause came where the roots were known: those of the others are derived still, and where it forces nothing it watches nothing
+-- false.
 pub record IsGrowing (places : Places) (clause : List ℤ) (watches : Watches) (literals : List ℤ) : Type 0 where
   pub before : Places
   pub is : places ≡ before ++ Some clause ∷ []
@@ -40,9 +40,3 @@ pub record IsGrowing (places : Places) (clause : List ℤ) (watches : Watches) (
   pub guarded : IsGuarded before watches.pairs.items literals literals
   pub unfalse : effect (literals_of literals) clause ≡ NotUnit → (x : ℤ) → is_in (pair_at watches.pairs.items (length before)) x ≡ true
       → literals_of literals x ≡ false
-
--- one clause of its kind is gone, the first; each clause that stands stood under its number
-pub record IsWithout (clause : List ℤ) (places fewer : Places) : Type 0 where
-  pub left : standing fewer ≡ without_first clause (standing places)
-  pub many : length fewer ≡ length places
-  pub stood : (number : ℕ) (other : List ℤ) → place_at fewer number ≡ Some other → place_at places number ≡ Some other

@@ -1,6 +1,7 @@
 -- Two watched literals of each clause that has two different ones. A clause needs to be looked at only where one of them becomes false.
 -- (Moskewicz, Madigan, Zhao, Zhang, Malik: Chaff, DAC 2001.)
-use Rattle.std.specs.Prelude.{◌≡◌, ℕ, Bool, true, false, ◌||◌, ℤ, neg_ℤ, List, length, Option, None, Some, is_some, slice_index_or, if◌then◌else◌}
+use Rattle.std.specs.Prelude.{◌≡◌, ℕ, Bool, true, false, ◌||◌, ℤ, neg_ℤ, List, length, Option, None, Some, is_some, slice_index_or}
+use Rattle.std.specs.Prelude.{if◌then◌else◌}
 use Rattle.std.specs.List.{list_any, list_all}
 use Rattle.std.specs.Ordering.{int_eq}
 use Rattle.lrat_rules.specs.Chain.{literals_of}
@@ -85,7 +86,8 @@ pub record MovesWatches (old new : Pairs) (literals : List ℤ) : Type 0 where
 
 -- the short clauses are true
 pub record AreTrue (places : Places) (literals : List ℤ) : Type 0 where
-  pub holds : (number : ℕ) (clause : List ℤ) → place_at places number ≡ Some clause → is_short clause ≡ true → is_true literals clause ≡ true
+  pub holds : (number : ℕ) (clause : List ℤ) → place_at places number ≡ Some clause → is_short clause ≡ true
+      → is_true literals clause ≡ true
 
 -- each clause that watches the literal is true, but those whose numbers are still to come
 pub record AreVisited (places : Places) (pairs : Pairs) (literal : ℤ) (literals : List ℤ) (left : List ℕ) : Type 0 where

@@ -1,5 +1,6 @@
-// Additions that need no propagation: each candidate has a literal besides the pivot's negation whose negation is in the added clause. (Such a
-// clause is blocked: Järvisalo, Biere, Heule: Blocked Clause Elimination, TACAS 2010.) Definitions of extension variables are of this kind.
+// Additions that need no propagation: each candidate has a literal besides the pivot's negation whose negation is in the added clause.
+// (Such a clause is blocked: Järvisalo, Biere, Heule: Blocked Clause Elimination, TACAS 2010.) Definitions of extension variables are of
+// this kind.
 ghost use Rattle.std.specs.Prelude.{◌≡◌, ◌++◌, ℤ, List, None, IsTrue};
 ghost use Rattle.std.specs.List.{list_all};
 ghost use Rattle.drat_rules.specs.Addition.{drat_fault, others_of, passes_candidate};

@@ -1,19 +1,20 @@
-// The clauses that stand, with lists of their numbers: by the literals that they hold, by a hash of the whole list, and of the short ones,
+// The clauses that stand, with lists of their numbers: by the literals that they hold, by a hash of the clause, and of the short ones,
 // which propagation begins with.
-ghost use Rattle.std.specs.Prelude.{◌≡◌, ◌<◌, ℕ, ◌∷◌, [], ◌++◌, ℤ, List, length, OnOk, OnErr, IsTrue, IsFalse, IfOk, Some};
+ghost use Rattle.std.specs.Prelude.{◌≡◌, ◌<◌, ℕ, ◌∷◌, [], ◌++◌, ℤ, List, length, OnOk, OnErr, IsTrue, IfOk, IfSome, None, Some, set};
 ghost use Rattle.std.specs.Option.{option_copied};
 ghost use Rattle.lrat_rules.specs.ByLiteral.{place_of};
 ghost use Rattle.lrat_rules.specs.Chain.{literals_of};
-ghost use Rattle.drat_rules.specs.Clauses.{without_first};
-ghost use Rattle.drat_checker.specs.Places.{place_at, standing};
-ghost use Rattle.drat_checker.specs.Numbers.{KeepsNumbers, KeepsStanding, KeepsLists, KeepsStandingLists, has_number, numbers_of};
-ghost use Rattle.drat_checker.specs.Database.{IsHeld, hash_of, hash_from, is_short};
+ghost use Rattle.drat_rules.specs.Clauses.{equality_of};
+ghost use Rattle.drat_checker.specs.Places.{IsFirst, IsNone, place_at, standing};
+ghost use Rattle.drat_checker.specs.Numbers.{KeepsNumbers, KeepsStanding, KeepsLists, KeepsStandingLists, has_number};
+ghost use Rattle.drat_checker.specs.Database.{IsHeld, greatest, hash_of, is_short, joined};
 
 use crate::number_lists::NumberLists;
 use crate::numbers::Numbers;
 use crate::store::Store;
 use crate::twins::least_of;
 use cnf_base::{Cnf, Lit, OutOfMemory};
+use drat_rules::Deletions;
 use lrat_rules::{Effect, effect_on};
 use std::alloc::Global;
 use std::marker::Model;
@@ -111,24 +112,33 @@ impl Database {
         Ok(())
     }
 
-    /// Takes out the first clause that is the same list of literals. The answer is whether there is one.
-    pub fn remove(&mut self, clause: &[Lit]) -> bool
-        ensures standing { standing self.new ≡ without_first clause.now (standing self.old) }
-        ensures none { IsFalse result → self.new ≡ self.old }
-        ensures many { length self.new ≡ length self.old }
-        ensures fewer { (number : ℕ) (other : List ℤ) → place_at self.new number ≡ Some other → place_at self.old number ≡ Some other }
+    /// The number of the first clause that is told to be this one, where there is one.
+    pub fn find(&self, deletions: Deletions, clause: &[Lit]) -> Option<u32>
+        ensures found { IfSome result (λ number. IsFirst (equality_of deletions) clause.now self.now number) }
+        ensures none { result ≡ None → IsNone (equality_of deletions) clause.now self.now }
     {
-        let hash = hash_of(clause);
-        match least_of(&self.store, self.by_hash.numbers(hash), clause) {
-            None => false,
-            Some(number) => {
-                self.store.clear(number);
-                self.by_hash.leave(&self.store, hash);
-                leave_literals(&mut self.by_literal, &self.store, clause);
-                leave_short(&mut self.short, &self.store, clause);
-                true
-            }
+        let numbers = self.by_hash.numbers(hash_of(clause));
+        least_of(&self.store, numbers, clause, deletions)
+    }
+
+    /// Takes out the clause of a number.
+    pub fn clear(&mut self, number: u32)
+        requires { number < length self.old }
+        ensures { self.new ≡ set self.old number None }
+    {
+        match self.store.take(number) {
+            None => {}
+            Some(clause) => self.leave(clause.literals()),
         }
+    }
+
+    // A clause of these literals stands no more: the lists keep the numbers of those that stand.
+    fn leave(&mut self, clause: &[Lit])
+        ensures { self.new ≡ self.old }
+    {
+        self.by_hash.leave(&self.store, hash_of(clause));
+        leave_literals(&mut self.by_literal, &self.store, clause);
+        leave_short(&mut self.short, &self.store, clause);
     }
 }
 
@@ -144,11 +154,33 @@ pub fn key_of(literal: Lit) -> u64
 fn hash_of(clause: &[Lit]) -> u64
     ensures { result ≡ hash_of clause.now }
 {
-    let mut hash = 0u64;
+    let hash = greatest(clause, 0);
+    let hash = joined(hash, greatest(clause, 1_073_741_823));
+    let hash = joined(hash, greatest(clause, 2_147_483_647));
+    joined(hash, greatest(clause, 3_221_225_471))
+}
+
+fn joined(hash: u64, more: u64) -> u64
+    requires hash { hash < 4294967291 }
+    requires more { more < 4294967291 }
+    ensures value { result ≡ joined hash more }
+    ensures small { result < 4294967291 }
+{
+    (hash * 1_000_003 + more) % 4_294_967_291
+}
+
+// The greatest of a clause's mixed places.
+fn greatest(clause: &[Lit], shift: u64) -> u64
+    requires { shift < 4294967291 }
+    ensures value { result ≡ greatest shift clause.now }
+    ensures small { result < 4294967291 }
+{
+    let mut most = 0;
     for literal in clause {
-        hash = (hash * 1_000_003 + key_of(*literal)) % 4_294_967_291;
+        let mixed = (key_of(*literal) * 2_654_435_761 + shift) % 4_294_967_291;
+        most = mixed.max(most);
     }
-    hash
+    most
 }
 
 // The number enters the list of each literal of its clause. No list loses a number.

@@ -1,6 +1,6 @@
 // The literals that are false while an addition is judged, in the order in which they became false, each once: the roots, those of the
-// clause, those of a candidate, and the negations of what is forced. None stands beside its negation. A flag tells of each literal whether it
-// is one of them.
+// clause, those of a candidate, and the negations of what is forced. None stands beside its negation. A flag tells of each literal whether
+// it is one of them.
 ghost use Rattle.std.specs.Prelude.{◌≡◌, ◌<◌, ◌&&◌, ℤ, [], neg_ℤ, not, OnErr, IfOk, take, length, if◌then◌else◌, slice_index_or};
 ghost use Rattle.lrat_rules.specs.Chain.{literals_of, effect};
 ghost use Rattle.lrat_rules.specs.Pass.{effect_of_forced, forced_with, agrees};

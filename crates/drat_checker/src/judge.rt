@@ -1,9 +1,9 @@
 // The judge of a proof's steps. It keeps the clauses that stand, in their order, and what is known of the roots.
 ghost use Rattle.std.specs.Prelude.{◌≡◌, [], ◌∷◌, ◌++◌, IfOk, OnErr, IfNone, OnSome, OnOk, IsTrue};
 ghost use Rattle.drat_text.specs.declared.step.DratStep.TheVariants.{Add};
-ghost use Rattle.drat_rules.specs.Clauses.{without_first};
+ghost use Rattle.drat_rules.specs.Clauses.{equality_of, without_first_by};
 ghost use Rattle.drat_rules.specs.Addition.{drat_fault};
-ghost use Rattle.drat_rules.specs.Run.{drat_step_fault, after};
+ghost use Rattle.drat_rules.specs.Run.{drat_step_fault, after_by};
 ghost use Rattle.drat_checker.specs.Memory.{is_addition};
 
 use crate::addition::addition_fault;
@@ -13,7 +13,7 @@ use crate::false_list::FalseList;
 use crate::roots::{Roots, lowered, raised, settle};
 use crate::watches::Watches;
 use cnf_base::{Cnf, Lit, OutOfMemory};
-use drat_rules::quiet_law;
+use drat_rules::{Deletions, quiet_law};
 use drat_text::DratStep;
 use lrat_rules::Reason;
 use std::alloc::Global;
@@ -55,9 +55,13 @@ impl DratJudge {
     }
 
     /// Why the step isn't good, or nothing: then it is taken. A bad step and a refusal change nothing.
-    pub fn step(&mut self, step: &DratStep) -> Result<Option<Reason>, OutOfMemory>
+    pub fn step(
+        &mut self,
+        deletions: Deletions,
+        step: &DratStep,
+    ) -> Result<Option<Reason>, OutOfMemory>
         ensures fault { IfOk result (λ fault. fault ≡ drat_step_fault self.old step.now) }
-        ensures good { IfOk result (λ fault. IfNone fault (self.new ≡ after self.old step.now)) }
+        ensures good { IfOk result (λ fault. IfNone fault (self.new ≡ after_by (equality_of deletions) self.old step.now)) }
         ensures bad { IfOk result (λ fault. OnSome fault (self.new ≡ self.old)) }
         ensures err { OnErr result (self.new ≡ self.old) }
         // A deletion wants no memory.
@@ -66,7 +70,7 @@ impl DratJudge {
         match step {
             DratStep::Add { lits } => self.add(lits.as_slice()),
             DratStep::Delete { lits } => {
-                self.delete(lits.as_slice());
+                self.delete(deletions, lits.as_slice());
                 Ok(None)
             }
         }
@@ -122,13 +126,15 @@ impl DratJudge {
         Ok(())
     }
 
-    fn delete(&mut self, clause: &[Lit])
-        ensures { self.new ≡ without_first clause.now self.old }
+    fn delete(&mut self, deletions: Deletions, clause: &[Lit])
+        ensures { self.new ≡ without_first_by (equality_of deletions) clause.now self.old }
     {
-        let found = self.db.remove(clause);
-        if !found {
-            return;
+        match self.db.find(deletions, clause) {
+            None => {}
+            Some(number) => {
+                self.roots = lowered(&self.db, &self.trail, self.roots, number);
+                self.db.clear(number);
+            }
         }
-        self.roots = lowered(&self.trail, self.roots, clause);
     }
 }

@@ -27,4 +27,4 @@ mod watches;
 
 pub use judge::DratJudge;
 pub use laws::check_drat_law;
-pub use text::check_drat;
+pub use text::{check_drat, check_drat_by};

@@ -1,6 +1,6 @@
-// Unit propagation over watched literals: each literal that became false visits the clauses that watch it, in the order in which the literals
-// became false, until a clause is false, or none is left.
-ghost use Rattle.std.specs.Prelude.{◌≡◌, ◌⊎◌, ℕ, ℤ, List, length, take, Some, false, true, OnOk, IfOk, IsTrue, IsFalse};
+// Unit propagation over watched literals: each literal that became false visits the clauses that watch it, in the order in which the
+// literals became false, until a clause is false, or none is left.
+ghost use Rattle.std.specs.Prelude.{◌≡◌, ◌⊎◌, ℤ, List, take, Some, false, true, OnOk, IfOk, IsTrue, IsFalse};
 ghost use Rattle.lrat_rules.specs.declared.outcome.Effect.TheVariants.{NotUnit};
 ghost use Rattle.lrat_rules.specs.Chain.{literals_of, effect};
 ghost use Rattle.drat_rules.specs.Clauses.{is_among};
@@ -80,7 +80,8 @@ fn take_number(db: &Database, trail: &mut FalseList, number: u32) -> Result<bool
     }
 }
 
-/// Takes one clause: the negation of what it forces becomes false. The answer is whether the clause is false. Else it forces nothing, or is true.
+/// Takes one clause: the negation of what it forces becomes false. The answer is whether the clause is false. Else it forces nothing, or
+/// is true.
 pub fn take_clause(trail: &mut FalseList, clause: &[Lit]) -> Result<bool, OutOfMemory>
     ensures conflict { IfOk result (λ conflict. IsTrue conflict → (clauses : List (List ℤ)) → IsTrue (is_among clauses clause.now)
         → has_quiet clauses trail.old ≡ false) }

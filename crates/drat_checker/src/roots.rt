@@ -1,13 +1,12 @@
 // The roots: the literals that are false whatever is added, since propagation finds them from the clauses alone. They are kept from line to
 // line, and found anew only where a clause goes that may have forced one of them.
-ghost use Rattle.std.specs.Prelude.{◌≡◌, ℤ, List, [], false, IfOk, OnOk, IsTrue, IsFalse};
-ghost use Rattle.drat_rules.specs.Clauses.{without_first};
+ghost use Rattle.std.specs.Prelude.{◌≡◌, [], None, false, set, IfOk, OnOk, IsTrue, IsFalse};
 ghost use Rattle.drat_rules.specs.Quiet.{has_quiet};
 ghost use Rattle.drat_checker.specs.declared.roots.Roots.TheVariants.{Stale, Settled};
 ghost use Rattle.drat_checker.specs.Places.{Places, standing};
 ghost use Rattle.drat_checker.specs.declared.watches.Watches.{Watches as Kept};
 ghost use Rattle.drat_checker.specs.Watches.{AreWatched};
-ghost use Rattle.drat_checker.specs.Roots.{AreKept, AreRoots, IsGrowing, IsWithout, WereKept};
+ghost use Rattle.drat_checker.specs.Roots.{AreKept, AreRoots, IsGrowing, WereKept};
 
 use crate::database::Database;
 use crate::false_list::FalseList;
@@ -156,19 +155,23 @@ fn grow(
     Ok(Roots::Settled)
 }
 
-/// What is known once a clause was taken out: the roots stay where it forces nothing under them, since then it forced none of them.
-pub fn lowered(trail: &FalseList, roots: Roots, clause: &[Lit]) -> Roots
-    ensures { (places fewer : Places) (kept : Kept) → IsWithout clause.now places fewer → AreKept roots places kept trail.now
+/// What is known once the clause of a number is taken out: the roots stay where it forces nothing under them, since then it forced none of
+/// them.
+pub fn lowered(db: &Database, trail: &FalseList, roots: Roots, number: u32) -> Roots
+    ensures { (fewer : Places) (kept : Kept) → fewer ≡ set db.now number None → AreKept roots db.now kept trail.now
         → AreKept result fewer kept trail.now }
 {
     match roots {
         Roots::Lost => Roots::Lost,
         Roots::Stale => Roots::Stale,
         Roots::Clash => Roots::Stale,
-        Roots::Settled => match trail.effect_of(clause) {
-            Effect::NotUnit => Roots::Settled,
-            Effect::Conflict => Roots::Stale,
-            Effect::Unit(_) => Roots::Stale,
+        Roots::Settled => match db.clause(number) {
+            None => Roots::Stale,
+            Some(clause) => match trail.effect_of(clause) {
+                Effect::NotUnit => Roots::Settled,
+                Effect::Conflict => Roots::Stale,
+                Effect::Unit(_) => Roots::Stale,
+            },
         },
     }
 }

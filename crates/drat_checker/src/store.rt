@@ -8,6 +8,7 @@ use crate::clause::Clause;
 use cnf_base::{Lit, OutOfMemory};
 use std::alloc::Global;
 use std::marker::Model;
+use std::mem;
 
 /// Clauses by number, from 0.
 #[derive(Debug, Drop)]
@@ -70,11 +71,12 @@ impl Store {
     }
 
     /// Takes out the clause of a number.
-    pub fn clear(&mut self, number: u32)
+    pub fn take(&mut self, number: u32) -> Option<Clause>
         requires { number < length self.old }
-        ensures { self.new ≡ set self.old number None }
+        ensures clause { result ≡ place_at self.old number }
+        ensures others { self.new ≡ set self.old number None }
     {
-        self.places[number as usize] = None;
+        mem::replace(&mut self.places[number as usize], None)
     }
 }
 

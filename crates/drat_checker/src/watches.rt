@@ -1,6 +1,7 @@
-// Two watched literals of each clause that isn't short, and the lists of the numbers that watch a literal. A list may have numbers that watch it
-// no more: they go when they are met. (Moskewicz, Madigan, Zhao, Zhang, Malik: Chaff, DAC 2001.)
-ghost use Rattle.std.specs.Prelude.{◌≡◌, ◌<◌, ◌∷◌, ◌++◌, [], ℕ, ℤ, List, length, neg_ℤ, Some, None, false, true, IsTrue, IsFalse};
+// Two watched literals of each clause that isn't short, and the lists of the numbers that watch a literal: a clause needs to be looked at
+// only where one of its two becomes false. Taking literals back changes no watch. A list may have numbers that watch it no more: they go
+// when they are met. (Moskewicz, Madigan, Zhao, Zhang, Malik: Chaff, DAC 2001.)
+ghost use Rattle.std.specs.Prelude.{◌≡◌, ◌<◌, ◌∷◌, ◌++◌, [], ℕ, ℤ, List, length, Some, None, false, true, IsTrue, IsFalse};
 ghost use Rattle.std.specs.Prelude.{IfOk, OnOk, IfSome, IsSome, is_some};
 ghost use Rattle.std.specs.List.{list_all};
 ghost use Rattle.std.specs.Option.{option_copied};
@@ -68,10 +69,12 @@ impl Watches {
         place: Option<&[Lit]>,
     ) -> Result<(), OutOfMemory>
         requires { number ≡ length self.old.pairs.items }
-        ensures watched { OnOk result ((places : Places) → AreWatched self.old places → AreWatched self.new (places ++ option_copied place.entry ∷ [])) }
+        ensures watched { OnOk result ((places : Places) → AreWatched self.old places
+            → AreWatched self.new (places ++ option_copied place.entry ∷ [])) }
         ensures others { OnOk result ((n : ℕ) → n < number → pair_at self.new.pairs.items n ≡ pair_at self.old.pairs.items n) }
-        ensures unfalse { OnOk result ((clause : List ℤ) → option_copied place.entry ≡ Some clause → effect (literals_of trail.now) clause ≡ NotUnit
-            → (x : ℤ) → IsTrue (watches self.new.pairs.items number x) → literals_of trail.now x ≡ false) }
+        ensures unfalse { OnOk result ((clause : List ℤ) → option_copied place.entry ≡ Some clause
+            → effect (literals_of trail.now) clause ≡ NotUnit → (x : ℤ) → IsTrue (watches self.new.pairs.items number x)
+            → literals_of trail.now x ≡ false) }
     {
         let pair = pair_of(trail, place);
         enter_pair(&mut self.lists, self.alloc, number, &pair)?;
@@ -124,7 +127,8 @@ impl Watches {
 
 // What the clause of a place watches, where there is one that isn't short.
 fn pair_of(trail: &FalseList, place: Option<&[Lit]>) -> Option<Pair>
-    ensures own { (clause : List ℤ) (pair : TwoLiterals) → option_copied place.entry ≡ Some clause → result ≡ Some pair → IsPair pair clause }
+    ensures own { (clause : List ℤ) (pair : TwoLiterals) → option_copied place.entry ≡ Some clause → result ≡ Some pair
+        → IsPair pair clause }
     ensures there { (clause : List ℤ) → option_copied place.entry ≡ Some clause → is_short clause ≡ false → is_some result ≡ true }
     ensures unfalse { (clause : List ℤ) (pair : TwoLiterals) → option_copied place.entry ≡ Some clause → result ≡ Some pair
         → effect (literals_of trail.now) clause ≡ NotUnit

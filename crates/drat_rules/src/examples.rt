@@ -2,7 +2,8 @@
 ghost use Rattle.std.specs.Prelude.{◌≡◌, [], ◌∷◌, None, Some, pos, negsuc};
 ghost use Rattle.drat_text.specs.declared.step.DratStep.TheVariants.{Add as adds, Delete as deletes};
 ghost use Rattle.lrat_rules.specs.declared.outcome.Reason.TheVariants.{NoConflict, CandidateOpen, NoEmptyClause};
-ghost use Rattle.drat_rules.specs.Run.{drat_verdict};
+ghost use Rattle.drat_rules.specs.Clauses.{same_set};
+ghost use Rattle.drat_rules.specs.Run.{drat_verdict, drat_verdict_by};
 
 /// A deletion takes out one clause, by its list of literals: a unit clause too, one of two copies, and none where the literals
 /// stand in another order or are repeated.
@@ -15,6 +16,18 @@ pub fn deletion_example()
         (deletes (pos 2 ∷ pos 1 ∷ []) ∷ adds [] ∷ []) ≡ None }
     ensures repeated { drat_verdict ((pos 1 ∷ pos 1 ∷ []) ∷ (negsuc 0 ∷ []) ∷ []) (deletes (pos 1 ∷ []) ∷ adds [] ∷ []) ≡ None }
     ensures empty { drat_verdict ([] ∷ (negsuc 4 ∷ pos 6 ∷ []) ∷ []) (deletes [] ∷ adds (pos 5 ∷ []) ∷ []) ≡ Some (2, CandidateOpen) }
+{}
+
+/// The same where clauses are told by their sets: the other order and the repetition matter no more, and the first such clause goes.
+#[tactic(auto, unfolding(crate::specs::Quiet::has_quiet))]
+pub fn any_order_example()
+    ensures other_order { drat_verdict_by same_set ((pos 1 ∷ pos 2 ∷ []) ∷ (pos 1 ∷ negsuc 1 ∷ []) ∷ (negsuc 0 ∷ []) ∷ [])
+        (deletes (pos 2 ∷ pos 1 ∷ []) ∷ adds [] ∷ []) ≡ Some (2, NoConflict) }
+    ensures repeated { drat_verdict_by same_set ((pos 1 ∷ pos 1 ∷ []) ∷ (negsuc 0 ∷ []) ∷ []) (deletes (pos 1 ∷ []) ∷ adds [] ∷ [])
+        ≡ Some (2, NoConflict) }
+    ensures fewer { drat_verdict_by same_set ((pos 1 ∷ []) ∷ (negsuc 0 ∷ []) ∷ []) (deletes (pos 1 ∷ pos 2 ∷ []) ∷ adds [] ∷ []) ≡ None }
+    ensures more { drat_verdict_by same_set ((pos 1 ∷ pos 2 ∷ []) ∷ (pos 1 ∷ negsuc 1 ∷ []) ∷ (negsuc 0 ∷ []) ∷ [])
+        (deletes (pos 1 ∷ []) ∷ adds [] ∷ []) ≡ None }
 {}
 
 /// An addition is good where propagation comes to a conflict, for the clause or for each candidate of its first literal: here a

@@ -3,12 +3,14 @@
 //! (Wetzler, Heule, Hunt: DRAT-trim: Efficient Checking and Trimming Using Expressive Clausal Proofs, SAT 2014.)
 #![tactic(auto)]
 
+mod deletions;
 mod examples;
 mod from_lrat;
 mod laws;
 mod soundness;
 
-pub use examples::{addition_example, deletion_example};
+pub use deletions::Deletions;
+pub use examples::{addition_example, any_order_example, deletion_example};
 pub use from_lrat::from_lrat_law;
 pub use laws::{drat_addition_law, propagation_law, quiet_law, same_clauses_law};
 pub use soundness::drat_soundness_law;

@@ -47,7 +47,7 @@ down_step n side node child part parts consistent fs fn down more =
     (λ m consistent' grows all. more m consistent' grows (and_parts (is_false m (neg_atom child)) true all).0)
 
 -- one side of a conjunction
-conjunction_side : (n : FalseSet) (side : ℤ) (u v w u1 v1 h : Atom) (up down_u down_v last : Option Part) → IsConsistent n → n side ≡ true
+pub conjunction_side : (n : FalseSet) (side : ℤ) (u v w u1 v1 h : Atom) (up down_u down_v last : Option Part) → IsConsistent n → n side ≡ true
     → list_all (is_false n) (conjunction u v w) ≡ true
     → IsUpPart side w h up → IsDownPart side u u1 down_u → IsDownPart side v v1 down_v → Justifies (conjunction u1 v1 h) last
     → PartsClose n (up ∷ down_u ∷ down_v ∷ last ∷ [])
@@ -65,7 +65,7 @@ conjunction_side n side u v w u1 v1 h up down_u down_v last consistent fs all is
     (justified_leaves m3 (conjunction u1 v1 h) last justified))))
 
 -- one side of an implication
-implication_side : (n : FalseSet) (side : ℤ) (u v u1 v1 : Atom) (down_u up_v last : Option Part) → IsConsistent n → n side ≡ true
+pub implication_side : (n : FalseSet) (side : ℤ) (u v u1 v1 : Atom) (down_u up_v last : Option Part) → IsConsistent n → n side ≡ true
     → list_all (is_false n) (implication u v) ≡ true
     → IsDownPart side u u1 down_u → IsUpPart side v v1 up_v → Justifies (implication u1 v1) last → PartsClose n (down_u ∷ up_v ∷ last ∷ [])
 implication_side n side u v u1 v1 down_u up_v last consistent fs all is_down is_up justified =

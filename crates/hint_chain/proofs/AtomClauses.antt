@@ -1,5 +1,5 @@
 -- Clauses over atoms: their literals are the atoms', and with the clause each atom is false.
-use Rattle.std.proofs.Common.{◌≡◌, ◌≤◌, ◌+◌, length, is_some, arith, true, false, ◌||◌, ℤ, neg_ℤ, List, [], ◌∷◌, Option, None, Some, int_eq}
+use Rattle.std.proofs.Common.{◌≡◌, ◌≤◌, ◌++◌, length, is_some, arith, true, false, ◌||◌, ℤ, neg_ℤ, List, [], ◌∷◌, Option, None, Some, int_eq}
 use Rattle.std.proofs.Common.{refl, sym, ap, ◌∙◌, subst, inl, inr}
 use Rattle.std.specs.List.{list_any, list_all}
 use Rattle.std.specs.Option.{option_map}
@@ -12,6 +12,7 @@ use Rattle.hint_chain.specs.declared.part.Part.{Part}
 use Rattle.hint_chain.specs.Atoms.{neg_atom, clause_from_atoms, is_false, is_literal, is_nonzero_atom, is_trivial}
 use Rattle.hint_chain.specs.Closing.{are_among, are_false_but, leaves_child, IsChildPart}
 use Rattle.hint_chain.specs.Additions.{part_clause, IsUpPart, IsDownPart}
+use Rattle.hint_chain.specs.Step.{has_child}
 use Rattle.hint_chain.proofs.Sets.{int_eq-true, int_eq-same, is_nonzero-neg_ℤ, Grows}
 use Rattle.hint_chain.proofs.ChildSteps.{is_false-kept}
 
@@ -181,3 +182,23 @@ down_leaves n side node child part fs fn down = record {
     | inr below ↦ subst (λ p. leaves_child n child p ≡ true) (sym below.0) (ap (λ a. is_false n (neg_atom a)) below.1 ∙ fn)
   ];
 }
+
+has_further : (own : ℤ) (child : Atom) (clause : List ℤ) → has_child child clause ≡ true → has_child child (own ∷ clause) ≡ true
+has_further own Always clause h = h
+has_further own Never clause h = refl
+has_further own (Of literal) clause h = or_right (int_eq literal own) (literals_of clause literal) h
+
+-- the clause of atoms has the literal of the last one
+pub has_last : (before : List Atom) (child : Atom) (clause : List ℤ) → clause_from_atoms (before ++ child ∷ []) ≡ Some clause
+    → has_child child clause ≡ true
+has_last [] Always clause e = cc
+has_last [] Never clause e = refl
+has_last [] (Of literal) clause e =
+    let is : literal ∷ [] ≡ clause = cc in
+    subst (λ c. literals_of c literal ≡ true) is (or_left (int_eq literal literal) false (int_eq-same literal))
+has_last (Always ∷ before) child clause e = cc
+has_last (Never ∷ before) child clause e = has_last before child clause e
+has_last (Of own ∷ before) child clause e =
+    let begins : BeginsWith own (clause_from_atoms (before ++ child ∷ [])) clause =
+    BeginsWith-from own (clause_from_atoms (before ++ child ∷ [])) clause e in
+    subst (λ c. has_child child c ≡ true) begins.whole (has_further own child begins.rest (has_last before child begins.rest begins.found))

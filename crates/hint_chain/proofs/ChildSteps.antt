@@ -51,7 +51,7 @@ AreChildParts-kept n m (child ∷ children) g are = (
 )
 
 -- the literals that aren't false are the child's
-all_outside : (n : FalseSet) (child : Atom) (clause : List ℤ) → are_false_but n (child ∷ []) clause ≡ true
+pub all_outside : (n : FalseSet) (child : Atom) (clause : List ℤ) → are_false_but n (child ∷ []) clause ≡ true
     → list_all (λ x. not (n x) && is_literal x child) (outside n clause) ≡ true
 all_outside n child [] h = refl
 all_outside n child (x ∷ xs) h =
@@ -76,13 +76,13 @@ same_literals n literal (x ∷ xs) h =
     and_from (int_eq literal x) _ (ap (int_eq literal) same ∙ int_eq-same literal) (same_literals n literal xs parts.1)
 
 -- the part forces the child's literal
-record ForcesChild (n : FalseSet) (child : Atom) (xs : List ℤ) : Type 0 where
-  literal : ℤ
-  own : child ≡ Of literal
-  open_ : n literal ≡ false
-  forced : effect_of_outside xs ≡ Forced literal
+pub record ForcesChild (n : FalseSet) (child : Atom) (xs : List ℤ) : Type 0 where
+  pub literal : ℤ
+  pub own : child ≡ Of literal
+  pub open_ : n literal ≡ false
+  pub forced : effect_of_outside xs ≡ Forced literal
 
-effect_outside : (n : FalseSet) (child : Atom) (xs : List ℤ) → list_all (λ x. not (n x) && is_literal x child) xs ≡ true
+pub effect_outside : (n : FalseSet) (child : Atom) (xs : List ℤ) → list_all (λ x. not (n x) && is_literal x child) xs ≡ true
     → (effect_of_outside xs ≡ Conflict) ⊎ ForcesChild n child xs
 effect_outside n child [] h = inl refl
 effect_outside n Always (x ∷ xs) h = absurd (both_ways _ refl (and_parts (not (n x)) false (and_parts (not (n x) && false) _ h).0).1)
@@ -173,7 +173,7 @@ not_trivial n (Of literal ∷ atoms) consistent all trivial =
       | inr later ↦ not_trivial n atoms consistent parts.1 later
     ]
 
-none_outside : (n : FalseSet) (atoms : List Atom) (clause : List ℤ) → list_all (is_false n) atoms ≡ true → are_false_but n atoms clause
+pub none_outside : (n : FalseSet) (atoms : List Atom) (clause : List ℤ) → list_all (is_false n) atoms ≡ true → are_false_but n atoms clause
     ≡ true → outside n clause ≡ []
 none_outside n atoms [] all h = refl
 none_outside n atoms (x ∷ xs) all h =

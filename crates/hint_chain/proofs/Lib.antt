@@ -7,3 +7,4 @@ pub mod AtomClauses
 pub mod AdditionsClose
 pub mod UnitsRefute
 pub mod UnitPaths
+pub mod StepHints

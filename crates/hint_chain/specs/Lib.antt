@@ -4,3 +4,4 @@ pub mod Greedy
 pub mod Closing
 pub mod Additions
 pub mod Units
+pub mod Step

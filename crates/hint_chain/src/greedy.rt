@@ -9,17 +9,16 @@ use crate::inline::InlineLiterals;
 use crate::part::Part;
 use cnf_base::Lit;
 use lrat_rules::{Effect, effect_on, is_among};
-use std::alloc::Global;
 
 /// The greedy choice among parts of which one is a conflict.
 #[inline(always)]
-pub fn hints_of(alloc: Global, clause: &[Lit], parts: &[Option<Part>]) -> Hints
+pub fn hints_of(clause: &[Lit], parts: &[Option<Part>]) -> Hints
     requires short { length clause.now ≤ 4 }
     requires few { length parts.now ≤ 5 }
     requires close { PartsClose (literals_of clause.now) parts.now }
     ensures { greedy (literals_of clause.now) parts.now ≡ Some result }
 {
-    let mut hints = Hints::new(alloc);
+    let mut hints = Hints::new();
     let _closes = choose(&mut hints, clause, parts);
     hints
 }
@@ -27,52 +26,52 @@ pub fn hints_of(alloc: Global, clause: &[Lit], parts: &[Option<Part>]) -> Hints
 /// The hints for the addition of a conjunction on the variable's high side. Its parts are the clause from w's high
 /// child up to w, those from u and v down to their high children, and the children's own conjunction.
 #[inline(always)]
-pub fn and_high(alloc: Global, clause: &[Lit], parts: [Option<Part>; 4]) -> Hints
+pub fn and_high(clause: &[Lit], parts: [Option<Part>; 4]) -> Hints
     requires short { length clause.now ≤ 4 }
     requires close { PartsClose (literals_of clause.now) parts }
     ensures { greedy (literals_of clause.now) parts ≡ Some result }
 {
-    hints_of(alloc, clause, &parts)
+    hints_of(clause, &parts)
 }
 
 /// The hints for the addition of a conjunction: the high addition, and then the same parts of the low side.
 #[inline(always)]
-pub fn and_low(alloc: Global, clause: &[Lit], parts: [Option<Part>; 5]) -> Hints
+pub fn and_low(clause: &[Lit], parts: [Option<Part>; 5]) -> Hints
     requires short { length clause.now ≤ 4 }
     requires close { PartsClose (literals_of clause.now) parts }
     ensures { greedy (literals_of clause.now) parts ≡ Some result }
 {
-    hints_of(alloc, clause, &parts)
+    hints_of(clause, &parts)
 }
 
 /// The hints for the addition of an implication on the variable's high side. Its parts are the clause from u down to
 /// its high child, the one from v's high child up to v, and the children's own implication.
 #[inline(always)]
-pub fn imply_high(alloc: Global, clause: &[Lit], parts: [Option<Part>; 3]) -> Hints
+pub fn imply_high(clause: &[Lit], parts: [Option<Part>; 3]) -> Hints
     requires short { length clause.now ≤ 4 }
     requires close { PartsClose (literals_of clause.now) parts }
     ensures { greedy (literals_of clause.now) parts ≡ Some result }
 {
-    hints_of(alloc, clause, &parts)
+    hints_of(clause, &parts)
 }
 
 /// The hints for the addition of an implication: the high addition, and then the same parts of the low side.
 #[inline(always)]
-pub fn imply_low(alloc: Global, clause: &[Lit], parts: [Option<Part>; 4]) -> Hints
+pub fn imply_low(clause: &[Lit], parts: [Option<Part>; 4]) -> Hints
     requires short { length clause.now ≤ 4 }
     requires close { PartsClose (literals_of clause.now) parts }
     ensures { greedy (literals_of clause.now) parts ≡ Some result }
 {
-    hints_of(alloc, clause, &parts)
+    hints_of(clause, &parts)
 }
 
 /// The greedy choice among the parts; None where no part is a conflict. Where one is, it is that of the calls above.
-pub fn greedy_hints(alloc: Global, clause: &[Lit], parts: &[Option<Part>]) -> Option<Hints>
+pub fn greedy_hints(clause: &[Lit], parts: &[Option<Part>]) -> Option<Hints>
     requires short { length clause.now ≤ 4 }
     requires few { length parts.now ≤ 5 }
     ensures { result ≡ greedy (literals_of clause.now) parts.now }
 {
-    let mut hints = Hints::new(alloc);
+    let mut hints = Hints::new();
     if choose(&mut hints, clause, parts) {
         Some(hints)
     } else {

@@ -1,35 +1,31 @@
 // A short list of hints, kept inline.
 ghost use Rattle.std.specs.Prelude.{◌≡◌, ◌<◌, [], ◌∷◌, ◌++◌, length};
 
+use arrayvec::ArrayVec;
 use cnf_base::Id;
-use smallvec::SmallVec;
-use std::alloc::Global;
 use std::marker::Model;
 
-/// At most eight hints. They take no memory: the allocator is never asked, since the `SmallVec` has places for eight, and `push` lets
-/// no ninth in.
+/// At most eight hints. They take no memory.
 #[derive(Drop)]
 pub struct Hints {
-    ids: SmallVec<Id, 8>,
+    ids: ArrayVec<Id, 8>,
 }
 
 impl Model for Hints {
-    ghost use Rattle.std.specs.Prelude.{ℕ, List, ◌≡◌};
+    ghost use Rattle.std.specs.Prelude.{ℕ, List};
 
     ghost Value = { List ℕ };
 
     ghost view = { λ hints. hints.ids.items };
-
-    ghost invariant = { λ hints. hints.ids.capacity ≡ 8 };
 }
 
 impl Hints {
     /// No hints.
-    pub(crate) fn new(alloc: Global) -> Hints
+    pub(crate) fn new() -> Hints
         ensures { result ≡ [] }
     {
         Hints {
-            ids: SmallVec::new(alloc),
+            ids: ArrayVec::new(),
         }
     }
 
@@ -38,7 +34,7 @@ impl Hints {
         requires { length self.old < 8 }
         ensures { self.new ≡ self.old ++ id ∷ [] }
     {
-        self.ids.push_reserved(id);
+        self.ids.push(id);
     }
 
     pub fn as_slice(&self) -> &[Id]

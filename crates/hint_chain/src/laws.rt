@@ -12,6 +12,8 @@ ghost use Rattle.hint_chain.specs.Atoms.{neg_atom, clause_from_atoms, is_trivial
 ghost use Rattle.hint_chain.specs.Greedy.{greedy, PartsClose, AreLiveParts};
 ghost use Rattle.hint_chain.specs.Closing.{IsConsistent, are_apart, are_among, IsChildPart, Child, AreChildParts, IsLastPart};
 ghost use Rattle.hint_chain.specs.Additions.{conjunction, implication, where_true, IsUpPart, IsDownPart, Justifies};
+ghost use Rattle.hint_chain.specs.declared.step.StepParts.{StepParts};
+ghost use Rattle.hint_chain.specs.Step.{IsConjunctionSide, IsImplicationSide, SideParts, Spells};
 ghost use Rattle.hint_chain.specs.Units.{next_id, unit_list, FalsifiesLiteral, FalsifiesNext, path_literals, IsUnitPath};
 
 /// The clause of a list of atoms has no literal but theirs, and there is one unless it is true by itself.
@@ -35,6 +37,8 @@ pub fn greedy_law()
 /// behind a first part that leaves one literal more.
 pub fn closing_law()
     ensures consistent { (clause : List ℤ) → IsTrue (are_apart clause) → IsConsistent (literals_of clause) }
+    ensures apart { (x : ℤ) (clause : List ℤ) → IsTrue (are_apart (neg_ℤ x ∷ clause)) → IsFalse (literals_of clause x)
+        × IsFalse (literals_of clause (neg_ℤ x)) }
     ensures closes { (n : FalseSet) (children : List Child) (last : Option Part) → IsConsistent n → AreChildParts n children
         → IsLastPart n (map (λ child. neg_atom child.atom) children) last → PartsClose n (map (λ child. child.part) children ++ last ∷ []) }
     ensures behind { (n : FalseSet) (literal : ℤ) (first : Part) (children : List Child) (last : Option Part) → IsConsistent n
@@ -43,27 +47,40 @@ pub fn closing_law()
         → PartsClose n (Some first ∷ map (λ child. child.part) children ++ last ∷ []) }
 {}
 
-/// Both additions of a conjunction close: the high one, and the low one behind the high one.
+/// What is kept of the parts of a conjunction's sides is of these, and they close: for the high addition, and for the low one behind it.
+/// So do the parts as lists, the low ones behind the high clause as a part.
 pub fn conjunction_law()
-    ensures high { (x : ℤ) (u v w u1 v1 h : Atom) (clause : List ℤ) (up down_u down_v last : Option Part)
+    ensures high { (x : ℤ) (u v w u1 v1 h : Atom) (clause : List ℤ) (own : StepParts) (sides : SideParts)
+        → clause_from_atoms (where_true x (conjunction u v w)) ≡ Some clause → IsConsistent (literals_of clause)
+        → IsConjunctionSide (neg_ℤ x) u v w u1 v1 h own sides → Spells (literals_of clause) own sides }
+    ensures low { (x : ℤ) (u v w u0 v0 l : Atom) (clause : List ℤ) (own : StepParts) (sides : SideParts) → IsTrue (is_nonzero x)
+        → clause_from_atoms (conjunction u v w) ≡ Some clause → IsConsistent (literals_of clause) → IsFalse (literals_of clause (neg_ℤ x))
+        → IsConjunctionSide x u v w u0 v0 l own sides → Spells (with_literal x (literals_of clause)) own sides }
+    ensures high_list { (x : ℤ) (u v w u1 v1 h : Atom) (clause : List ℤ) (up down_u down_v last : Option Part)
         → clause_from_atoms (where_true x (conjunction u v w)) ≡ Some clause → IsConsistent (literals_of clause)
         → IsUpPart (neg_ℤ x) w h up → IsDownPart (neg_ℤ x) u u1 down_u → IsDownPart (neg_ℤ x) v v1 down_v
         → Justifies (conjunction u1 v1 h) last
         → PartsClose (literals_of clause) (up ∷ down_u ∷ down_v ∷ last ∷ []) }
-    ensures low { (x : ℤ) (u v w u0 v0 l : Atom) (clause : List ℤ) (high : Part) (up down_u down_v last : Option Part)
+    ensures low_list { (x : ℤ) (u v w u0 v0 l : Atom) (clause : List ℤ) (high : Part) (up down_u down_v last : Option Part)
         → IsTrue (is_nonzero x) → clause_from_atoms (where_true x (conjunction u v w)) ≡ Some high.clause
         → clause_from_atoms (conjunction u v w) ≡ Some clause → IsConsistent (literals_of clause)
         → IsUpPart x w l up → IsDownPart x u u0 down_u → IsDownPart x v v0 down_v → Justifies (conjunction u0 v0 l) last
         → PartsClose (literals_of clause) (Some high ∷ up ∷ down_u ∷ down_v ∷ last ∷ []) }
 {}
 
-/// Both additions of an implication close.
+/// The same of an implication.
 pub fn implication_law()
-    ensures high { (x : ℤ) (u v u1 v1 : Atom) (clause : List ℤ) (down_u up_v last : Option Part)
+    ensures high { (x : ℤ) (u v u1 v1 : Atom) (clause : List ℤ) (own : StepParts) (sides : SideParts)
+        → clause_from_atoms (where_true x (implication u v)) ≡ Some clause → IsConsistent (literals_of clause)
+        → IsImplicationSide (neg_ℤ x) u v u1 v1 own sides → Spells (literals_of clause) own sides }
+    ensures low { (x : ℤ) (u v u0 v0 : Atom) (clause : List ℤ) (own : StepParts) (sides : SideParts) → IsTrue (is_nonzero x)
+        → clause_from_atoms (implication u v) ≡ Some clause → IsConsistent (literals_of clause) → IsFalse (literals_of clause (neg_ℤ x))
+        → IsImplicationSide x u v u0 v0 own sides → Spells (with_literal x (literals_of clause)) own sides }
+    ensures high_list { (x : ℤ) (u v u1 v1 : Atom) (clause : List ℤ) (down_u up_v last : Option Part)
         → clause_from_atoms (where_true x (implication u v)) ≡ Some clause → IsConsistent (literals_of clause)
         → IsDownPart (neg_ℤ x) u u1 down_u → IsUpPart (neg_ℤ x) v v1 up_v → Justifies (implication u1 v1) last
         → PartsClose (literals_of clause) (down_u ∷ up_v ∷ last ∷ []) }
-    ensures low { (x : ℤ) (u v u0 v0 : Atom) (clause : List ℤ) (high : Part) (down_u up_v last : Option Part)
+    ensures low_list { (x : ℤ) (u v u0 v0 : Atom) (clause : List ℤ) (high : Part) (down_u up_v last : Option Part)
         → IsTrue (is_nonzero x) → clause_from_atoms (where_true x (implication u v)) ≡ Some high.clause
         → clause_from_atoms (implication u v) ≡ Some clause → IsConsistent (literals_of clause)
         → IsDownPart x u u0 down_u → IsUpPart x v v0 up_v → Justifies (implication u0 v0) last

@@ -10,6 +10,7 @@ mod hints;
 mod inline;
 mod laws;
 mod part;
+mod step;
 mod unit;
 
 pub use atom::{Atom, clause_from_atoms};
@@ -21,4 +22,5 @@ pub use laws::{
     unit_law, unit_path_law,
 };
 pub use part::Part;
+pub use step::{ChildPart, StepParts, step_hints, step_hints_behind};
 pub use unit::{UnitPart, unit_hints};

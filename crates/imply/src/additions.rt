@@ -3,7 +3,6 @@
 // Extended Resolution Proofs with a BDD-Based SAT Solver, 2021, section 4.3.)
 ghost use Rattle.std.specs.Prelude.{◌≡◌, ◌≢◌, None, Err, IfOk, OnOk, Some};
 ghost use Rattle.hint_chain.specs.Atoms.{clause_from_atoms};
-ghost use Rattle.hint_chain.specs.Greedy.{AreLiveParts};
 ghost use Rattle.node_table.specs.declared.error.TableError.TheVariants.{NodeLimit, IdLimit};
 ghost use Rattle.node_table.specs.Table.{IsSound, IsUsedUp, UnlessTorn};
 ghost use Rattle.node_table.specs.Justification.{IsJustified};
@@ -11,20 +10,18 @@ ghost use Rattle.node_table.specs.Progress.{Steps, error_of};
 ghost use Rattle.operations.specs.Operands.{AreSplit};
 ghost use Rattle.operations.specs.Results.{implication_atoms};
 ghost use Rattle.operations.specs.Accounts.{GivesOne, RetiresNew, given_just};
-ghost use Rattle.operations.specs.Additions.{parts_in};
-ghost use Rattle.imply.specs.Additions.{AddsImplication, AreSideParts, AreSides, IsSide};
+ghost use Rattle.operations.specs.Sides.{High, Low};
+ghost use Rattle.imply.specs.Additions.{AddsImplication, AreSides, HasSide};
 
-use hint_chain::{Atom, ShortClause, clause_from_atoms, clause_law, closing_law, implication_law};
+use hint_chain::{
+    Atom, ShortClause, StepParts, clause_from_atoms, clause_law, closing_law, implication_law,
+};
 use host_io::Sink;
 use node_table::{Justification, Node, Table, TableError};
-use operations::{
-    Operands, Side, StepParts, add_both, down_part, just_part, literal_law, operand_law, up_part,
-};
-use std::alloc::Global;
+use operations::{Operands, add_both, down_parts, just_number, literal_law, operand_law, up_parts};
 
 /// Justifies that u implies v. Unless a write failed, the high clause is retired, also where the low one is refused.
 pub fn justify<S: Sink + Drop>(
-    alloc: Global,
     table: &mut Table<S>,
     operands: &Operands,
     high: &Justification,
@@ -50,9 +47,8 @@ pub fn justify<S: Sink + Drop>(
     clause_law();
     literal_law();
     let clause = implication_clause(table, operands);
-    let high = parts_of(table, operands, Side::High, high);
-    let low = parts_of(table, operands, Side::Low, low);
-    let id = add_both(alloc, table, operands.level, clause.as_slice(), &high, &low)?;
+    let (high, low) = parts_of(table, operands, high, low);
+    let id = add_both(table, operands.level, clause.as_slice(), &high, &low)?;
     Ok(Justification::Clause(id))
 }
 
@@ -73,27 +69,33 @@ fn atoms_of<S: Sink + Drop>(table: &Table<S>, u: Node, v: Node) -> [Atom; 2]
     [table.atom(u).negated(), table.atom(v)]
 }
 
-// The clauses that lead on one side from u and v to their children, and the implication of these.
+// What is kept of the clauses that lead from u and v to their children, and of the implications of these, on both sides.
 fn parts_of<S: Sink + Drop>(
     table: &Table<S>,
     operands: &Operands,
-    side: Side,
-    just: &Justification,
-) -> StepParts
+    high: &Justification,
+    low: &Justification,
+) -> (StepParts, StepParts)
     requires sound { IsSound table.now }
     requires split { AreSplit table.now.graph operands.now }
-    requires side { IsSide table.now.graph table.now.book.state.live operands.now side just.now }
-    ensures parts { AreSideParts table.now.graph operands.now side result }
-    ensures live { AreLiveParts table.now.book.state.live (parts_in result) }
+    requires sides { AreSides table.now.graph table.now.book.state.live operands.now high.now low.now }
+    ensures high { HasSide table.now.graph table.now.book.state.live operands.now High result.0 }
+    ensures low { HasSide table.now.graph table.now.book.state.live operands.now Low result.1 }
 {
     operand_law();
-    let level = operands.level;
-    let (u, v) = operands.children(side);
-    let child = atoms_of(table, u, v);
-    StepParts {
+    let first = down_parts(table, operands.level, operands.u);
+    let second = up_parts(table, operands.level, operands.v);
+    let on_high = StepParts {
         result: None,
-        first: down_part(table, level, side, operands.u),
-        second: up_part(table, level, side, operands.v),
-        children: just_part(just, &child),
-    }
+        first: first.high,
+        second: second.high,
+        children: just_number(high),
+    };
+    let on_low = StepParts {
+        result: None,
+        first: first.low,
+        second: second.low,
+        children: just_number(low),
+    };
+    (on_high, on_low)
 }

@@ -201,7 +201,7 @@ fn finish<S: Sink + Drop>(
     operand_law();
     growth_law();
     cofactor_law();
-    let just = justify(cache.alloc(), table, operands, high, low)?;
+    let just = justify(table, operands, high, low)?;
     let stored = StoredJustification::from_just(&just);
     match cache.keep((operands.u, operands.v), stored) {
         Ok(given) => {

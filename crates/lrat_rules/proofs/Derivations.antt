@@ -145,7 +145,7 @@ module _ (appended : (bytes : List ℕ) (step : Step) → are_whole_lines bytes 
       ])
 
 -- Steps whose lines can be read again add no literal 0.
-step_no_zero : (step : Step) → is_printable step ≡ true → step_has_no_zero step ≡ true
+pub step_no_zero : (step : Step) → is_printable step ≡ true → step_has_no_zero step ≡ true
 step_no_zero (Add id clause hints groups) h =
     has_no_zero-literals max_literal clause (and_parts (is_id id) _
     (and_parts (is_id id && list_all (is_literal_of max_literal) clause) _ (and_parts _ (list_all is_group groups) h).0).0).1

@@ -9,6 +9,7 @@ pub mod SoundSteps
 pub mod Refuted
 pub mod MoreLines
 pub mod Derivations
+pub mod Conserving
 pub mod Samples
 pub mod Passes
 pub mod MarksAtStart

@@ -5,6 +5,7 @@ pub mod Run
 pub mod Derivation
 pub mod Strict
 pub mod Soundness
+pub mod Conservative
 pub mod Marks
 pub mod FalseLiterals
 pub mod ByLiteral

@@ -3,17 +3,19 @@ ghost use Rattle.std.specs.Prelude.{◌≡◌, ◌≤◌, ◌<◌, ◌+◌, ◌+
 ghost use Rattle.std.specs.Prelude.{slice_index_or, if◌then◌else◌, ◌==◌};
 ghost use Rattle.std.specs.List.{list_all, list_any};
 ghost use Rattle.cnf_base.specs.declared.step.Step.{Step};
+ghost use Rattle.cnf_base.specs.declared.step.Step.TheVariants.{Add};
 ghost use Rattle.cnf_base.specs.ProofText.{proof_lines, line_of_step, is_printable, is_empty};
 ghost use Rattle.cnf_base.specs.Truth.{AreClausesOf};
 ghost use Rattle.lrat_rules.specs.Marks.{in_use};
 ghost use Rattle.lrat_rules.specs.State.{State, Live, clause_at, start, with_clause};
 ghost use Rattle.lrat_rules.specs.Chain.{Closes, literals_of};
 ghost use Rattle.lrat_rules.specs.Addition.{fault};
+ghost use Rattle.lrat_rules.specs.Conservative.{is_conservative};
 ghost use Rattle.lrat_rules.specs.Strict.{RefutesStrictly, IsDefinition};
 ghost use Rattle.lrat_rules.specs.Derivation.{IsDerivation, IsWritten, deletes_added, lines_from, text_of};
 ghost use Rattle.lrat_rules.specs.Run.{Reached, Refutes, Spells, run, step_fault, after_step, step_adds_empty, adds_empty_clause};
 
-/// An addition by a strict refutation is good: its hints close, and each of them names a live clause.
+/// An addition by a strict refutation is good, and conservative: its hints close, and each of them names a live clause.
 pub fn strict_addition_law()
     ensures good { (state : State) (id : ℕ) (clause : List ℤ) (hints : List ℕ) → state.top < id
         → RefutesStrictly state.live clause hints → fault state id clause hints [] ≡ None }
@@ -21,6 +23,8 @@ pub fn strict_addition_law()
         → Closes live (literals_of clause) hints }
     ensures live { (live : Live) (clause : List ℤ) (hints : List ℕ) → RefutesStrictly live clause hints
         → IsTrue (list_all (λ hint. is_some (clause_at live hint)) hints) }
+    ensures conservative { (vars : ℕ) (state : State) (id : ℕ) (clause : List ℤ) (hints : List ℕ) → RefutesStrictly state.live clause hints
+        → IsTrue (is_conservative vars state (Add id clause hints [])) }
 {}
 
 /// A clause whose candidates are all named, and all blocked, is a good addition with no further hints.

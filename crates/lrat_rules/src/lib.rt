@@ -22,4 +22,4 @@ pub use laws::{
     steps_text_law, strict_addition_law,
 };
 pub use outcome::{Effect, Reason};
-pub use soundness::soundness_law;
+pub use soundness::{conservative_law, soundness_law};

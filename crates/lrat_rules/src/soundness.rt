@@ -1,12 +1,14 @@
-// The soundness law: what good steps keep, and that a verified text refutes the formula.
+// The laws of soundness: what good steps keep, that a verified text refutes the formula, and what follows from it by conservative steps.
 ghost use Rattle.std.specs.Prelude.{◌≡◌, ℕ, ℤ, List, [], IsTrue, None, Some};
+ghost use Rattle.std.specs.List.{list_all};
 ghost use Rattle.cnf_base.specs.declared.list.Group.{Group};
 ghost use Rattle.cnf_base.specs.declared.step.Step.{Step};
-ghost use Rattle.cnf_base.specs.Truth.{Assignment, Satisfies, AreClausesOf};
+ghost use Rattle.cnf_base.specs.Truth.{Assignment, Satisfies, AreClausesOf, clause_holds, is_literal_of};
 ghost use Rattle.cnf_base.specs.ProofText.{Line, proof_lines};
 ghost use Rattle.lrat_rules.specs.State.{State, Live, clause_at, start, with_clause, without_clauses, SatisfiesLive};
 ghost use Rattle.lrat_rules.specs.Chain.{Closes, literals_of};
 ghost use Rattle.lrat_rules.specs.Addition.{fault};
+ghost use Rattle.lrat_rules.specs.Conservative.{IsAddedBy, are_conservative};
 ghost use Rattle.lrat_rules.specs.Derivation.{IsDerivation};
 ghost use Rattle.lrat_rules.specs.Run.{run, after_step, Reached, Refutes};
 ghost use Rattle.lrat_rules.specs.Soundness.{LiveHasNoZero, step_has_no_zero, lines_have_no_zero, SatisfiesUpToPivot};
@@ -42,4 +44,13 @@ pub fn soundness_law()
     ensures derived { (vars : ℕ) (clauses : List (List ℤ)) (steps : List Step) (state : State) (id : ℕ) → AreClausesOf vars clauses
         → IsDerivation clauses steps state
         → clause_at state.live id ≡ Some [] → (a : Assignment) → Satisfies a clauses → ⊥ }
+{}
+
+/// A clause over the formula's variables that conservative steps add holds under every assignment that satisfies the formula. So each of
+/// them answers a question of its own.
+pub fn conservative_law()
+    ensures { (vars : ℕ) (clauses : List (List ℤ)) (steps : List Step) (state : State) → AreClausesOf vars clauses
+        → IsDerivation clauses steps state → IsTrue (are_conservative vars (start clauses) steps)
+        → (clause : List ℤ) → IsAddedBy steps clause → IsTrue (list_all (is_literal_of vars) clause)
+        → (a : Assignment) → Satisfies a clauses → IsTrue (clause_holds a clause) }
 {}

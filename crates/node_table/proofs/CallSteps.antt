@@ -3,9 +3,11 @@ use Rattle.std.proofs.Common.{◌≡◌, ◌+◌, ◌≤◌, ◌<◌, ◌++◌, 
 use Rattle.std.proofs.Common.{arith, inl, inr, append-nil, append_assoc, pos, ◌∙◌}
 use Rattle.std.specs.Prelude.{IsTrue, max}
 use Rattle.std.specs.List.{list_any}
+use Rattle.std.proofs.lemmas.Bool.{and_from}
 use Rattle.std.specs.Ordering.{int_eq}
 use Rattle.cnf_base.specs.declared.step.Step.{Step}
 use Rattle.lrat_rules.specs.State.{State, clause_at}
+use Rattle.lrat_rules.specs.Conservative.{are_conservative, is_conservative}
 use Rattle.lrat_rules.specs.Marks.{in_use}
 use Rattle.clause_ledger.specs.Book.{AreTold, Book, addition, with_next}
 use Rattle.clause_ledger.specs.Told.{told_in_step, told_limit, told_none}
@@ -19,6 +21,7 @@ use Rattle.node_table.specs.Table.{TableState, IsSound, IsAddedTo, IsSame, IsWan
 use Rattle.node_table.specs.Table.{node_definitions}
 use Rattle.node_table.specs.Progress.{AreStepsUpTo, Continues, Steps, StepsOrRefutes}
 use Rattle.node_table.proofs.Added.{added_kept}
+use Rattle.node_table.proofs.Conserved.{node_conserves}
 use Rattle.node_table.proofs.Defining.{defining_new}
 use Rattle.node_table.proofs.Grown.{KeepsNodes-none, joined_at, joined_cases}
 use Rattle.node_table.proofs.Stands.{Grows, Grows-next}
@@ -58,6 +61,7 @@ module _ {S : Type 0} where
           more = [];
           told = told_none table.book spare sound.in_step;
           variables = tt;
+          conserves = refl;
           no_less = same.no_less;
           numbers = same.numbers;
           since = same.since;
@@ -159,9 +163,10 @@ module _ {S : Type 0} (aside : Aside) (graph later : Graph) (old new : Book S) (
   }
 
   pub went_on : IsSound (table_of aside graph old) → (more : List Step) → AreTold true old new more
-      → AreStepsUpTo (levels graph + aside.max_nodes) more → IsTied later new.state → AreUpTo (levels later + aside.max_nodes) later
+      → AreStepsUpTo (levels graph + aside.max_nodes) more → are_conservative (levels graph) old.state more ≡ true
+      → IsTied later new.state → AreUpTo (levels later + aside.max_nodes) later
       → StepsOrRefutes (table_of aside graph old) (table_of aside later new) justified None
-  went_on sound more told up_to tied few = record {
+  went_on sound more told up_to conserves tied few = record {
     leaves = record {
       sound = record {
         in_step = told_in_step told;
@@ -179,6 +184,7 @@ module _ {S : Type 0} (aside : Aside) (graph later : Graph) (old new : Book S) (
       more = more;
       told = told;
       variables = up_to;
+      conserves = conserves;
       no_less = grew.grows.gives.no_less;
       numbers = grew.within;
       since = ComesSince-grown old.state new.state grew.grows;
@@ -248,10 +254,12 @@ module _ {S : Type 0} (aside : Aside) (graph : Graph) (old new : Book S) (clause
   within_variables : IsUpTo (levels graph + aside.max_nodes) clause
   within_variables = up_to_over graph (levels graph + aside.max_nodes) (omega arith) sound.variables clause over
 
-  pub justified_on : (hints : List ℕ) → AreTold true old new (addition old.state clause hints ∷ []) → StepsOrRefutes (table_of aside graph old)
-      (table_of aside graph new) 1 None
-  justified_on hints told = went_on aside graph graph old new 1 one_more sound (addition old.state clause hints ∷ []) told
-      (within_variables, tt) tied_still sound.variables
+  pub justified_on : (hints : List ℕ) → AreTold true old new (addition old.state clause hints ∷ [])
+      → is_conservative (levels graph) old.state (addition old.state clause hints) ≡ true
+      → StepsOrRefutes (table_of aside graph old) (table_of aside graph new) 1 None
+  justified_on hints told conserves = went_on aside graph graph old new 1 one_more sound (addition old.state clause hints ∷ []) told
+      (within_variables, tt) (and_from (is_conservative (levels graph) old.state (addition old.state clause hints)) true conserves refl)
+      tied_still sound.variables
 
   pub justified_torn : (hints : List ℕ) → AreTold false old new (addition old.state clause hints ∷ []) → FewerInUse
       → live_nodes graph ≤ aside.max_nodes
@@ -341,7 +349,7 @@ module _ {S : Type 0} (aside : Aside) (graph later : Graph) (old new : Book S) (
       (let top = ap (λ (s : State). s.top) is in omega (arith, top)))
       sound (definition_steps old.state (node_definitions graph old.state level high low variable)) told
       (up_to_steps (node_definitions graph old.state level high low variable) over_later)
-      (subst (IsTied later) (sym is) tied_whole) up_to_later)
+      (node_conserves graph old.state level high low variable asked.above) (subst (IsTied later) (sym is) tied_whole) up_to_later)
       (record {
         each = λ id empty. none_empty old.state (node_definitions graph old.state level high low variable)
             (definitions_some (pos variable) (pos (variable_at graph level)) (atom_of graph high) (atom_of graph low) (old.state.top + 1)) id

@@ -11,10 +11,11 @@ use Rattle.clause_ledger.specs.declared.error.LedgerError.TheVariants.{WriteFaul
 use Rattle.node_table.specs.declared.error.TableError.{TableError}
 use Rattle.node_table.specs.Errors.{table_error}
 use Rattle.node_table.specs.HandedOn.{no_error}
-use Rattle.node_table.specs.Diagram.{Graph}
+use Rattle.node_table.specs.Diagram.{Graph, levels}
 use Rattle.node_table.specs.Tied.{IsOverNodes}
 use Rattle.node_table.specs.Table.{AddsNoEmpty, IsSound, live_nodes}
 use Rattle.node_table.specs.Progress.{Steps, StepsOrRefutes}
+use Rattle.lrat_rules.specs.Conservative.{is_conservative}
 use Rattle.lrat_rules.specs.State.{State, clause_at}
 use Rattle.node_table.proofs.NoEmpty.{next_empty}
 use Rattle.node_table.proofs.Progressed.{Steps-anyhow, Steps-at_most}
@@ -81,18 +82,19 @@ module _ {S : Type 0} (aside : Aside) (graph : Graph) (old new : Book S) (clause
     | inr met ↦ absurd (other (id_limit.1 met))
   ]
 
-  pub justify_steps : (r : Result ℕ LedgerError) → Answers old new clause hints r → StepsTo new (told r)
-  justify_steps (Ok id) answers =
+  pub justify_steps : is_conservative (levels graph) old.state (addition old.state clause hints) ≡ true → (r : Result ℕ LedgerError)
+      → Answers old new clause hints r → StepsTo new (told r)
+  justify_steps conserves (Ok id) answers =
       justified_on aside graph old new clause sound over
-      (below_limit (Ok id) answers.id_limit no_error) (state_is true answers.added.1) hints answers.added.1
-  justify_steps (Err LedgerIdLimit) answers =
+      (below_limit (Ok id) answers.id_limit no_error) (state_is true answers.added.1) hints answers.added.1 conserves
+  justify_steps conserves (Err LedgerIdLimit) answers =
       let met = answers.id_limit.0 refl in
       same_book (told (Err LedgerIdLimit)) (answers.unchanged limit_no_fault)
       (no_ids_left (table_of aside graph old) (table_of aside graph old) sound refl (omega (arith, met)))
-  justify_steps (Err LedgerOutOfMemory) answers =
+  justify_steps conserves (Err LedgerOutOfMemory) answers =
       same_book (told (Err LedgerOutOfMemory)) (answers.unchanged memory_no_fault)
       (no_room (table_of aside graph old) (table_of aside graph old) sound refl)
-  justify_steps (Err LedgerWriteFault) answers =
+  justify_steps conserves (Err LedgerWriteFault) answers =
       justified_torn aside graph old new clause sound over
       (below_limit (Err LedgerWriteFault) answers.id_limit no_limit) (state_is false (answers.torn refl)) hints
       (answers.torn refl) fewer few

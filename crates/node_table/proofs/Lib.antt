@@ -18,6 +18,7 @@ pub mod DefineGood
 pub mod DefineSteps
 pub mod DefinedOver
 pub mod Uptos
+pub mod Conserved
 pub mod Justified
 pub mod Fresh
 pub mod HasChildren

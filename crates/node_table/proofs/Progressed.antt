@@ -5,9 +5,10 @@ use Rattle.std.proofs.lemmas.Bool.{cases_lt}
 use Rattle.std.proofs.lemmas.List.{append_assoc, append-nil}
 use Rattle.cnf_base.specs.declared.step.Step.{Step}
 use Rattle.lrat_rules.specs.State.{State, Live, clause_at}
+use Rattle.lrat_rules.specs.Conservative.{are_conservative}
 use Rattle.lrat_rules.specs.Marks.{IsWithin, in_use}
 use Rattle.clause_ledger.specs.Book.{AreTold, Book, after_steps}
-use Rattle.clause_ledger.specs.Told.{after_steps-append, told_further, told_none, told_state}
+use Rattle.clause_ledger.specs.Told.{after_steps-append, conservative_further, told_further, told_none, told_state}
 use Rattle.node_table.specs.declared.error.TableError.{TableError}
 use Rattle.node_table.specs.declared.error.TableError.TheVariants.{NodeLimit, IdLimit, OutOfMemory, WriteFault}
 use Rattle.node_table.specs.Diagram.{levels}
@@ -95,6 +96,7 @@ module _ {S : Type 0} where
     more = [];
     told = told_none table.book table.book.spare sound.in_step;
     variables = tt;
+    conserves = refl;
     no_less = omega arith;
     numbers = omega arith;
     since = ComesSince-fewer table.book.state table.book.state (λ id clause is. is);
@@ -105,6 +107,14 @@ module _ {S : Type 0} where
       → AreStepsUpTo (last_variable old) (before.more ++ more)
   variables_further old mid before more after = up_to_append (last_variable old) before.more more before.variables
       (subst (λ (n : ℕ). AreStepsUpTo n more) (λ i. length (before.order i) + before.max_nodes i) after)
+
+  -- and so does what follows from the formula
+  conserves_further : (old mid : TableState S) (before : Continues old mid) → (more : List Step)
+      → are_conservative (levels mid.graph) mid.book.state more ≡ true
+      → are_conservative (levels old.graph) old.book.state (before.more ++ more) ≡ true
+  conserves_further old mid before more after = conservative_further (levels old.graph) old.book.state before.more more before.conserves
+      (subst (λ (s : State). are_conservative (levels old.graph) s more ≡ true) (told_state before.told)
+      (subst (λ (o : List ℕ). are_conservative (length o) mid.book.state more ≡ true) before.order after))
 
   pub Continues-further : (old mid new : TableState S) → Continues old mid → Continues mid new → Continues old new
   Continues-further old mid new before after =
@@ -118,6 +128,7 @@ module _ {S : Type 0} where
         more = before.more ++ after.more;
         told = told_further true old.book mid.book new.book before.more after.more before.told after.told;
         variables = variables_further old mid before after.more after.variables;
+        conserves = conserves_further old mid before after.more after.conserves;
         no_less = omega (arith, before.no_less, after.no_less);
         numbers = ≤-further new.book.state.top (number_limit mid) (number_limit old) after.numbers within;
         since = ComesSince-further old.book.state mid.book.state new.book.state before.no_less after.no_less before.since after.since;
@@ -253,6 +264,7 @@ module _ {S : Type 0} where
         more = none.more;
         told = none.told;
         variables = none.variables;
+        conserves = none.conserves;
       }
 
   pub Steps-retired : (table : TableState S) (id : ℕ) → IsSound table

@@ -8,6 +8,7 @@ use Rattle.node_table.specs.Diagram.{Graph, levels}
 use Rattle.node_table.specs.Tied.{IsTied, KeepsClauses}
 use Rattle.node_table.specs.Table.{IsSound, live_nodes, without_retired}
 use Rattle.node_table.specs.Progress.{Continues, BreaksOff}
+use Rattle.node_table.proofs.Conserved.{deletion_conserves}
 use Rattle.node_table.proofs.CallSteps.{Aside, FewerInUse, table_of}
 use Rattle.node_table.proofs.Deleting.{one_leads, some_step}
 use Rattle.node_table.proofs.InUseSame.{in_use_nodes}
@@ -54,6 +55,7 @@ module _ {S : Type 0} (aside : Aside) (graph : Graph) (old new : Book S) (in_ste
     more = deletion old.state aside.retired;
     told = subst (λ (b : Bool). AreTold b old new (deletion old.state aside.retired)) whole told;
     variables = up_to_deletion (levels graph + aside.max_nodes) old.state aside.retired;
+    conserves = deletion_conserves (levels graph) old.state aside.retired;
     no_less = omega (arith, top);
     numbers = omega (arith, top);
     since = ComesSince-fewer old.state new.state was;

@@ -21,6 +21,7 @@ use Rattle.node_table.specs.Progress.{Continues, BreaksOff}
 use Rattle.node_table.specs.Swept.{IsSwept}
 use Rattle.node_table.specs.Table.{IsSound, live_nodes}
 use Rattle.node_table.specs.Tied.{IsTied, IsAdded, IsOwned, IsOverNodes, AreRetired, HoldFormula, KeepsClauses}
+use Rattle.node_table.proofs.Conserved.{deletions_conserve}
 use Rattle.node_table.proofs.CallSteps.{Aside, FewerInUse, table_of}
 use Rattle.node_table.proofs.DefinedOver.{definition_over}
 use Rattle.node_table.proofs.Deleting.{torn_cut}
@@ -221,6 +222,7 @@ module _ {S : Type 0} (aside : Aside) (graph : Graph) (old new : Book S) (sound 
         more = deletion_steps old.state deletes.lines;
         told = deletes.told;
         variables = up_to_deletions (levels graph + aside.max_nodes) old.state deletes.lines;
+        conserves = deletions_conserve (levels graph) old.state deletes.lines;
         no_less = omega (arith, top);
         numbers = omega (arith, top);
         since = ComesSince-fewer old.state new.state left.among;

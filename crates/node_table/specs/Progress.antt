@@ -1,9 +1,10 @@
 -- What a call that may make nodes and clauses leaves, as it ends in step with the proof or breaks off.
 use Rattle.std.specs.Prelude.{◌≡◌, ◌⊎◌, ◌≤◌, ◌<◌, ◌+◌, ◌++◌, ℕ, max, true, false, ℤ, List, [], ◌∷◌, Option, None, Some, Result, Ok, Err}
-use Rattle.std.specs.Prelude.{⊤}
+use Rattle.std.specs.Prelude.{⊤, IsTrue}
 use Rattle.cnf_base.specs.declared.step.Step.{Step}
 use Rattle.cnf_base.specs.declared.step.Step.TheVariants.{Add, Delete}
 use Rattle.lrat_rules.specs.State.{State, clause_at}
+use Rattle.lrat_rules.specs.Conservative.{are_conservative}
 use Rattle.lrat_rules.specs.Marks.{IsWithin}
 use Rattle.clause_ledger.specs.Book.{AreTold, after_steps}
 use Rattle.node_table.specs.declared.error.TableError.{TableError}
@@ -31,7 +32,7 @@ AreStepsUpTo most [] = ⊤
 AreStepsUpTo most (step ∷ more) = IsStepUpTo most step × AreStepsUpTo most more
 
 -- The table is sound, over the same variables and formula and within the same limits, in step with its proof, which has these
--- steps more, over the variables that may be used.
+-- steps more, over the variables that may be used. They are conservative: what they say of the formula's variables follows from it.
 pub record Continues {S : Type 0} (old new : TableState S) : Type 0 where
   pub sound : IsSound new
   pub order : new.graph.order ≡ old.graph.order
@@ -41,6 +42,7 @@ pub record Continues {S : Type 0} (old new : TableState S) : Type 0 where
   pub more : List Step
   pub told : AreTold true old.book new.book more
   pub variables : AreStepsUpTo (last_variable old) more
+  pub conserves : IsTrue (are_conservative (levels old.graph) old.book.state more)
   pub no_less : old.book.state.top ≤ new.book.state.top
   pub numbers : new.book.state.top ≤ number_limit old
   pub since : ComesSince old.book.state new.book.state

@@ -38,7 +38,7 @@ use clause_ledger::Ledger;
 use cnf_base::{Id, Lit, OutOfMemory};
 use hint_chain::Atom;
 use host_io::Sink;
-use lrat_rules::marks_law;
+use lrat_rules::{marks_law, strict_addition_law};
 use std::alloc::Global;
 use std::marker::Model;
 
@@ -229,6 +229,7 @@ impl<S: Sink + Drop> Table<S> {
         ensures refused { IfErr result (λ e. e ≢ WriteFault → IsSame self.old self.new) }
     {
         marks_law();
+        strict_addition_law();
         if self.ledger.ids_left() == 0 {
             return Err(TableError::IdLimit);
         }

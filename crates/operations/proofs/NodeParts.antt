@@ -1,21 +1,23 @@
 -- The defining clauses of a node as parts of a hint list.
 use Rattle.std.proofs.Common.{◌≡◌, ◌<◌, ℕ, ℤ, List, pos, neg_ℤ, Bool, true, false, Option, None, Some, is_some, refl, sym, ap, ◌∙◌, subst}
-use Rattle.std.proofs.Common.{arith, eq-eqb}
+use Rattle.std.proofs.Common.{[], ◌∷◌, arith, eq-eqb, inl, inr}
 use Rattle.std.specs.Prelude.{if◌then◌else◌, ◌==◌, nat_lt}
 use Rattle.lrat_rules.specs.State.{Live}
-use Rattle.hint_chain.specs.declared.atom.Atom.TheVariants.{Of}
+use Rattle.hint_chain.specs.declared.atom.Atom.{Atom}
+use Rattle.hint_chain.specs.declared.atom.Atom.TheVariants.{Always, Never, Of}
+use Rattle.hint_chain.specs.Step.{IsNamed}
 use Rattle.hint_chain.specs.Additions.{part_clause}
 use Rattle.hint_chain.specs.Greedy.{IsLivePart}
-use Rattle.hint_chain.specs.Atoms.{clause_from_atoms, is_nonzero_atom, up_clause, down_clause}
+use Rattle.hint_chain.specs.Atoms.{clause_from_atoms, is_nonzero_atom, neg_atom, up_clause, down_clause}
 use Rattle.node_table.specs.declared.node.Node.{Node}
 use Rattle.node_table.specs.declared.node.Node.TheVariants.{False, True, Inner}
 use Rattle.node_table.specs.declared.node.NodeKey.{NodeKey}
 use Rattle.node_table.specs.declared.node.Branch.{Branch}
 use Rattle.node_table.specs.Diagram.{Graph, IsReduced, branch_at, branch_of, is_node, levels, child_in, variable_at}
 use Rattle.node_table.specs.Defined.{IsDefined, atom_of, atom_in, clause_named, defs_of}
-use Rattle.operations.specs.declared.parts.Side.{Side}
-use Rattle.operations.specs.declared.parts.Side.TheVariants.{High, Low}
-use Rattle.operations.specs.Sides.{false_literal, cofactor_at, up_of, down_of, named_part}
+use Rattle.operations.specs.Sides.{Side}
+use Rattle.operations.specs.Sides.{High, Low}
+use Rattle.operations.specs.Sides.{HasDownPart, HasUpPart, false_literal, cofactor_at, up_of, down_of, named_part, kept_part}
 
 -- an inner node of the graph, by its key
 pub record IsAt (graph : Graph) (node : Node) : Type 0 where
@@ -123,9 +125,69 @@ named_live live None clause is = tt
 named_live live (Some id) None is = tt
 named_live live (Some id) (Some clause) is = is
 
--- the level of a node is one of the graph's
-pub level_within : (graph : Graph) → IsReduced graph → (level : ℕ) (node : Node) (branch : Branch) → branch_of graph node ≡ Some branch
-    → branch.level ≡ level → level < levels graph
-level_within graph reduced level node branch at here =
-    let own = IsAt-from graph node branch at in
-    subst (λ (l : ℕ). l < levels graph) here (reduced.level own.key.index branch (sym (ap (branch_of graph) own.named) ∙ at))
+-- what is kept of a clause of two literals and a child's atom
+kept_named : (id : Option ℕ) (a b : ℤ) (child : Atom)
+    → IsNamed (kept_part id child) (named_part id (clause_from_atoms (Of a ∷ Of b ∷ child ∷ []))) child
+kept_named None a b child = tt
+kept_named (Some id) a b Always = tt
+kept_named (Some id) a b Never = (refl, refl)
+kept_named (Some id) a b (Of literal) = (refl, refl)
+
+node_atom : (graph : Graph) (node : Node) (branch : Branch) → branch_of graph node ≡ Some branch → atom_of graph node
+    ≡ Of (pos branch.variable)
+node_atom graph False branch at = cc
+node_atom graph True branch at = cc
+node_atom graph (Inner key) branch at = ap atom_in at
+
+module _ (side : Side) (graph : Graph) (live : Live) (level : ℕ) (reduced : IsReduced graph) (node : Node)
+    (stands : is_node graph node ≡ true) where
+  child_nonzero : is_nonzero_atom (atom_of graph (cofactor_at side graph level node)) ≡ true
+  child_nonzero = nonzero_node graph reduced (cofactor_at side graph level node) (cofactor_stands graph live level reduced side node stands)
+
+  -- a node below the level is its own cofactor
+  pub up_below : cofactor_at side graph level node ≡ node → HasUpPart side graph live level node None
+  up_below own = record {
+    part = None;
+    up = record { nonzero = child_nonzero; up = inr (refl, ap (atom_of graph) own) };
+    stands = tt;
+    named = tt;
+  }
+
+  pub down_below : cofactor_at side graph level node ≡ node → HasDownPart side graph live level node None
+  down_below own = record {
+    part = None;
+    down = record { nonzero = child_nonzero; down = inr (refl, ap (atom_of graph) own) };
+    stands = tt;
+    named = tt;
+  }
+
+  module _ (defined : (key : ℕ) (branch : Branch) → branch_at graph key ≡ Some branch → IsDefined live graph branch) (branch : Branch)
+      (at : branch_of graph node ≡ Some branch) (here : branch.level ≡ level) where
+    abbrev child : Atom
+    child = atom_of graph (cofactor_at side graph level node)
+
+    pub up_kept : HasUpPart side graph live level node (kept_part (up_of side (defs_of branch)) (neg_atom child))
+    up_kept =
+        let id = up_of side (defs_of branch) in
+        let given = up_given graph live level defined side node branch at here in record {
+          part = named_part id (clause_from_atoms (up_clause (atom_of graph node) (false_literal side graph level) child));
+          up = record { nonzero = child_nonzero; up = inl (named_clause live id _ given) };
+          stands = named_live live id _ given;
+          named = subst (λ (own : Atom). IsNamed (kept_part id (neg_atom child))
+              (named_part id (clause_from_atoms (own ∷ Of (false_literal side graph level) ∷ neg_atom child ∷ []))) (neg_atom child))
+              (sym (node_atom graph node branch at))
+              (kept_named id (pos branch.variable) (false_literal side graph level) (neg_atom child));
+        }
+
+    pub down_kept : HasDownPart side graph live level node (kept_part (down_of side (defs_of branch)) child)
+    down_kept =
+        let id = down_of side (defs_of branch) in
+        let given = down_given graph live level defined side node branch at here in record {
+          part = named_part id (clause_from_atoms (down_clause (atom_of graph node) (false_literal side graph level) child));
+          down = record { nonzero = child_nonzero; down = inl (named_clause live id _ given) };
+          stands = named_live live id _ given;
+          named = subst (λ (own : Atom). IsNamed (kept_part id child)
+              (named_part id (clause_from_atoms (neg_atom own ∷ Of (false_literal side graph level) ∷ child ∷ []))) child)
+              (sym (node_atom graph node branch at))
+              (kept_named id (neg_ℤ (pos branch.variable)) (false_literal side graph level) child);
+        }

@@ -5,15 +5,17 @@ use Rattle.std.specs.Prelude.{◌≡◌, ◌≢◌, ◌+◌, ◌<◌, ◌≤◌,
 use Rattle.std.specs.Prelude.{IsTrue, length}
 use Rattle.std.specs.Ordering.{int_eq}
 use Rattle.std.specs.List.{list_any}
-use Rattle.lrat_rules.specs.Chain.{literals_of}
+use Rattle.lrat_rules.specs.Chain.{literals_of, with_literal}
 use Rattle.lrat_rules.specs.State.{State, Live, clause_at}
 use Rattle.clause_ledger.specs.Book.{Book, AreTold, addition, with_next}
 use Rattle.hint_chain.specs.declared.atom.Atom.{Atom}
 use Rattle.hint_chain.specs.declared.atom.Atom.TheVariants.{Of}
 use Rattle.hint_chain.specs.declared.part.Part.{Part}
+use Rattle.hint_chain.specs.declared.step.StepParts.{StepParts}
 use Rattle.hint_chain.specs.Atoms.{clause_from_atoms, is_literal, neg_atom}
 use Rattle.hint_chain.specs.Closing.{are_apart}
-use Rattle.hint_chain.specs.Greedy.{AreLiveParts, PartsClose, greedy}
+use Rattle.hint_chain.specs.Greedy.{AreLiveParts, greedy}
+use Rattle.hint_chain.specs.Step.{SideParts, Spells, parts_in}
 use Rattle.node_table.specs.declared.error.TableError.{TableError}
 use Rattle.node_table.specs.declared.error.TableError.TheVariants.{WriteFault}
 use Rattle.node_table.specs.declared.node.Node.{Node}
@@ -23,7 +25,6 @@ use Rattle.node_table.specs.Diagram.{Graph, IsReduced, IsOrder, levels, variable
 use Rattle.node_table.specs.Progress.{Steps}
 use Rattle.node_table.specs.Table.{TableState, IsAddedTo, IsSame, IsSound}
 use Rattle.node_table.specs.Tied.{IsOverNodes, IsOwned}
-use Rattle.operations.specs.declared.additions.StepParts.{StepParts}
 use Rattle.operations.specs.Operands.{IsInner}
 use Rattle.operations.specs.Accounts.{GivesOne, RetiresNew}
 
@@ -90,22 +91,20 @@ pub record Literals : Type 0 where
 abbrev pub high_of : Graph → ℕ → List ℤ → List ℤ
 high_of graph level clause = neg_ℤ (pos (variable_at graph level)) ∷ clause
 
--- the parts of a step in their turn
-abbrev pub parts_in : StepParts → List (Option Part)
-parts_in parts = parts.result ∷ parts.first ∷ parts.second ∷ parts.children ∷ []
-
 -- What the two additions of a clause stand on: its literals are those of nodes, of different variables, and there are some; the
--- parts of the high side close for the high clause, and those of the low side behind it. All parts are live.
+-- parts of the high side close for the high clause, and those of the low side where the variable is false too. All parts are live.
 pub record AreBoth (graph : Graph) (live : Live) (level : ℕ) (clause : List ℤ) (high low : StepParts) : Type 0 where
+  pub highs : SideParts
+  pub lows : SideParts
   pub within : level < levels graph
   pub some : clause ≢ []
   pub short : length clause ≤ 3
   pub apart : IsTrue (are_apart clause)
   pub owned : AreOwned graph clause
-  pub on_high : PartsClose (literals_of (high_of graph level clause)) (parts_in high)
-  pub on_low : (first : Part) → first.clause ≡ high_of graph level clause → PartsClose (literals_of clause) (Some first ∷ parts_in low)
-  pub high_live : AreLiveParts live (parts_in high)
-  pub low_live : AreLiveParts live (parts_in low)
+  pub on_high : Spells (literals_of (high_of graph level clause)) high highs
+  pub on_low : Spells (with_literal (pos (variable_at graph level)) (literals_of clause)) low lows
+  pub high_live : AreLiveParts live (parts_in highs)
+  pub low_live : AreLiveParts live (parts_in lows)
 
 -- The step that adds a clause is told, with the hints that the greedy choice takes from these parts in turn.
 pub record AddsFrom {S : Type 0} (old new : Book S) (clause : List ℤ) (parts : List (Option Part)) : Type 0 where
@@ -114,7 +113,7 @@ pub record AddsFrom {S : Type 0} (old new : Book S) (clause : List ℤ) (parts :
   pub told : AreTold true old new (addition old.state clause hints ∷ [])
 
 -- Two steps are told: the high clause from the parts of its side, and the clause from the high one and then those of its own side.
-pub record AddsBoth {S : Type 0} (old new : Book S) (long clause : List ℤ) (high low : StepParts) : Type 0 where
+pub record AddsBoth {S : Type 0} (old new : Book S) (long clause : List ℤ) (high low : SideParts) : Type 0 where
   pub between : Book S
   pub first : AddsFrom old between long (parts_in high)
   pub second : AddsFrom between new clause (Some (record { id = old.state.top + 1; clause = long }) ∷ parts_in low)

@@ -2,39 +2,27 @@
 // parts of the high side close. The low one drops -x: the high clause makes x false, and the same holds on the low side. The high
 // one has served then, and is retired. (Bryant, Heule: Generating Extended Resolution Proofs with a BDD-Based SAT Solver, 2021,
 // sections 4.2 and 4.3.)
-ghost use Rattle.std.specs.Prelude.{◌≡◌, ◌≢◌, ◌≤◌, ◌+◌, ◌++◌, ◌∷◌, [], Err, IfErr, IfOk, OnOk, Some, length};
-ghost use Rattle.lrat_rules.specs.Chain.{literals_of};
+ghost use Rattle.std.specs.Prelude.{◌≡◌, ◌≢◌, ◌≤◌, ◌+◌, ◌++◌, ◌∷◌, [], Err, IfErr, IfOk, OnOk, Some, true};
+ghost use Rattle.lrat_rules.specs.Strict.{RefutesStrictly};
 ghost use Rattle.lrat_rules.specs.State.{clause_at};
-ghost use Rattle.hint_chain.specs.Greedy.{AreLiveParts, PartsClose};
+ghost use Rattle.clause_ledger.specs.Book.{AreTold, addition};
 ghost use Rattle.node_table.specs.declared.error.TableError.TheVariants.{IdLimit, NodeLimit, WriteFault};
 ghost use Rattle.node_table.specs.Progress.{Steps, error_of};
 ghost use Rattle.node_table.specs.Table.{IsSame, IsSound, IsUsedUp, UnlessTorn};
 ghost use Rattle.node_table.specs.Tied.{IsOverNodes};
 ghost use Rattle.operations.specs.Accounts.{GivesOne, RetiresNew, given_clause};
-ghost use Rattle.operations.specs.Additions.{AddsBoth, AddsFrom, AreBoth, IsAdded, high_of};
+ghost use Rattle.operations.specs.Additions.{AddsBoth, AreBoth, IsAdded, high_of};
 
 use crate::clauses::behind;
 use crate::laws::{high_clause_law, literal_law};
 use cnf_base::{Id, Lit};
-use hint_chain::{Part, greedy_law, hints_of};
+use hint_chain::{StepParts, closing_law, greedy_law, step_hints, step_hints_behind};
 use host_io::Sink;
 use node_table::{Table, TableError, steps_law};
-use std::alloc::Global;
-
-/// The parts of one side: from the result's child up to the result, if there is one, from the operands to their children, and what
-/// was found for the children.
-#[derive(Clone, Copy, Debug)]
-pub struct StepParts {
-    pub result: Option<Part>,
-    pub first: Option<Part>,
-    pub second: Option<Part>,
-    pub children: Option<Part>,
-}
 
 /// Adds a clause from the parts of both sides of a level's variable. Unless a write failed, the high clause is retired, also
 /// where the low one is refused.
 pub fn add_both<S: Sink + Drop>(
-    alloc: Global,
     table: &mut Table<S>,
     level: u32,
     clause: &[Lit],
@@ -45,8 +33,8 @@ pub fn add_both<S: Sink + Drop>(
     requires both { AreBoth table.old.graph table.old.book.state.live level clause.now high.now low.now }
     ensures clause { IfOk result (λ id. clause_at table.new.book.state.live id ≡ Some clause.now) }
     // exactly these two steps are told, their hints in the turn of the parts
-    ensures told { OnOk result (AddsBoth table.old.book table.new.book (high_of table.old.graph level clause.now) clause.now
-        high.now low.now) }
+    ensures told { OnOk result ((both : AreBoth table.old.graph table.old.book.state.live level clause.now high.now low.now)
+        → AddsBoth table.old.book table.new.book (high_of table.old.graph level clause.now) clause.now both.highs both.lows) }
     ensures two_added { IfOk result (λ id. (id ≡ table.old.book.state.top + 2) × (table.new.book.state.top ≡ id)
         × (table.new.retired ≡ table.old.retired ++ (table.old.book.state.top + 1) ∷ [])) }
     ensures nodes { table.new.graph ≡ table.old.graph }
@@ -59,13 +47,16 @@ pub fn add_both<S: Sink + Drop>(
 {
     steps_law::<S>();
     literal_law();
+    closing_law();
+    greedy_law();
     high_clause_law::<S>();
-    let long = behind(table.variable(level).negated(), clause);
-    let parts = [high.result, high.first, high.second, high.children];
-    let first = add(alloc, table, long.as_slice(), &parts)?;
-    let part = Some(Part::of(first, long));
-    let parts = [part, low.result, low.first, low.second, low.children];
-    match add(alloc, table, clause, &parts) {
+    let x = table.variable(level);
+    let long = behind(x.negated(), clause);
+    let own = long.as_slice();
+    let hints = step_hints(own, high);
+    let first = add(table, own, hints.as_slice())?;
+    let low_hints = step_hints_behind(first, x, clause, low);
+    match add(table, clause, low_hints.as_slice()) {
         Ok(id) => {
             table.retire(first);
             Ok(id)
@@ -78,23 +69,15 @@ pub fn add_both<S: Sink + Drop>(
     }
 }
 
-// One addition, by the greedy choice among parts of which one is a conflict.
-fn add<S: Sink + Drop>(
-    alloc: Global,
-    table: &mut Table<S>,
-    clause: &[Lit],
-    parts: &[Option<Part>],
-) -> Result<Id, TableError>
+// One addition, by these hints.
+fn add<S: Sink + Drop>(table: &mut Table<S>, clause: &[Lit], hints: &[Id]) -> Result<Id, TableError>
     requires sound { IsSound table.old }
     requires some { clause.now ≢ [] }
-    requires short { length clause.now ≤ 4 }
-    requires few { length parts.now ≤ 5 }
-    requires close { PartsClose (literals_of clause.now) parts.now }
-    requires live { AreLiveParts table.old.book.state.live parts.now }
+    requires strict { RefutesStrictly table.old.book.state.live clause.now hints.now }
     requires over_nodes { IsOverNodes table.old.graph clause.now }
     ensures clause { IfOk result (λ id. clause_at table.new.book.state.live id ≡ Some clause.now) }
     ensures added { IfOk result (λ id. IsAdded table.old table.new id) }
-    ensures told { OnOk result (AddsFrom table.old.book table.new.book clause.now parts.now) }
+    ensures told { OnOk result (AreTold true table.old.book table.new.book (addition table.old.book.state clause.now hints.now ∷ [])) }
     ensures nodes { table.new.graph ≡ table.old.graph }
     ensures steps { Steps table.old table.new 1 (error_of result) }
     ensures retired { table.new.retired ≡ table.old.retired }
@@ -102,8 +85,6 @@ fn add<S: Sink + Drop>(
     ensures id_limit { result ≡ Err IdLimit → IsUsedUp table.new }
     ensures refused { IfErr result (λ e. e ≢ WriteFault → IsSame table.old table.new) }
 {
-    greedy_law();
     high_clause_law::<S>();
-    let hints = hints_of(alloc, clause, parts);
-    table.justify(clause, hints.as_slice())
+    table.justify(clause, hints)
 }

@@ -18,7 +18,7 @@ mod purge;
 mod retired;
 mod stored_just;
 
-pub use additions::{StepParts, add_both};
+pub use additions::add_both;
 pub use computed::{Computed, Results};
 pub use frames::Reply;
 pub use laws::{
@@ -28,7 +28,7 @@ pub use laws::{
 pub use machine::{Operation, work_off};
 pub use operands::{Operands, split};
 pub use pair::NodePair;
-pub use parts::{Side, down_part, just_part, up_part};
+pub use parts::{ChildParts, down_parts, just_number, up_parts};
 pub use purge::Purge;
 pub use retired::{clause_number, retire};
 pub use stored_just::StoredJustification;

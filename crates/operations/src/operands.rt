@@ -3,9 +3,7 @@
 ghost use Rattle.std.specs.Prelude.{◌≡◌, ◌≢◌, ◌≤◌, IsTrue};
 ghost use Rattle.node_table.specs.Diagram.{IsReduced, is_node};
 ghost use Rattle.operations.specs.Operands.{AreSplit, IsInner};
-ghost use Rattle.operations.specs.Sides.{children_at};
 
-use crate::parts::Side;
 use host_io::Sink;
 use node_table::{Node, Table};
 
@@ -19,19 +17,6 @@ pub struct Operands {
     pub u_low: Node,
     pub v_high: Node,
     pub v_low: Node,
-}
-
-impl Operands {
-    /// The cofactors on one side.
-    #[inline(always)]
-    pub fn children(&self, side: Side) -> (Node, Node)
-        ensures { result ≡ children_at side self.now }
-    {
-        match side {
-            Side::High => (self.u_high, self.v_high),
-            Side::Low => (self.u_low, self.v_low),
-        }
-    }
 }
 
 /// Splits two inner nodes that differ.

@@ -84,7 +84,7 @@ fn chosen(alloc: Global, clause: &[Lit], parts: &[Option<Part>]) -> Result<Strin
     if parts.len() > 5 {
         return Err("more than five parts")?;
     }
-    match greedy_hints(alloc, clause, parts) {
+    match greedy_hints(clause, parts) {
         None => Ok(String::from_str(alloc, " none")?),
         Some(hints) => text_of(alloc, hints.as_slice()),
     }
@@ -132,12 +132,12 @@ fn the_first_conflict_ends_the_list(rt: HostRuntime) -> Result<(), Fail> {
 }
 
 // Fails where no part is a conflict.
-fn check_closes(alloc: Global, clause: &[Lit], parts: &[Option<Part>]) -> Result<(), Fail>
+fn check_closes(clause: &[Lit], parts: &[Option<Part>]) -> Result<(), Fail>
     requires short { length clause.now ≤ 4 }
     requires few { length parts.now ≤ 5 }
     ensures { OnOk result (PartsClose (literals_of clause.now) parts.now) }
 {
-    match greedy_hints(alloc, clause, parts) {
+    match greedy_hints(clause, parts) {
         Some(_) => Ok(()),
         None => Err("no part is a conflict")?,
     }
@@ -150,8 +150,8 @@ fn of_and_high(alloc: Global, clause: &[Lit], parts: &[Option<Part>]) -> Result<
         return Err("not four parts")?;
     };
     let parts = [*a, *b, *c, *d];
-    check_closes(alloc, clause, &parts)?;
-    text_of(alloc, and_high(alloc, clause, parts).as_slice())
+    check_closes(clause, &parts)?;
+    text_of(alloc, and_high(clause, parts).as_slice())
 }
 
 fn of_and_low(alloc: Global, clause: &[Lit], parts: &[Option<Part>]) -> Result<String, Fail>
@@ -161,8 +161,8 @@ fn of_and_low(alloc: Global, clause: &[Lit], parts: &[Option<Part>]) -> Result<S
         return Err("not five parts")?;
     };
     let parts = [*a, *b, *c, *d, *e];
-    check_closes(alloc, clause, &parts)?;
-    text_of(alloc, and_low(alloc, clause, parts).as_slice())
+    check_closes(clause, &parts)?;
+    text_of(alloc, and_low(clause, parts).as_slice())
 }
 
 fn of_imply_high(alloc: Global, clause: &[Lit], parts: &[Option<Part>]) -> Result<String, Fail>
@@ -172,8 +172,8 @@ fn of_imply_high(alloc: Global, clause: &[Lit], parts: &[Option<Part>]) -> Resul
         return Err("not three parts")?;
     };
     let parts = [*a, *b, *c];
-    check_closes(alloc, clause, &parts)?;
-    text_of(alloc, imply_high(alloc, clause, parts).as_slice())
+    check_closes(clause, &parts)?;
+    text_of(alloc, imply_high(clause, parts).as_slice())
 }
 
 fn of_imply_low(alloc: Global, clause: &[Lit], parts: &[Option<Part>]) -> Result<String, Fail>
@@ -183,8 +183,8 @@ fn of_imply_low(alloc: Global, clause: &[Lit], parts: &[Option<Part>]) -> Result
         return Err("not four parts")?;
     };
     let parts = [*a, *b, *c, *d];
-    check_closes(alloc, clause, &parts)?;
-    text_of(alloc, imply_low(alloc, clause, parts).as_slice())
+    check_closes(clause, &parts)?;
+    text_of(alloc, imply_low(clause, parts).as_slice())
 }
 
 fn answer_of(

@@ -38,7 +38,7 @@ fn formula_of(alloc: Global, head: &str, clauses: &str) -> Result<Cnf, Fail> {
 }
 
 // The lines of the steps, as text.
-fn lines(alloc: Global, steps: &KeptSteps) -> Result<String, Fail> {
+fn lines(alloc: Global, steps: &mut KeptSteps) -> Result<String, Fail> {
     let mut host = MemoryHost::new(alloc);
     let mut sink = HostSink::new(&mut host, Role::Out);
     if steps.write(&mut sink).is_err() {
@@ -51,10 +51,14 @@ fn lines(alloc: Global, steps: &KeptSteps) -> Result<String, Fail> {
     )
 }
 
-fn told(alloc: Global, answer: &Trimmed) -> Result<String, Fail> {
+fn told(alloc: Global, answer: Trimmed) -> Result<String, Fail> {
     match answer {
-        Trimmed::Steps { steps, kept, total } => {
-            let text = lines(alloc, steps)?;
+        Trimmed::Steps {
+            mut steps,
+            kept,
+            total,
+        } => {
+            let text = lines(alloc, &mut steps)?;
             Ok(format!(in alloc; "{text};{kept} of {total}")?)
         }
         Trimmed::Refused { line, reason } => {
@@ -73,7 +77,7 @@ fn expect_trimmed(rt: &impl Abort, alloc: Global, row: &str) -> Result<(), Fail>
     let mut source = SliceSource::new(proof.as_bytes(), 5);
     match trim(alloc, &formula, &mut source) {
         Ok(answer) => {
-            let given = told(alloc, &answer)?;
+            let given = told(alloc, answer)?;
             assert_eq!(rt; given.as_str(), wanted.as_str());
             Ok(())
         }

@@ -1,6 +1,7 @@
 -- A good addition, cut, over another map: where this has the same clauses under the numbers that are named, and no others but those
 -- of the first, it is good there, and is cut no more.
-use Rattle.std.proofs.Common.{◌≡◌, ◌⊎◌, ℕ, Bool, true, false, ◌||◌, ℤ, List, [], ◌∷◌, take, Option, Some, None, is_some, nat_eq, refl, sym, ap, inl, inr}
+use Rattle.std.proofs.Common.{◌≡◌, ◌⊎◌, ℕ, Bool, true, false, ◌||◌, ℤ, List, [], ◌∷◌, take, Option, Some, None, is_some, nat_eq, refl}
+use Rattle.std.proofs.Common.{sym, ap, inl, inr}
 use Rattle.std.proofs.Common.{◌∙◌}
 use Rattle.std.specs.Prelude.{map, if◌then◌else◌}
 use Rattle.std.specs.List.{list_any, list_all}
@@ -155,7 +156,8 @@ module _ (live other : Live) (less : IsLess live other) where
       λ i. record { pos = positive-cut_again clause hints groups fine agree i; groups = behind i }
 
 -- It names live clauses alone.
-groups_live-open : (live : Live) (clause : List ℤ) (groups : List Group) (end : FalseSet) → fault_after_hints live clause groups (Open end) ≡ None
+groups_live-open : (live : Live) (clause : List ℤ) (groups : List Group) (end : FalseSet) → fault_after_hints live clause groups (Open
+    end) ≡ None
     → (id : ℕ) → list_any (group_names id) (cut_groups live clause groups (Open end)) ≡ true → is_some (clause_at live id) ≡ true
 groups_live-open live [] groups end none id h = cc
 groups_live-open live (pivot ∷ clause) groups end none id h =

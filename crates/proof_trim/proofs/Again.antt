@@ -23,7 +23,8 @@ pub needed_named : (steps : List Step) (id : ℕ) → needed steps id ≡ true �
 needed_named [] id h = cc
 needed_named (step ∷ steps) id h =
     elim (or_cases (is_kept (needed steps) step && names step id) (needed steps id) h) [
-      | inl here ↦ or_left (names step id) (list_any (λ s. names s id) steps) (and_parts (is_kept (needed steps) step) (names step id) here).1
+      | inl here ↦ or_left (names step id) (list_any (λ s. names s id) steps) (and_parts (is_kept (needed steps) step) (names step id)
+          here).1
       | inr later ↦ or_right (names step id) (list_any (λ s. names s id) steps) (needed_named steps id later)
     ]
 

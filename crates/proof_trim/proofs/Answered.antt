@@ -1,6 +1,6 @@
 -- What the answer of trimming says, by the verdict on the text and what was cut of it.
 use Rattle.std.proofs.Common.{◌≡◌, ℕ, List, ◌++◌, Option, Some, Ok, Err, ap, ◌∙◌}
-use Rattle.std.specs.Prelude.{Result}
+use Rattle.std.specs.Prelude.{Result, reverse}
 use Rattle.cnf_base.specs.declared.step.Step.{Step}
 use Rattle.host_io.specs.Channel.{Channel}
 use Rattle.text_scan.specs.Decides.{gained, Decides}
@@ -12,7 +12,8 @@ use Rattle.lrat_checker.specs.TextVerdict.{Answers}
 use Rattle.proof_trim.specs.declared.text.Trimmed.{Trimmed}
 use Rattle.proof_trim.specs.declared.text.Trimmed.TheVariants.{Steps, Refused as IsRefused}
 use Rattle.proof_trim.specs.declared.cutting.CutProof.{CutProof}
-use Rattle.proof_trim.specs.Trimmed.{trimmed_of, additions}
+use Rattle.proof_trim.specs.Sweep.{pile_of}
+use Rattle.proof_trim.specs.Trimmed.{trimmed_of}
 use Rattle.proof_trim.specs.Answer.{Trims, AnswersBy}
 
 -- one thing that the bytes taken decide, and another where something else holds
@@ -33,15 +34,16 @@ trims_error OutOfMemory text steps count answers = tt
 
 -- a verdict
 pub trims_by : (result : Result Trimmed CheckError) (verdict : Verdict) (clauses : ℕ) (cut : CutProof) (text : Option Verdict)
-    (steps : List Step) (count : ℕ) → text ≡ Some verdict → (verdict ≡ Verified → cut ≡ record { steps = steps; total = count })
+    (steps : List Step) (count : ℕ) → text ≡ Some verdict
+    → (verdict ≡ Verified → cut ≡ record { steps = pile_of (reverse steps); total = count })
     → AnswersBy clauses cut verdict result → Trims result text (trimmed_of clauses steps) count
-trims_by (Ok (Steps kept_steps kept total)) verdict clauses cut text steps count is cut_is answers =
+trims_by (Ok (Steps kept_text kept total)) verdict clauses cut text steps count is cut_is answers =
     let whole = cut_is answers.0 in
-    let same : trimmed_of clauses cut.steps ≡ trimmed_of clauses steps = ap (λ (c : CutProof). trimmed_of clauses c.steps) whole in (
+    let same = answers.1 steps (ap (λ (c : CutProof). c.steps) whole) in (
       is ∙ ap Some answers.0,
-      answers.1 ∙ same,
-      answers.2 ∙ ap additions same,
-      answers.3 ∙ ap (λ (c : CutProof). c.total) whole,
+      same.0,
+      same.1,
+      answers.2 ∙ ap (λ (c : CutProof). c.total) whole,
     )
 trims_by (Ok (IsRefused line reason)) verdict clauses cut text steps count is cut_is answers = is ∙ ap Some answers
 trims_by (Err ReadFault) verdict clauses cut text steps count is cut_is answers = absurd answers
@@ -49,7 +51,8 @@ trims_by (Err TooLong) verdict clauses cut text steps count is cut_is answers = 
 trims_by (Err OutOfMemory) verdict clauses cut text steps count is cut_is answers = tt
 
 -- no verdict is told as a failed read
-pub no_fault : (result : Result Trimmed CheckError) (verdict : Verdict) (clauses : ℕ) (cut : CutProof) → AnswersBy clauses cut verdict result
+pub no_fault : (result : Result Trimmed CheckError) (verdict : Verdict) (clauses : ℕ) (cut : CutProof) → AnswersBy clauses cut verdict
+    result
     → result ≡ Err ReadFault → ⊥
 no_fault (Ok trimmed) verdict clauses cut answers e = cc
 no_fault (Err ReadFault) verdict clauses cut answers e = answers

@@ -28,7 +28,8 @@ tail_agrees live other id ids agree x h = agree x (or_right (nat_eq x id) (has_i
 pub chain_agrees : (live other : Live) (n : FalseSet) (hints : List ℕ) → Agree live other hints → chain other n hints ≡ chain live n hints
 chain_agrees live other n [] agree = refl
 chain_agrees live other n (hint ∷ hints) agree = λ i.
-    after_hint n (λ m. chain_agrees live other m hints (tail_agrees live other hint hints agree) i) (head_agrees live other hint hints agree i)
+    after_hint n (λ m. chain_agrees live other m hints (tail_agrees live other hint hints agree) i) (head_agrees live other hint hints
+    agree i)
 
 pub used_agrees : (live other : Live) (n : FalseSet) (hints : List ℕ) → Agree live other hints → used other n hints ≡ used live n hints
 used_agrees live other n [] agree = refl
@@ -133,7 +134,8 @@ used_again live n (hint ∷ hints) fine =
           ∙ used_effect live n hint [] clause Conflict is does ∙ sym count
       | forces clause literal is does ↦
           let m : FalseSet = with_literal (neg_ℤ literal) n in
-          let count : used live n (hint ∷ hints) ≡ suc (used live m hints) = used_effect live n hint hints clause (Forced literal) is does in
+          let count : used live n (hint ∷ hints) ≡ suc (used live m hints) = used_effect live n hint hints clause (Forced literal) is does
+          in
           let led : chain live n (hint ∷ hints) ≡ chain live m hints = leads live n hint hints clause (Forced literal) is does in
           ap (λ (k : ℕ). used live n (take k (hint ∷ hints))) count
           ∙ used_effect live n hint (taken live m hints) clause (Forced literal) is does

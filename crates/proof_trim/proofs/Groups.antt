@@ -83,7 +83,8 @@ module _ (live other : Live) (n : FalseSet) (pivot : ℤ) where
   abbrev shorter : Group → Group
   shorter group = cut_group live n pivot group
 
-  group_of : (group : Group) → AgreeOn live other (λ id. group_names id (shorter group)) → clause_at other group.id ≡ clause_at live group.id
+  group_of : (group : Group) → AgreeOn live other (λ id. group_names id (shorter group)) → clause_at other group.id ≡ clause_at live
+      group.id
   group_of group agree = agree group.id (or_left (nat_eq group.id group.id) (has_id (shorter group).hints group.id)
       (eq-eqb group.id group.id refl))
 
@@ -111,7 +112,8 @@ module _ (live other : Live) (n : FalseSet) (pivot : ℤ) where
   group-cut_again group none agree =
       elim (good_group live n pivot group none) [
         | is_blocked clause at negated b ↦
-            let short : (shorter group).hints ≡ [] = ap (λ (k : ℕ). take k group.hints) (use_blocked live n pivot group clause at negated b) in
+            let short : (shorter group).hints ≡ [] = ap (λ (k : ℕ). take k group.hints) (use_blocked live n pivot group clause at negated
+            b) in
             let again : (cut_group other n pivot (shorter group)).hints ≡ [] =
             ap (λ (k : ℕ). take k (shorter group).hints)
             (use_blocked other n pivot (shorter group) clause (group_of group agree ∙ at) negated b) in
@@ -158,11 +160,13 @@ module _ (live other : Live) (n : FalseSet) (pivot : ℤ) where
 
   first_agrees : (group : Group) (groups : List Group) → AgreeOn live other (λ id. list_any (group_names id) (map shorter (group ∷ groups)))
       → AgreeOn live other (λ id. group_names id (shorter group))
-  first_agrees group groups agree id h = agree id (or_left (group_names id (shorter group)) (list_any (group_names id) (map shorter groups)) h)
+  first_agrees group groups agree id h = agree id (or_left (group_names id (shorter group)) (list_any (group_names id) (map shorter
+      groups)) h)
 
   later_agree : (group : Group) (groups : List Group) → AgreeOn live other (λ id. list_any (group_names id) (map shorter (group ∷ groups)))
       → AgreeOn live other (λ id. list_any (group_names id) (map shorter groups))
-  later_agree group groups agree id h = agree id (or_right (group_names id (shorter group)) (list_any (group_names id) (map shorter groups)) h)
+  later_agree group groups agree id h = agree id (or_right (group_names id (shorter group)) (list_any (group_names id) (map shorter
+      groups)) h)
 
   -- all of them
   pub groups_fault-cut : (groups : List Group) → groups_fault live n pivot groups ≡ None
@@ -180,7 +184,8 @@ module _ (live other : Live) (n : FalseSet) (pivot : ℤ) where
   groups-cut_again [] none agree = refl
   groups-cut_again (group ∷ groups) none agree =
       let both = first_of_faults-none (group_fault live n pivot group) (groups_fault live n pivot groups) none in
-      λ i. group-cut_again group both.0 (first_agrees group groups agree) i ∷ groups-cut_again groups both.1 (later_agree group groups agree) i
+      λ i. group-cut_again group both.0 (first_agrees group groups agree) i ∷ groups-cut_again groups both.1 (later_agree group groups
+      agree) i
 
   pub groups-live : (groups : List Group) → groups_fault live n pivot groups ≡ None → (id : ℕ)
       → list_any (group_names id) (map shorter groups) ≡ true → is_some (clause_at live id) ≡ true
@@ -202,7 +207,8 @@ module _ (live other : Live) (n : FalseSet) (pivot : ℤ) where
   list_all_key p [] id all any = cc
   list_all_key p (x ∷ xs) id all any =
       elim (or_cases (eq_by_cmp nat_cmp id x) (list_any (eq_by_cmp nat_cmp id) xs) any) [
-        | inl here ↦ subst (λ (k : ℕ). p k ≡ true) (sym (eqb-true id x (sym (unsigned_tied id x) ∙ here))) (and_parts (p x) (list_all p xs) all).0
+        | inl here ↦ subst (λ (k : ℕ). p k ≡ true) (sym (eqb-true id x (sym (unsigned_tied id x) ∙ here))) (and_parts (p x) (list_all p
+            xs) all).0
         | inr later ↦ list_all_key p xs id (and_parts (p x) (list_all p xs) all).1 later
       ]
 
@@ -220,7 +226,8 @@ module _ (live other : Live) (n : FalseSet) (pivot : ℤ) where
       elim (clause_at live id) as (λ p. clause_at live id ≡ p → settled_as groups id p ≡ true) [
         | None ↦ λ at. refl
         | Some clause ↦ λ at. ap (settled_as groups id) (sym at)
-            ∙ list_all_key (is_settled live n pivot groups) (finmap.keys live) id all (sym (finmap.contains_key-keys live id) ∙ ap is_some at)
+            ∙ list_all_key (is_settled live n pivot groups) (finmap.keys live) id all (sym (finmap.contains_key-keys live id) ∙ ap is_some
+            at)
       ] refl
 
   pub settled-cut : (groups : List Group) → list_all (is_settled live n pivot groups) (finmap.keys live) ≡ true
@@ -229,7 +236,8 @@ module _ (live other : Live) (n : FalseSet) (pivot : ℤ) where
   settled-cut groups all less =
       all_each (is_settled other n pivot (map shorter groups)) (finmap.keys other) (λ id.
       elim (less id) [
-        | inl same ↦ (λ i. not (if_live (holds_negated pivot) (same i)) || if_live (is_blocked_by n pivot) (same i) || same_candidates groups id i)
+        | inl same ↦ (λ i. not (if_live (holds_negated pivot) (same i)) || if_live (is_blocked_by n pivot) (same i) || same_candidates
+            groups id i)
             ∙ each_settled groups all id
         | inr none ↦ ap (settled_as (map shorter groups) id) none
       ])

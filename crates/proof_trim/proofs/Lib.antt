@@ -1,7 +1,14 @@
 pub mod Counted
 pub mod Taking
 pub mod Entered
-pub mod Sweeping
+pub mod Piles
+pub mod Rows
+pub mod Pushed
+pub mod Spelled
+pub mod Moved
+pub mod Codes
+pub mod Emitting
+pub mod Swept
 pub mod Ahead
 pub mod Answered
 pub mod Chains
@@ -13,4 +20,3 @@ pub mod Again
 pub mod Printed
 pub mod Least
 pub mod Theorems
-pub mod Written

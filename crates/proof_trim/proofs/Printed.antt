@@ -86,15 +86,18 @@ unless_ended : (b : Bool) (more : List Step) → list_all is_printable more ≡ 
 unless_ended true more e = refl
 unless_ended false more e = e
 
-pub printable-cut_steps : (steps : Steps) (state : State) → are_printable steps ≡ true → list_all is_printable (cut_steps state steps) ≡ true
+pub printable-cut_steps : (steps : Steps) (state : State) → are_printable steps ≡ true → list_all is_printable (cut_steps state steps) ≡
+    true
 printable-cut_steps (no_more line) state h = refl
 printable-cut_steps overlong state h = refl
 printable-cut_steps (no_step line) state h = refl
 printable-cut_steps (next_step step line steps) state h =
     let parts = and_parts (is_printable step) (are_printable steps) h in
-    and_from (is_printable (cut_step state step)) (list_all is_printable (none_if (step_adds_empty step) (cut_steps (after_step state step) steps)))
+    and_from (is_printable (cut_step state step)) (list_all is_printable (none_if (step_adds_empty step) (cut_steps (after_step state
+    step) steps)))
     (printable-cut state step parts.0)
-    (unless_ended (step_adds_empty step) (cut_steps (after_step state step) steps) (printable-cut_steps steps (after_step state step) parts.1))
+    (unless_ended (step_adds_empty step) (cut_steps (after_step state step) steps) (printable-cut_steps steps (after_step state step)
+    parts.1))
 
 printable-kept : (steps : List Step) → list_all is_printable steps ≡ true → list_all is_printable (kept steps) ≡ true
 printable-kept [] h = refl
@@ -118,11 +121,13 @@ printable-trimmed count needs [] h = refl
 printable-trimmed count needs (Add id clause hints groups ∷ steps) h =
     let step : Step = Add id clause hints groups in
     let parts = and_parts (is_printable step) (list_all is_printable steps) h in
-    and_from (is_printable step) (list_all is_printable (trimmed_steps count needs steps)) parts.0 (printable-trimmed count needs steps parts.1)
+    and_from (is_printable step) (list_all is_printable (trimmed_steps count needs steps)) parts.0 (printable-trimmed count needs steps
+    parts.1)
 printable-trimmed count needs (Delete id ids ∷ steps) h =
     let parts = and_parts (is_printable (Delete id ids)) (list_all is_printable steps) h in
     let own = and_parts (nat_le id max_id) (list_all is_id ids) parts.0 in
-    deletion_printable id (filter (is_there count needs) ids) (trimmed_steps count needs steps) own.0 (all_filtered is_id (is_there count needs) ids own.1)
+    deletion_printable id (filter (is_there count needs) ids) (trimmed_steps count needs steps) own.0 (all_filtered is_id (is_there count
+    needs) ids own.1)
     (printable-trimmed count needs steps parts.1)
 
 pub printable-trimmed_of : (count : ℕ) (steps : List Step) → list_all is_printable steps ≡ true

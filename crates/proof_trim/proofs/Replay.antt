@@ -24,7 +24,8 @@ use Rattle.proof_trim.specs.Trimmed.{live_ids, cut_addition, cut_step, none_if, 
 use Rattle.proof_trim.specs.Trimmed.{trimmed_steps}
 use Rattle.proof_trim.proofs.Chains.{has_id}
 use Rattle.proof_trim.proofs.Additions.{cut_names, good-cut, cut_again, cut-live}
-use Rattle.proof_trim.proofs.Shadow.{with_at, without_all, IsShadow, shadow_less, shadow-with, shadow-skip, shadow-without, ids_left, left_again}
+use Rattle.proof_trim.proofs.Shadow.{with_at, without_all, IsShadow, shadow_less, shadow-with, shadow-skip, shadow-without, ids_left}
+use Rattle.proof_trim.proofs.Shadow.{left_again}
 
 -- these steps as a reader gives them
 abbrev pub as_steps : Steps → ℕ → List Step → Steps
@@ -112,7 +113,8 @@ module _ (count : ℕ) (needs : ℕ → Bool) where
           ∙ good-cut state.live other.live (shadow_less beside.shadow) clause hints groups parts.1 agrees
 
       kept_again : cut_step other (cut_addition id clause cut) ≡ cut_addition id clause cut
-      kept_again = ap (cut_addition id clause) (cut_again state.live other.live (shadow_less beside.shadow) clause hints groups parts.1 agrees)
+      kept_again = ap (cut_addition id clause) (cut_again state.live other.live (shadow_less beside.shadow) clause hints groups parts.1
+          agrees)
 
     -- behind it
     behind_below : (x : ℕ) → is_some (clause_at (with_clause state.live id clause) x) ≡ true → x ≤ id

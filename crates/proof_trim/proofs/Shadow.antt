@@ -1,5 +1,6 @@
 -- The live clauses of a trimmed proof: those of the whole proof under the numbers that are there, and no others.
-use Rattle.std.proofs.Common.{◌≡◌, ◌⊎◌, ℕ, Bool, true, false, ◌||◌, ℤ, List, [], ◌∷◌, Option, Some, None, is_some, nat_eq, cond, refl, sym, ap}
+use Rattle.std.proofs.Common.{◌≡◌, ◌⊎◌, ℕ, Bool, true, false, ◌||◌, ℤ, List, [], ◌∷◌, Option, Some, None, is_some, nat_eq, cond, refl}
+use Rattle.std.proofs.Common.{sym, ap}
 use Rattle.std.proofs.Common.{subst, ◌∙◌, inl, inr, eqb-true}
 use Rattle.std.specs.Prelude.{if◌then◌else◌}
 use Rattle.std.specs.Cmp.{unsigned_tied}
@@ -60,13 +61,15 @@ others_listed id first None rest other = refl
 others_listed id first (Some clause) rest other = ap (λ (b : Bool). b || has_id rest id) other
 
 -- of a live clause's number nothing is lost
-pub live_ids-all : (live : Live) (ids : List ℕ) (id : ℕ) → is_some (clause_at live id) ≡ true → has_id (live_ids live ids) id ≡ has_id ids id
+pub live_ids-all : (live : Live) (ids : List ℕ) (id : ℕ) → is_some (clause_at live id) ≡ true → has_id (live_ids live ids) id ≡ has_id ids
+    id
 live_ids-all live [] id alive = refl
 live_ids-all live (first ∷ ids) id alive =
     elim (nat_eq id first) as (λ b. nat_eq id first ≡ b
     → has_id (id_if_live first (clause_at live first) (live_ids (finmap.remove live first) ids)) id ≡ (b || has_id ids id)) [
       | true ↦ λ same.
-          let alive_first : is_some (clause_at live first) ≡ true = subst (λ (k : ℕ). is_some (clause_at live k) ≡ true) (eqb-true id first same) alive in
+          let alive_first : is_some (clause_at live first) ≡ true = subst (λ (k : ℕ). is_some (clause_at live k) ≡ true) (eqb-true id
+          first same) alive in
           first_listed id first (clause_at live first) (live_ids (finmap.remove live first) ids) alive_first same
       | false ↦ λ other.
           let stays : is_some (clause_at (finmap.remove live first) id) ≡ true =
@@ -160,7 +163,8 @@ shadow-without {there} {live} {other} shadow ids = record {
       ∙ (λ i. if filtered there (live_ids live ids) x h i then None else shadow.same x h i)
       ∙ listed live ids x
       ∙ sym (without_all live ids x);
-  none = λ x h. without_all other (ids_left there live ids) x ∙ none_if (has_id (ids_left there live ids) x) (clause_at other x) (shadow.none x h);
+  none = λ x h. without_all other (ids_left there live ids) x ∙ none_if (has_id (ids_left there live ids) x) (clause_at other x)
+      (shadow.none x h);
 }
 
 pub left_again : (there : ℕ → Bool) (ids : List ℕ) (live other : Live) → IsShadow there live other
@@ -173,10 +177,12 @@ left_again there (first ∷ ids) live other shadow =
       | None ↦ λ at. left_again there ids (finmap.remove live first) other (shadow-gone shadow first (inl at))
       | Some clause ↦ λ at.
           let rest : List ℕ = filter there (live_ids (finmap.remove live first) ids) in
-          elim (there first) as (λ b. there first ≡ b → live_ids other (if b then first ∷ rest else rest) ≡ (if b then first ∷ rest else rest)) [
+          elim (there first) as (λ b. there first ≡ b → live_ids other (if b then first ∷ rest else rest) ≡ (if b then first ∷ rest else
+          rest)) [
             | true ↦ λ is.
                 ap (λ (p : Option (List ℤ)). id_if_live first p (live_ids (finmap.remove other first) rest)) (shadow.same first is ∙ at)
-                ∙ ap (λ (l : List ℕ). first ∷ l) (left_again there ids (finmap.remove live first) (finmap.remove other first) (shadow-remove shadow first))
+                ∙ ap (λ (l : List ℕ). first ∷ l) (left_again there ids (finmap.remove live first) (finmap.remove other first)
+                (shadow-remove shadow first))
             | false ↦ λ missing. left_again there ids (finmap.remove live first) other (shadow-gone shadow first (inr missing))
           ] refl
     ] refl

@@ -34,7 +34,8 @@ as_lines behind line (step ∷ steps) = ap (step_then (Some step) line) (as_line
 
 module _ (none_above : (clauses : List (List ℤ)) (id : ℕ) → length clauses < id → clause_at (start clauses).live id ≡ None)
     (printable : (words : List (List ℕ)) (step : Step) → step_of words ≡ Some step → is_printable step ≡ true)
-    (whole : (limit : ℕ) (bytes : List ℕ) → length bytes ≤ limit → steps limit bytes ≡ lines_then (proof_lines bytes) (no_more (end_line bytes)))
+    (whole : (limit : ℕ) (bytes : List ℕ) → length bytes ≤ limit → steps limit bytes ≡ lines_then (proof_lines bytes) (no_more (end_line
+    bytes)))
     (lines : (steps : List Step) → list_all is_printable steps ≡ true → proof_lines (text_of steps) ≡ lines_from 1 steps)
     (refutes : (clauses : List (List ℤ)) (steps : List Step) (state : State) → run (start clauses) (lines_from 1 steps) ≡ Reached state
     → list_all is_printable steps ≡ true → list_any step_adds_empty steps ≡ true → Refutes clauses (text_of steps))

@@ -1,8 +1,10 @@
 -- What the answer of trimming says of the text that was read.
-use Rattle.std.specs.Prelude.{◌≡◌, ℕ, ◌+◌, Bool, List, ◌∷◌, [], ◌++◌, Option, None, Some, Result, Ok, Err, ⊤}
+use Rattle.std.specs.Prelude.{◌≡◌, ℕ, ◌+◌, ℤ, Bool, List, [], ◌++◌, reverse, Option, None, Some, Result, Ok, Err, ⊤}
 use Rattle.cnf_base.specs.declared.step.Step.{Step}
 use Rattle.cnf_base.specs.declared.step.Step.TheVariants.{Add, Delete}
-use Rattle.lrat_rules.specs.State.{State}
+use Rattle.lrat_rules.specs.State.{State, start}
+use Rattle.lrat_text.specs.Steps.{steps}
+use Rattle.cnf_base.specs.Limits.{max_bytes}
 use Rattle.lrat_checker.specs.declared.cut.Uses.{Uses}
 use Rattle.lrat_checker.specs.Cuts.{cut_by}
 use Rattle.lrat_checker.specs.declared.verdict.Verdict.{Verdict}
@@ -12,13 +14,16 @@ use Rattle.lrat_checker.specs.declared.verdict.CheckError.TheVariants.{ReadFault
 use Rattle.proof_trim.specs.declared.text.Trimmed.{Trimmed}
 use Rattle.proof_trim.specs.declared.text.Trimmed.TheVariants.{Steps, Refused as IsRefused}
 use Rattle.proof_trim.specs.declared.cutting.CutProof.{CutProof}
-use Rattle.proof_trim.specs.Trimmed.{cut_addition, cut_step, none_if, trimmed_of, additions, one_if_addition}
+use Rattle.lrat_rules.specs.Derivation.{text_of}
+use Rattle.proof_trim.specs.Packed.{packed_if}
+use Rattle.proof_trim.specs.Sweep.{pile_of}
+use Rattle.proof_trim.specs.Trimmed.{additions, additions_of_text, cut_addition, cut_step, cut_steps, one_if_addition, trimmed_of}
 
 -- The answer, where the text has this verdict, and these steps as its trimmed form, and so many additions. A failed read and want of
 -- memory say nothing of it.
 abbrev pub Trims : Result Trimmed CheckError → Option Verdict → List Step → ℕ → Type 0
 Trims (Ok (Steps steps kept total)) verdict trimmed count =
-    (verdict ≡ Some Verified) × (steps ≡ trimmed) × (kept ≡ additions trimmed) × (total ≡ count)
+    (verdict ≡ Some Verified) × (steps ≡ text_of trimmed) × (kept ≡ additions trimmed) × (total ≡ count)
 Trims (Ok (IsRefused line reason)) verdict trimmed count = verdict ≡ Some (Refused line reason)
 Trims (Err TooLong) verdict trimmed count = verdict ≡ None
 Trims (Err ReadFault) verdict trimmed count = ⊤
@@ -27,8 +32,15 @@ Trims (Err OutOfMemory) verdict trimmed count = ⊤
 -- what was cut so far, with one good step more; behind the end it is only counted
 abbrev pub with_step : Bool → State → Step → CutProof → CutProof
 with_step ended state step cut = record {
-  steps = cut.steps ++ none_if ended (cut_step state step ∷ []);
+  steps = packed_if ended (cut_step state step) ++ cut.steps;
   total = cut.total + one_if_addition step;
+}
+
+-- what is cut of a text that is verified
+abbrev pub cut_of_text : List (List ℤ) → List ℕ → CutProof
+cut_of_text clauses bytes = record {
+  steps = pile_of (reverse (cut_steps (start clauses) (steps max_bytes bytes)));
+  total = additions_of_text bytes;
 }
 
 -- the addition with as many of its hints and groups as these numbers say
@@ -36,10 +48,15 @@ abbrev pub cut_addition_by : Uses → Step → Step
 cut_addition_by uses (Add id clause hints groups) = cut_addition id clause (cut_by uses hints groups)
 cut_addition_by uses (Delete id ids) = Delete id []
 
+-- the text of the trimmed form of the steps that were cut, and how many additions it has
+abbrev pub IsOfSteps : ℕ → CutProof → List ℕ → ℕ → Type 0
+IsOfSteps count cut text kept = (steps : List Step) → cut.steps ≡ pile_of (reverse steps)
+    → (text ≡ text_of (trimmed_of count steps)) × (kept ≡ additions (trimmed_of count steps))
+
 -- The answer for a proof that was read to its end, by the verdict on it and what was cut of it.
 abbrev pub AnswersBy : ℕ → CutProof → Verdict → Result Trimmed CheckError → Type 0
 AnswersBy count cut verdict (Ok (Steps steps kept total)) =
-    (verdict ≡ Verified) × (steps ≡ trimmed_of count cut.steps) × (kept ≡ additions (trimmed_of count cut.steps)) × (total ≡ cut.total)
+    (verdict ≡ Verified) × IsOfSteps count cut steps kept × (total ≡ cut.total)
 AnswersBy count cut verdict (Ok (IsRefused line reason)) = verdict ≡ Refused line reason
 AnswersBy count cut verdict (Err OutOfMemory) = ⊤
 AnswersBy count cut verdict (Err ReadFault) = ⊥

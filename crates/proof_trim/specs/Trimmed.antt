@@ -1,7 +1,8 @@
 -- The trimmed form of a verified proof. 'The end' is its first addition of the empty clause. Of the steps up to the end, each addition
 -- is cut to what it needs, and kept where it is the end or a later kept one names it; a deletion keeps the numbers that are the
 -- formula's or kept. (Trimming from the back: Heule, Hunt, Wetzler: Trimming while Checking Clausal Proofs, FMCAD 2013.)
-use Rattle.std.specs.Prelude.{ℕ, ◌+◌, Bool, true, false, ◌||◌, ◌&&◌, ℤ, List, [], ◌∷◌, length, Option, None, Some, IsTrue, ⊤, nat_eq, nat_le}
+use Rattle.std.specs.Prelude.{ℕ, ◌+◌, Bool, true, false, ◌||◌, ◌&&◌, ℤ, List, [], ◌∷◌, length, Option, None, Some, IsTrue, ⊤, nat_eq}
+use Rattle.std.specs.Prelude.{nat_le}
 use Rattle.std.specs.Prelude.{if◌then◌else◌}
 use Rattle.std.specs.List.{filter, flat_map, list_any, count_by}
 use Rattle.std.specs.FinMap as map

@@ -7,16 +7,17 @@ ghost use Rattle.lrat_rules.specs.Run.{step_fault, after_step};
 ghost use Rattle.proof_trim.specs.Trimmed.{id_if_live, live_ids, one_if_addition};
 ghost use Rattle.proof_trim.specs.Answer.{cut_addition_by, with_step};
 
-use crate::kept::KeptSteps;
+use crate::packed::push_step;
+use crate::row::Row;
 use cnf_base::{Id, IdList, Lit, LitList, OutOfMemory, Step};
 use lrat_checker::{Cut, Judge, Uses, cut_law};
 use lrat_rules::Reason;
 use std::alloc::Global;
 
-/// What was cut of a proof so far: its steps up to the end, and how many additions it has.
+/// What was cut of a proof so far: its steps up to the end, on a stack of which the last one is on top, and how many additions it has.
 #[derive(Debug, Drop)]
 pub struct CutProof {
-    pub steps: KeptSteps,
+    pub steps: Row,
     pub total: u64,
 }
 
@@ -26,7 +27,7 @@ impl CutProof {
         ensures { result ≡ record { steps = []; total = 0 } }
     {
         CutProof {
-            steps: KeptSteps::new(alloc),
+            steps: Row::new(alloc),
             total: 0,
         }
     }
@@ -95,13 +96,14 @@ fn cut_step(
             if let Some(reason) = judge.step_with(step, uses)? {
                 return Ok(Some(reason));
             }
-            cut.steps.push(cut_addition(alloc, step, uses)?)?;
+            let needed = cut_addition(alloc, step, uses)?;
+            push_step(&mut cut.steps, &needed)?;
             count(&mut cut.total, id.get());
             Ok(None)
         }
         Step::Delete { id, ids } => {
             let ids = take_live(alloc, judge, ids.as_slice())?;
-            cut.steps.push(Step::Delete { id: *id, ids })?;
+            push_step(&mut cut.steps, &Step::Delete { id: *id, ids })?;
             Ok(None)
         }
     }

@@ -3,14 +3,17 @@
 //! lrat_checker, which tells how many hints each addition takes, and on lrat_write for the lines.
 #![tactic(auto)]
 
+mod bytes;
 mod cutting;
-mod kept;
 mod laws;
 mod lines;
 mod numbers;
+mod packed;
+mod place;
+mod row;
 mod sweep;
 mod text;
 
-pub use kept::KeptSteps;
 pub use laws::trim_law;
+pub use lines::KeptSteps;
 pub use text::{Trimmed, trim};

@@ -1,18 +1,20 @@
-// The numbers of clauses that the steps behind a place of a proof need.
-ghost use Rattle.std.specs.Prelude.{◌≡◌, ℕ, ◌||◌, false, nat_eq, OnOk};
-ghost use Rattle.std.specs.List.{list_any};
-ghost use Rattle.proof_trim.specs.Numbers.{has};
-ghost use Rattle.proof_trim.specs.Trimmed.{group_names, names, is_kept, is_there};
+// The numbers of clauses that the steps behind a place of a proof need, a bit for each in a map of words. Most numbers of a proof are near
+// one another, so a number takes less than a byte; and a far one takes a word.
+ghost use Rattle.std.specs.Prelude.{◌≡◌, ◌<◌, ◌/◌, ◌^◌, ℕ, ◌||◌, false, nat_eq, OnOk};
+ghost use Rattle.std.specs.Int.Bits.{bit_or};
+ghost use Rattle.proof_trim.specs.Bits.{is_set};
+ghost use Rattle.proof_trim.specs.Numbers.{has, word_at};
+ghost use Rattle.proof_trim.specs.Trimmed.{is_there};
 
-use cnf_base::{Group, Id, OutOfMemory, Step};
+use cnf_base::{Id, OutOfMemory};
 use std::alloc::Global;
-use std::collections::HashSet;
+use std::collections::HashMap;
 use std::fmt;
 
 /// A set of clause numbers.
 #[derive(Drop)]
 pub struct Numbers {
-    ids: HashSet<u64>,
+    words: HashMap<u64, u64>,
 }
 
 impl Numbers {
@@ -21,86 +23,73 @@ impl Numbers {
         ensures { (id : ℕ) → has result id ≡ false }
     {
         Numbers {
-            ids: HashSet::new(alloc),
+            words: HashMap::new(alloc),
         }
     }
 
     pub fn has(&self, id: Id) -> bool
         ensures { result ≡ has self.now id }
     {
-        self.ids.contains(&id.get())
+        is_set(self.word(id.get() / 64), id.get() % 64)
     }
 
     /// One more number.
     pub fn enter(&mut self, id: Id) -> Result<(), OutOfMemory>
         ensures { OnOk result ((other : ℕ) → has self.new other ≡ (nat_eq other id || has self.old other)) }
     {
-        self.ids.insert(id.get())?;
+        let number = id.get();
+        self.enter_bit(number / 64, number % 64)?;
+        Ok(())
+    }
+
+    // The word of 64 numbers.
+    fn word(&self, page: u64) -> u64
+        ensures { result ≡ word_at self.now page }
+    {
+        match self.words.get(&page) {
+            Some(word) => *word,
+            None => 0,
+        }
+    }
+
+    fn enter_bit(&mut self, page: u64, place: u64) -> Result<(), OutOfMemory>
+        requires fits { place < 64 }
+        ensures others { OnOk result ((other : ℕ) → nat_eq other page ≡ false → word_at self.new other ≡ word_at self.old other) }
+        ensures word { OnOk result (word_at self.new page ≡ bit_or (word_at self.old page) (2 ^ place)) }
+    {
+        let word = self.words.entry(page)?.or_insert(0);
+        *word = with_bit(*word, place);
         Ok(())
     }
 }
 
-impl Numbers {
-    /// Whether a step is kept where later ones need these numbers.
-    pub fn keeps(&self, step: &Step) -> bool
-        ensures { result ≡ is_kept (has self.now) step.now }
-    {
-        match step {
-            Step::Add { id, lits, .. } => lits.as_slice().is_empty() || self.has(*id),
-            Step::Delete { .. } => true,
-        }
-    }
+fn is_set(word: u64, place: u64) -> bool
+    requires { place < 64 }
+    ensures { result ≡ is_set word place }
+{
+    (word >> place) % 2 == 1
+}
 
+fn with_bit(word: u64, place: u64) -> u64
+    requires { place < 64 }
+    ensures { result ≡ bit_or word (2 ^ place) }
+{
+    word | (1 << place)
+}
+
+impl Numbers {
     /// Whether the number is the formula's, which has so many clauses, or one of these.
     pub fn is_there(&self, count: u64, id: Id) -> bool
         ensures { result ≡ is_there count (has self.now) id }
     {
         id.get() <= count || self.has(id)
     }
-
-    /// The numbers that a step names.
-    pub fn enter_names(&mut self, step: &Step) -> Result<(), OutOfMemory>
-        ensures { OnOk result ((id : ℕ) → has self.new id ≡ (names step.now id || has self.old id)) }
-    {
-        match step {
-            Step::Add { pos, groups, .. } => {
-                self.enter_groups(groups.as_slice())?;
-                self.enter_all(pos.as_slice())
-            }
-            Step::Delete { .. } => Ok(()),
-        }
-    }
-
-    fn enter_groups(&mut self, groups: &[Group]) -> Result<(), OutOfMemory>
-        ensures { OnOk result ((id : ℕ) → has self.new id ≡ (list_any (group_names id) groups.now || has self.old id)) }
-    {
-        for group in groups {
-            self.enter_group(group)?;
-        }
-        Ok(())
-    }
-
-    fn enter_group(&mut self, group: &Group) -> Result<(), OutOfMemory>
-        ensures { OnOk result ((id : ℕ) → has self.new id ≡ (group_names id group.now || has self.old id)) }
-    {
-        self.enter_all(group.hints.as_slice())?;
-        self.enter(group.id)
-    }
-
-    fn enter_all(&mut self, ids: &[Id]) -> Result<(), OutOfMemory>
-        ensures { OnOk result ((id : ℕ) → has self.new id ≡ (list_any (nat_eq id) ids.now || has self.old id)) }
-    {
-        for id in ids {
-            self.enter(*id)?;
-        }
-        Ok(())
-    }
 }
 
 impl fmt::Debug for Numbers {
     fn fmt<W: fmt::Write>(&self, f: &mut fmt::Formatter<W>) -> fmt::Result {
         f.debug_struct("Numbers")
-            .field("len", &self.ids.len())
+            .field("words", &self.words.len())
             .finish()
     }
 }

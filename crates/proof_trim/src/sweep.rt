@@ -1,150 +1,185 @@
-// The sweep over the cut steps: from the last one back, with the set of numbers that are needed so far, and then on again over those
-// that are kept, whose deletions are cut to what is there. (Heule, Hunt, Wetzler: Trimming while Checking Clausal Proofs, FMCAD 2013.)
-// A step that isn't kept is let go at once, and no step is copied.
-ghost use Rattle.std.specs.Prelude.{◌≡◌, ℕ, ◌++◌, ◌∷◌, [], ◌||◌, ◌&&◌, false, reverse, IfOk, OnOk, if◌then◌else◌};
-ghost use Rattle.std.specs.List.{filter};
+// The sweep over the cut steps: from the last one back, with the set of numbers that are needed so far. What is kept goes over number by
+// number to another stack, on which the first step comes to be on top, and gives its memory back on the first. (Heule, Hunt, Wetzler:
+// Trimming while Checking Clausal Proofs, FMCAD 2013.)
+ghost use Rattle.std.specs.Prelude.{◌≡◌, ◌≤◌, ℕ, ◌+◌, ◌++◌, ◌∷◌, ◌||◌, false, List, drop, length, nat_eq, reverse, OnOk, IfOk};
+ghost use Rattle.std.specs.List.{list_any};
+ghost use Rattle.cnf_base.specs.declared.step.Step.{Step};
 ghost use Rattle.proof_trim.specs.Numbers.{has};
-ghost use Rattle.proof_trim.specs.Trimmed.{additions, deletion_of, is_addition, is_kept, is_there, kept, names, needed};
-ghost use Rattle.proof_trim.specs.Trimmed.{trimmed_of, trimmed_step, trimmed_steps};
+ghost use Rattle.proof_trim.specs.Packed.{behind_codes, codes_ahead, number_of};
+ghost use Rattle.proof_trim.specs.Sweep.{LooksAt, Sweeps, first_of, pile_of};
 
-use crate::kept::KeptSteps;
+use crate::lines::number_of;
 use crate::numbers::Numbers;
-use cnf_base::{Id, IdList, OutOfMemory, Step};
+use crate::packed::push_head;
+use crate::row::Row;
+use cnf_base::{Id, OutOfMemory};
 use std::alloc::Global;
 
-/// Trims cut steps of a proof over a formula of so many clauses.
-pub fn trimmed(alloc: Global, steps: &mut KeptSteps, count: u64) -> Result<KeptSteps, OutOfMemory>
-    ensures { IfOk result (λ trimmed. trimmed ≡ trimmed_of count steps.old) }
-{
-    let mut numbers = Numbers::new(alloc);
-    let mut back = sweep_back(alloc, steps, &mut numbers)?;
-    sweep_on(alloc, &mut back, count, &numbers)
+/// The steps that are kept, the first one on top, and how many of them are additions.
+#[derive(Debug, Drop)]
+pub struct Kept {
+    pub row: Row,
+    pub additions: u64,
 }
 
-// The steps that are kept, the last one first, and the numbers that they name.
-fn sweep_back(
-    alloc: Global,
-    steps: &mut KeptSteps,
-    numbers: &mut Numbers,
-) -> Result<KeptSteps, OutOfMemory>
+/// Sweeps over cut steps, of which the last one is on top.
+pub fn sweep(alloc: Global, cut: &mut Row, numbers: &mut Numbers) -> Result<Kept, OutOfMemory>
     requires none { (id : ℕ) → has numbers.old id ≡ false }
-    ensures back { IfOk result (λ back. reverse back ≡ kept steps.old) }
-    ensures numbers { OnOk result ((id : ℕ) → has numbers.new id ≡ needed steps.old id) }
+    ensures { IfOk result (λ back. (steps : List Step) → cut.old ≡ pile_of (reverse steps) → Sweeps steps back (has numbers.new)) }
 {
-    let mut back = KeptSteps::new(alloc);
+    let mut back = Kept {
+        row: Row::new(alloc),
+        additions: 0,
+    };
     'from_end: loop {
-        match steps.pop() {
-            Some(step) => keep(step, numbers, &mut back)?,
+        match cut.pop() {
+            Some(kind) => {
+                let id = Id(next(cut));
+                sweep_step(cut, kind, id, numbers, &mut back)?;
+            }
             None => return Ok(back),
         }
     }
 }
 
-// Keeps a step that later ones need, with the numbers that it names, and lets go any other.
-fn keep(step: Step, numbers: &mut Numbers, back: &mut KeptSteps) -> Result<(), OutOfMemory>
-    ensures numbers { OnOk result ((id : ℕ) → has numbers.new id
-        ≡ ((is_kept (has numbers.old) step && names step id) || has numbers.old id)) }
-    ensures back { OnOk result (back.new ≡ back.old ++ (if is_kept (has numbers.old) step then step ∷ [] else [])) }
-{
-    if !numbers.keeps(&step) {
-        return Ok(());
-    }
-    numbers.enter_names(&step)?;
-    back.push(step)
-}
-
-// On again over the steps that are kept, of which the last one comes first.
-fn sweep_on(
-    alloc: Global,
-    back: &mut KeptSteps,
-    count: u64,
-    numbers: &Numbers,
-) -> Result<KeptSteps, OutOfMemory>
-    ensures { IfOk result (λ steps. steps ≡ trimmed_steps count (has numbers.now) (reverse back.old)) }
-{
-    let mut steps = KeptSteps::new(alloc);
-    'from_start: loop {
-        match back.pop() {
-            Some(step) => put(alloc, step, count, numbers, &mut steps)?,
-            None => return Ok(steps),
-        }
-    }
-}
-
-// A deletion with what is there alone, or nothing where that is nothing.
-fn put(
-    alloc: Global,
-    step: Step,
-    count: u64,
-    numbers: &Numbers,
-    steps: &mut KeptSteps,
+fn sweep_step(
+    cut: &mut Row,
+    kind: u64,
+    id: Id,
+    numbers: &mut Numbers,
+    back: &mut Kept,
 ) -> Result<(), OutOfMemory>
-    ensures { OnOk result (steps.new ≡ steps.old ++ trimmed_step count (has numbers.now) step) }
+    ensures looks { OnOk result (LooksAt kind id cut.old cut.new back.old back.new (has numbers.old) (has numbers.new)) }
+    ensures shorter { OnOk result (length cut.new ≤ length cut.old) }
 {
-    match step {
-        Step::Add {
-            id,
-            lits,
-            pos,
-            groups,
-        } => steps.push(Step::Add {
-            id,
-            lits,
-            pos,
-            groups,
-        }),
-        Step::Delete { id, ids } => {
-            let there = ids_there(alloc, ids.as_slice(), count, numbers)?;
-            put_deletion(id, there, steps)
-        }
-    }
-}
-
-fn put_deletion(id: Id, ids: IdList, steps: &mut KeptSteps) -> Result<(), OutOfMemory>
-    ensures { OnOk result (steps.new ≡ steps.old ++ deletion_of id ids) }
-{
-    if ids.as_slice().is_empty() {
+    if kind == 1 {
+        keep_deletion(cut, id, back)?;
         return Ok(());
     }
-    steps.push(Step::Delete { id, ids })
+    if is_needed(kind, id, numbers) {
+        keep_addition(cut, kind, id, numbers, back)?;
+        return Ok(());
+    }
+    skip_codes(cut);
+    skip_codes(cut);
+    Ok(())
 }
 
-// Those of the numbers that are the formula's or needed.
-fn ids_there(
-    alloc: Global,
-    ids: &[Id],
-    count: u64,
-    numbers: &Numbers,
-) -> Result<IdList, OutOfMemory>
-    ensures { IfOk result (λ list. list ≡ filter (is_there count (has numbers.now)) ids.now) }
+// Whether an addition is kept: it is of the empty clause, or is needed.
+fn is_needed(kind: u64, id: Id, numbers: &Numbers) -> bool
+    ensures { result ≡ (nat_eq kind 2 || has numbers.now id) }
 {
-    let mut list = IdList::new(alloc);
-    for id in ids {
-        if numbers.is_there(count, *id) {
-            list.push(*id)?;
+    kind == 2 || numbers.has(id)
+}
+
+// A deletion goes over whole.
+fn keep_deletion(cut: &mut Row, id: Id, back: &mut Kept) -> Result<(), OutOfMemory>
+    ensures cut { OnOk result (cut.new ≡ behind_codes cut.old) }
+    ensures row { OnOk result (back.new.row ≡ 1 ∷ id ∷ (reverse (codes_ahead cut.old) ++ 0 ∷ back.old.row)) }
+    ensures additions { OnOk result (back.new.additions ≡ back.old.additions) }
+{
+    back.row.push(0)?;
+    move_codes(cut, &mut back.row)?;
+    push_head(&mut back.row, 1, id)?;
+    Ok(())
+}
+
+// So does an addition that is needed, and the numbers that it names are needed then.
+fn keep_addition(
+    cut: &mut Row,
+    kind: u64,
+    id: Id,
+    numbers: &mut Numbers,
+    back: &mut Kept,
+) -> Result<(), OutOfMemory>
+    ensures cut { OnOk result (cut.new ≡ behind_codes (behind_codes cut.old)) }
+    ensures row { OnOk result (back.new.row ≡ kind ∷ id ∷ (reverse (codes_ahead (behind_codes cut.old))
+        ++ 0 ∷ (reverse (codes_ahead cut.old) ++ 0 ∷ back.old.row))) }
+    ensures additions { OnOk result (back.new.additions ≡ back.old.additions + 1) }
+    ensures numbers { OnOk result ((x : ℕ) → has numbers.new x
+        ≡ (list_any (λ code. nat_eq x (number_of code)) (codes_ahead cut.old) || has numbers.old x)) }
+{
+    count(&mut back.additions)?;
+    back.row.push(0)?;
+    move_hints(cut, &mut back.row, numbers)?;
+    back.row.push(0)?;
+    move_codes(cut, &mut back.row)?;
+    push_head(&mut back.row, kind, id)?;
+    Ok(())
+}
+
+// One more. (More than 64 bits tell don't fit into the memory.)
+fn count(additions: &mut u64) -> Result<(), OutOfMemory>
+    ensures { OnOk result (additions.new ≡ additions.old + 1) }
+{
+    if *additions == u64::MAX {
+        return Err(OutOfMemory);
+    }
+    *additions += 1;
+    Ok(())
+}
+
+// The next number, 0 behind the last one.
+fn next(row: &mut Row) -> u64
+    ensures number { result ≡ first_of row.old }
+    ensures left { row.new ≡ drop 1 row.old }
+{
+    match row.pop() {
+        Some(number) => number,
+        None => 0,
+    }
+}
+
+fn skip_codes(row: &mut Row)
+    ensures { row.new ≡ behind_codes row.old }
+{
+    'codes: loop {
+        match row.pop() {
+            Some(code) => {
+                if code == 0 {
+                    return;
+                }
+            }
+            None => return,
         }
     }
-    Ok(list)
 }
 
-/// How many additions there are among the steps.
-pub fn additions(steps: &[Step]) -> u64
-    ensures { result ≡ additions steps.now }
+// Moves codes up to the 0 that ends them, which is let go.
+fn move_codes(from: &mut Row, to: &mut Row) -> Result<(), OutOfMemory>
+    ensures from { OnOk result (from.new ≡ behind_codes from.old) }
+    ensures to { OnOk result (to.new ≡ reverse (codes_ahead from.old) ++ to.old) }
 {
-    let mut count = 0;
-    for step in steps {
-        if is_addition(step) {
-            count += 1;
+    'codes: loop {
+        match from.pop() {
+            Some(code) => {
+                if code == 0 {
+                    return Ok(());
+                }
+                to.push(code)?;
+            }
+            None => return Ok(()),
         }
     }
-    count
 }
 
-fn is_addition(step: &Step) -> bool
-    ensures { result ≡ is_addition step.now }
+// The same of hints, whose numbers are needed.
+fn move_hints(from: &mut Row, to: &mut Row, numbers: &mut Numbers) -> Result<(), OutOfMemory>
+    ensures from { OnOk result (from.new ≡ behind_codes from.old) }
+    ensures to { OnOk result (to.new ≡ reverse (codes_ahead from.old) ++ to.old) }
+    ensures numbers { OnOk result ((id : ℕ) → has numbers.new id
+        ≡ (list_any (λ code. nat_eq id (number_of code)) (codes_ahead from.old) || has numbers.old id)) }
 {
-    match step {
-        Step::Add { .. } => true,
-        Step::Delete { .. } => false,
+    'codes: loop {
+        match from.pop() {
+            Some(code) => {
+                if code == 0 {
+                    return Ok(());
+                }
+                numbers.enter(Id(number_of(code)))?;
+                to.push(code)?;
+            }
+            None => return Ok(()),
+        }
     }
 }

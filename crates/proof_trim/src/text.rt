@@ -1,6 +1,6 @@
 // Trimming a proof text: a reader gives its steps in turn, a judge takes them, and they are cut; at the end of a verified text what
 // the refutation needs is kept.
-ghost use Rattle.std.specs.Prelude.{◌≡◌, ◌≢◌, false, [], length, None, Err, Ok, IsTrue};
+ghost use Rattle.std.specs.Prelude.{◌≡◌, ◌≢◌, false, [], length, reverse, None, Err, Ok, IsTrue};
 ghost use Rattle.host_io.specs.Channel.{Rose};
 ghost use Rattle.text_scan.specs.Decides.{gained, Decides, OnlyReads};
 ghost use Rattle.lrat_text.specs.declared.reader.ReaderStatus.TheVariants.{Reading};
@@ -9,11 +9,13 @@ ghost use Rattle.lrat_checker.specs.declared.verdict.Verdict.TheVariants.{Verifi
 ghost use Rattle.lrat_checker.specs.declared.verdict.CheckError.TheVariants.{ReadFault};
 ghost use Rattle.lrat_checker.specs.TextVerdict.{steps_verdict, text_verdict, verdict_so_far, Answers};
 ghost use Rattle.proof_trim.specs.Trimmed.{additions_ahead, additions_of_text, cut_steps, trimmed};
-ghost use Rattle.proof_trim.specs.Answer.{AnswersBy, Trims};
+ghost use Rattle.proof_trim.specs.Answer.{AnswersBy, Trims, cut_of_text};
+ghost use Rattle.proof_trim.specs.Sweep.{pile_of};
 
 use crate::cutting::{CutProof, take_step};
-use crate::kept::KeptSteps;
-use crate::sweep::{additions, trimmed};
+use crate::lines::KeptSteps;
+use crate::numbers::Numbers;
+use crate::sweep::sweep;
 use cnf_base::{Cnf, Id, IdList, Step};
 use host_io::Source;
 use lrat_checker::{CheckError, Judge, Uses, Verdict, answer_to, or_adds_empty, verdict_at_end};
@@ -25,7 +27,7 @@ use text_scan::MAX_BYTES;
 /// What becomes of a proof.
 #[derive(Debug, Drop)]
 pub enum Trimmed {
-    /// The proof is verified: the steps of its trimmed form, how many of them are additions, and how many additions the proof has.
+    /// The proof is verified: its trimmed form, how many additions that has, and how many the proof has.
     Steps {
         steps: KeptSteps,
         kept: u64,
@@ -43,12 +45,39 @@ pub enum Trimmed {
 pub fn trim<S: Source>(alloc: Global, formula: &Cnf, source: &mut S) -> Result<Trimmed, CheckError>
     // The answer is that of the bytes that were taken and whatever may follow them, so of the whole text.
     ensures decides { IsTrue S.tells → Decides (S.channel source.old) (S.channel source.new)
-        (λ bytes more. Trims result (text_verdict formula.now.clauses bytes) (trimmed formula.now.clauses bytes) (additions_of_text bytes)) }
+        (λ bytes more. Trims result (text_verdict formula.now.clauses bytes) (trimmed formula.now.clauses bytes)
+        (additions_of_text bytes)) }
     // a read fails only where the bytes taken decide nothing yet
     ensures undecided { IsTrue S.tells → result ≡ Err ReadFault →
         verdict_so_far formula.now.clauses (gained (S.channel source.old) (S.channel source.new)) ≡ None }
     ensures fault { result ≡ Err ReadFault → Rose (S.channel source.old).faults (S.channel source.new).faults }
     // no failed read is told as anything else
+    ensures unfailed { result ≢ Err ReadFault → (S.channel source.new).faults ≡ (S.channel source.old).faults }
+    ensures reads { OnlyReads (S.channel source.old) (S.channel source.new) }
+    ensures beside { S.beside source.new ≡ S.beside source.old }
+{
+    let mut cut = CutProof::new(alloc);
+    match cut_text(alloc, formula, &mut cut, source) {
+        Ok(verdict) => answer_by(alloc, formula.len() as u64, &mut cut, verdict),
+        Err(error) => Err(error),
+    }
+}
+
+// Judges the whole text and cuts its steps. What the judge takes is given back at the end, before the sweep.
+fn cut_text<S: Source>(
+    alloc: Global,
+    formula: &Cnf,
+    cut: &mut CutProof,
+    source: &mut S,
+) -> Result<Verdict, CheckError>
+    requires nothing { cut.old ≡ record { steps = []; total = 0 } }
+    ensures decides { IsTrue S.tells → Decides (S.channel source.old) (S.channel source.new)
+        (λ bytes more. Answers result (text_verdict formula.now.clauses bytes)) }
+    ensures cut { IsTrue S.tells → result ≡ Ok Verified → Decides (S.channel source.old) (S.channel source.new)
+        (λ bytes more. cut.new ≡ cut_of_text formula.now.clauses bytes) }
+    ensures undecided { IsTrue S.tells → result ≡ Err ReadFault →
+        verdict_so_far formula.now.clauses (gained (S.channel source.old) (S.channel source.new)) ≡ None }
+    ensures fault { result ≡ Err ReadFault → Rose (S.channel source.old).faults (S.channel source.new).faults }
     ensures unfailed { result ≢ Err ReadFault → (S.channel source.new).faults ≡ (S.channel source.old).faults }
     ensures reads { OnlyReads (S.channel source.old) (S.channel source.new) }
     ensures beside { S.beside source.new ≡ S.beside source.old }
@@ -60,19 +89,15 @@ pub fn trim<S: Source>(alloc: Global, formula: &Cnf, source: &mut S) -> Result<T
         ids: IdList::new(alloc),
     };
     let mut uses = Uses::new(alloc);
-    let mut cut = CutProof::new(alloc);
-    match cut_proof(
+    cut_proof(
         alloc,
         &mut judge,
         &mut reader,
         &mut step,
         &mut uses,
-        &mut cut,
+        cut,
         source,
-    ) {
-        Ok(verdict) => answer_by(alloc, formula.len() as u64, &mut cut, verdict),
-        Err(error) => Err(error),
-    }
+    )
 }
 
 // Judges the steps that the reader still gives, each in the same place, and cuts those up to the end.
@@ -91,7 +116,7 @@ fn cut_proof<S: Source>(
         (λ bytes more. Answers result (steps_verdict judge.old false (steps_ahead reader.old bytes))) }
     ensures cut { IsTrue S.tells → result ≡ Ok Verified → Decides (S.channel source.old) (S.channel source.new)
         (λ bytes more. cut.new ≡ record {
-          steps = cut_steps judge.old (steps_ahead reader.old bytes);
+          steps = pile_of (reverse (cut_steps judge.old (steps_ahead reader.old bytes)));
           total = additions_ahead (steps_ahead reader.old bytes);
         }) }
     ensures undecided { IsTrue S.tells → result ≡ Err ReadFault →
@@ -126,11 +151,11 @@ fn answer_by(
     match verdict {
         Verdict::Refused { line, reason } => Ok(Trimmed::Refused { line, reason }),
         Verdict::Verified => {
-            let steps = trimmed(alloc, &mut cut.steps, count)?;
-            let kept = additions(steps.as_slice());
+            let mut numbers = Numbers::new(alloc);
+            let back = sweep(alloc, &mut cut.steps, &mut numbers)?;
             Ok(Trimmed::Steps {
-                steps,
-                kept,
+                steps: KeptSteps::of(back.row, numbers, count),
+                kept: back.additions,
                 total: cut.total,
             })
         }

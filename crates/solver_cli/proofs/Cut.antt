@@ -17,7 +17,7 @@ use Rattle.lrat_checker.specs.declared.verdict.CheckError.{CheckError}
 use Rattle.lrat_checker.specs.declared.verdict.CheckError.TheVariants.{ReadFault, TooLong, OutOfMemory}
 use Rattle.drat_proof.specs.TwoRoles.{added}
 use Rattle.proof_trim.specs.Answer.{Trims}
-use Rattle.proof_trim.specs.Trimmed.{additions, additions_of_text, trimmed}
+use Rattle.proof_trim.specs.Trimmed.{additions, additions_of_text, trim, trimmed}
 use Rattle.proof_trim.specs.declared.text.Trimmed.{Trimmed}
 use Rattle.proof_trim.specs.declared.text.Trimmed.TheVariants.{Steps, Refused}
 use Rattle.command_line.specs.declared.format.ProofFormat.TheVariants.{Lrat}
@@ -140,26 +140,26 @@ judges_of {old = old} {new = new} {clauses = clauses} result trims plenty = reco
   faults = trims.faults;
 }
 
--- The proof that the words name is verified, and these are the steps of its trimmed form, and the counts.
-pub record VerifiedBy (run : Run) (task : ToRewrite) (problem : Formula) (steps : List Step) (kept total : ℕ) : Type 0 where
+-- The proof that the words name is verified, and these are the lines of its trimmed form, and the counts.
+pub record VerifiedBy (run : Run) (task : ToRewrite) (problem : Formula) (lines : List ℕ) (kept total : ℕ) : Type 0 where
   pub bytes : List ℕ
   pub stands : run.files task.proof ≡ Some bytes
   pub judged : text_verdict problem.clauses bytes ≡ Some judgement.Verified
   pub verdict : HasVerdict run problem bytes judgement.Verified
-  pub steps_are : steps ≡ trimmed problem.clauses bytes
+  pub lines_are : lines ≡ trim problem.clauses bytes
   pub kept_are : kept ≡ additions (trimmed problem.clauses bytes)
   pub total_is : total ≡ additions_of_text bytes
 
-pub verified : (run : Run) (task : ToRewrite) (problem : Formula) {steps : List Step} {kept total : ℕ}
+pub verified : (run : Run) (task : ToRewrite) (problem : Formula) {lines : List ℕ} {kept total : ℕ}
     → command run.words ≡ Some (Trim task) → (IsTrue run.tells → AsksOver run (Trim task) (formula problem))
-    → TrimsProof run.tells (run.before ProofIn) (run.after ProofIn) run.files task.proof problem.clauses (Ok (Steps steps kept total))
-    → IsTrue run.tells → VerifiedBy run task problem steps kept total
-verified run task problem {steps = steps} {kept = kept} {total = total} asked read trims t = by (trimmed_text) where
-  trimmed_text : TrimsText run.files task.proof problem.clauses (taken_in run ProofIn) (Ok (Steps steps kept total))
+    → TrimsProof run.tells (run.before ProofIn) (run.after ProofIn) run.files task.proof problem.clauses (Ok (Steps lines kept total))
+    → IsTrue run.tells → VerifiedBy run task problem lines kept total
+verified run task problem {lines = lines} {kept = kept} {total = total} asked read trims t = by (trimmed_text) where
+  trimmed_text : TrimsText run.files task.proof problem.clauses (taken_in run ProofIn) (Ok (Steps lines kept total))
   trimmed_text = elim (trims.read t) [ inl e ↦ absurd (ok_err e) | inr text ↦ text ]
 
-  by : TrimsText run.files task.proof problem.clauses (taken_in run ProofIn) (Ok (Steps steps kept total))
-      → VerifiedBy run task problem steps kept total
+  by : TrimsText run.files task.proof problem.clauses (taken_in run ProofIn) (Ok (Steps lines kept total))
+      → VerifiedBy run task problem lines kept total
   by text = record {
     bytes = text.bytes;
     stands = text.stands;
@@ -168,7 +168,7 @@ verified run task problem {steps = steps} {kept = kept} {total = total} asked re
       asked = record { asked = Trim task; asks = read t; file = task.proof; named = refl; stands = text.stands };
       judged = text.told.0;
     };
-    steps_are = text.told.1;
+    lines_are = text.told.1;
     kept_are = text.told.2;
     total_is = text.told.3;
   }

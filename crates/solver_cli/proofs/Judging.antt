@@ -11,7 +11,7 @@ use Rattle.lrat_checker.specs.declared.verdict.Verdict.{Verdict}
 use Rattle.lrat_checker.specs.declared.verdict.CheckError.{CheckError}
 use Rattle.lrat_checker.specs.declared.verdict.CheckError.TheVariants.{ReadFault, OutOfMemory}
 use Rattle.command_line.specs.declared.format.ProofFormat.{ProofFormat}
-use Rattle.command_line.specs.declared.format.ProofFormat.TheVariants.{Lrat, Drat}
+use Rattle.command_line.specs.declared.format.ProofFormat.TheVariants.{Lrat, Drat, DratBySet}
 use Rattle.solver_cli.specs.Format.{may_want_memory_in, so_far_in, verdict_in}
 use Rattle.solver_cli.specs.Phases.{ChecksProof, JudgesProof, WantsProof}
 use Rattle.solver_cli.proofs.Reading.{none_taken, rose_since}
@@ -64,6 +64,7 @@ checked format {tells = tells} {seen_old = seen_old} {seen_new = seen_new} {old 
 empty_text : (format : ProofFormat) (clauses : List (List ℤ)) → so_far_in format clauses [] ≡ None
 empty_text Lrat clauses = refl
 empty_text Drat clauses = refl
+empty_text DratBySet clauses = refl
 
 -- the file was not opened
 pub unopened : {format : ProofFormat} {tells : Bool} {old new : Channel} {files : Files} {file : List ℕ} {clauses : List (List ℤ)} {answer : Result ⊤ Failed}

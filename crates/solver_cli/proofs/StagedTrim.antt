@@ -2,14 +2,12 @@
 use Rattle.std.proofs.Common.{◌≡◌, ℕ, ℤ, Bool, List, refl, sym, ap, ◌∙◌, subst, Some, None, Ok, Err, IsOk, inl, inr}
 use Rattle.std.specs.Prelude.{Option, Result, IsErr, IsFalse, ⊤}
 use Rattle.cnf_base.specs.Formula.{Formula}
-use Rattle.cnf_base.specs.declared.step.Step.{Step}
 use Rattle.host_io.specs.declared.role.Role.{Role}
 use Rattle.host_io.specs.declared.role.Role.TheVariants.{Cnf, Order, Buckets, Schedule, ProofIn, ProofOut, Made, Out, Err as ErrRole}
 use Rattle.host_io.specs.declared.source.Failed.{Failed}
 use Rattle.host_io.specs.Channel.{Channel}
 use Rattle.host_io.specs.Files.{Files, FilesBut, Kept, same_role}
 use Rattle.answer_text.specs.Status.{trimmed_text}
-use Rattle.lrat_rules.specs.Derivation.{text_of}
 use Rattle.lrat_rules.specs.declared.outcome.Reason.{Reason}
 use Rattle.lrat_checker.specs.declared.verdict.Verdict.{Verdict}
 use Rattle.lrat_checker.specs.declared.verdict.Verdict.TheVariants as judgement
@@ -102,21 +100,21 @@ rejected {task = task} {problem = problem} {line = line} {reason = reason} old t
       shows = shown_from (beside.others Out refl ∙ beside_taken.others Out refl) shows;
     })))
 
-pub trimmed : {tells : Bool} {task : ToRewrite} {problem : Formula} {answer : Trimmed} {steps : List Step} {kept total : ℕ}
+pub trimmed : {tells : Bool} {task : ToRewrite} {problem : Formula} {answer : Trimmed} {lines : List ℕ} {kept total : ℕ}
     {own : Option (List ℕ)} {status : Status} (old taken judged new : Role → Channel) (before files after last : Files)
     → TakesFormula task.mode tells (old Cnf) (taken Cnf) before task.file (Ok problem) → Kept Cnf None old taken before files
-    → TrimsProof tells (taken ProofIn) (judged ProofIn) files task.proof problem.clauses (Ok answer) → answer ≡ Steps steps kept total
+    → TrimsProof tells (taken ProofIn) (judged ProofIn) files task.proof problem.clauses (Ok answer) → answer ≡ Steps lines kept total
     → Kept ProofIn None taken judged files after
-    → CameToKeep tells (judged ProofOut) (new ProofOut) (judged Out) (new Out) task.out (text_of steps) kept total status
+    → CameToKeep tells (judged ProofOut) (new ProofOut) (judged Out) (new Out) task.out lines kept total status
     → KeptButTwo ProofOut Out own judged new after last → CameToTrim tells (streams_of old) (streams_of new) before task status
-trimmed {task = task} {problem = problem} {steps = steps} {kept = kept} {total = total} old taken judged new before files after last takes
+trimmed {task = task} {problem = problem} {lines = lines} {kept = kept} {total = total} old taken judged new before files after last takes
     beside_taken trims is beside came beside_new = inr (inr (inr (record {
       problem = problem;
       takes = still_taken task.mode (beside_new.others Cnf refl refl ∙ beside.others Cnf refl) takes;
       order = beside_new.others Order refl refl ∙ beside.others Order refl ∙ beside_taken.others Order refl;
       buckets = beside_new.others Buckets refl refl ∙ beside.others Buckets refl ∙ beside_taken.others Buckets refl;
       schedule = beside_new.others Schedule refl refl ∙ beside.others Schedule refl ∙ beside_taken.others Schedule refl;
-      steps = steps;
+      lines = lines;
       kept = kept;
       total = total;
       trims = cut_from (beside_taken.others ProofIn refl) (beside_new.others ProofIn refl refl) (same_files beside_taken.files)

@@ -4,11 +4,9 @@ use Rattle.std.proofs.Common.{inl, inr}
 use Rattle.std.specs.Prelude.{Option}
 use Rattle.cnf_base.specs.Formula.{Formula}
 use Rattle.cnf_base.specs.Truth.{AreClausesOf}
-use Rattle.cnf_base.specs.declared.step.Step.{Step}
 use Rattle.dimacs_reader.specs.Cnf.{formula}
 use Rattle.host_io.specs.declared.role.Role.TheVariants.{ProofIn, ProofOut, Made, Out}
 use Rattle.answer_text.specs.Status.{trimmed_text}
-use Rattle.lrat_rules.specs.Derivation.{text_of}
 use Rattle.lrat_rules.specs.Run.{Refutes}
 use Rattle.lrat_checker.specs.TextVerdict.{max_bytes, text_verdict}
 use Rattle.lrat_checker.specs.declared.verdict.Verdict.{Verdict}
@@ -107,15 +105,15 @@ rejected laws run task asked r =
       refused_apart e = cc
 
 -- what stands in the trimmed proof's file, as a front of the trimmed form
-abbrev front_of : (run : Run) (task : ToRewrite) {problem : Formula} {steps : List Step} {kept total : ℕ}
-    → VerifiedBy run task problem steps kept total → (rest : List ℕ) → text_of steps ≡ written_in run ProofOut ++ rest
+abbrev front_of : (run : Run) (task : ToRewrite) {problem : Formula} {lines : List ℕ} {kept total : ℕ}
+    → VerifiedBy run task problem lines kept total → (rest : List ℕ) → lines ≡ written_in run ProofOut ++ rest
     → IsFrontOfTrimmed run
 front_of run task {problem = problem} by rest front = record {
   problem = problem;
   bytes = by.bytes;
   has = by.verdict;
   rest = rest;
-  front = ap text_of (sym by.steps_are) ∙ front;
+  front = sym by.lines_are ∙ front;
 }
 
 written_by : (run : Run) (task : ToRewrite) → command run.words ≡ Some (Trim task) → TrimStands run → WrittenStands run
@@ -126,10 +124,10 @@ written_by run task asked stands = record {
 }
 
 -- its trimmed form was not written
-unkept : (run : Run) (task : ToRewrite) {problem : Formula} {steps : List Step} {kept total : ℕ} → command run.words ≡ Some (Trim task)
+unkept : (run : Run) (task : ToRewrite) {problem : Formula} {lines : List ℕ} {kept total : ℕ} → command run.words ≡ Some (Trim task)
     → (IsTrue run.tells → AsksOver run (Trim task) (formula problem)) → AreClausesOf problem.vars problem.clauses
-    → run.after Made ≡ run.before Made → (IsTrue run.tells → VerifiedBy run task problem steps kept total)
-    → Unkept run.tells (run.before ProofOut) (run.after ProofOut) (run.before Out) (run.after Out) task.out (text_of steps) run.status
+    → run.after Made ≡ run.before Made → (IsTrue run.tells → VerifiedBy run task problem lines kept total)
+    → Unkept run.tells (run.before ProofOut) (run.after ProofOut) (run.before Out) (run.after Out) task.out lines run.status
     → Core run
 unkept run task {problem = problem} asked read literals made by u =
     let unanswered : is_answer run.status ≡ false = ap is_answer u.ends in
@@ -165,15 +163,15 @@ unkept run task {problem = problem} asked read literals made by u =
     }
 
 -- it was written
-keeps : Laws → (run : Run) (task : ToRewrite) {problem : Formula} {steps : List Step} {kept total : ℕ}
+keeps : Laws → (run : Run) (task : ToRewrite) {problem : Formula} {lines : List ℕ} {kept total : ℕ}
     → command run.words ≡ Some (Trim task) → (IsTrue run.tells → AsksOver run (Trim task) (formula problem))
     → AreClausesOf problem.vars problem.clauses → run.after Made ≡ run.before Made
-    → TrimsProof run.tells (run.before ProofIn) (run.after ProofIn) run.files task.proof problem.clauses (Ok (Steps steps kept total))
-    → Keeps run.tells (run.before ProofOut) (run.after ProofOut) (run.before Out) (run.after Out) task.out (text_of steps) kept total run.status
+    → TrimsProof run.tells (run.before ProofIn) (run.after ProofIn) run.files task.proof problem.clauses (Ok (Steps lines kept total))
+    → Keeps run.tells (run.before ProofOut) (run.after ProofOut) (run.before Out) (run.after Out) task.out lines kept total run.status
     → Core run
-keeps laws run task {problem = problem} {steps = steps} {kept = kept} {total = total} asked read literals made trims k =
+keeps laws run task {problem = problem} {lines = lines} {kept = kept} {total = total} asked read literals made trims k =
     judged laws run (judging run task asked read literals made stands) judgement.Verified
-    (judges_of (Ok (Steps steps kept total)) trims (λ e. ok_err e))
+    (judges_of (Ok (Steps lines kept total)) trims (λ e. ok_err e))
     (λ t bytes stands. record {
       converted = λ given. absurd (no_conversion (same_command asked given.1));
       trimmed = λ _ given. subst (λ (b : List ℕ). IsTrimmed run problem b) (one_text (by t).stands stands) (whole t);
@@ -181,7 +179,7 @@ keeps laws run task {problem = problem} {steps = steps} {kept = kept} {total = t
     (λ t bytes stands. subst (λ (b : List ℕ). trimmed_text kept total ≡ verdict_text_for run problem b judgement.Verified)
     (one_text (by t).stands stands) (says t))
     k.shows.printed k.shows.puts k.shows.ends where
-      by : IsTrue run.tells → VerifiedBy run task problem steps kept total
+      by : IsTrue run.tells → VerifiedBy run task problem lines kept total
       by = verified run task problem asked read trims
 
       one_text : {here there : List ℕ} {text : Option (List ℕ)} → text ≡ Some here → text ≡ Some there → here ≡ there
@@ -189,7 +187,7 @@ keeps laws run task {problem = problem} {steps = steps} {kept = kept} {total = t
         inner : {here there : List ℕ} → ◌≡◌ {A = Option (List ℕ)} (Some here) (Some there) → here ≡ there
         inner e = cc
 
-      all : (t : IsTrue run.tells) → written_in run ProofOut ≡ text_of steps
+      all : (t : IsTrue run.tells) → written_in run ProofOut ≡ lines
       all t = k.puts.done t k.done
 
       stands : WrittenStands run
@@ -204,7 +202,7 @@ keeps laws run task {problem = problem} {steps = steps} {kept = kept} {total = t
 
       whole : (t : IsTrue run.tells) → IsTrimmed run problem (by t).bytes
       whole t =
-          let written : written_in run ProofOut ≡ trim problem.clauses (by t).bytes = all t ∙ ap text_of (by t).steps_are in
+          let written : written_in run ProofOut ≡ trim problem.clauses (by t).bytes = all t ∙ (by t).lines_are in
           record {
             written = written;
             flushed = k.puts.flushed t k.done;
@@ -225,7 +223,7 @@ trimmed laws run task asked c = go c.came where
   read : IsTrue run.tells → AsksOver run (Trim task) (formula c.problem)
   read = took run (Trim task) task.file c.problem asked refl c.takes
 
-  go : CameToKeep run.tells (run.before ProofOut) (run.after ProofOut) (run.before Out) (run.after Out) task.out (text_of c.steps) c.kept
+  go : CameToKeep run.tells (run.before ProofOut) (run.after ProofOut) (run.before Out) (run.after Out) task.out c.lines c.kept
       c.total run.status → Core run
   go (inl u) = unkept run task asked read c.takes.fits.literals c.made (verified run task c.problem asked read c.trims) u
   go (inr k) = keeps laws run task asked read c.takes.fits.literals c.made c.trims k

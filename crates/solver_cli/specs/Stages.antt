@@ -9,9 +9,7 @@ use Rattle.host_io.specs.Files.{Files, Opens}
 use Rattle.lrat_checker.specs.declared.verdict.Verdict.{Verdict}
 use Rattle.lrat_checker.specs.declared.verdict.CheckError.{CheckError}
 use Rattle.lrat_checker.specs.declared.verdict.Verdict.TheVariants as judgement
-use Rattle.lrat_rules.specs.Derivation.{text_of as lines_of}
 use Rattle.lrat_rules.specs.declared.outcome.Reason.{Reason}
-use Rattle.cnf_base.specs.declared.step.Step.{Step}
 use Rattle.drat_proof.specs.declared.error.ConvertError.{ConvertError}
 use Rattle.proof_trim.specs.declared.text.Trimmed.TheVariants.{Steps, Refused as IsRefused}
 use Rattle.answer_text.specs.Status.{trimmed_text}
@@ -426,12 +424,12 @@ pub record Trimmed (tells : Bool) (old new : Streams) (files : Files) (task : To
   pub order : new.order ≡ old.order
   pub buckets : new.buckets ≡ old.buckets
   pub schedule : new.schedule ≡ old.schedule
-  pub steps : List Step
+  pub lines : List ℕ
   pub kept : ℕ
   pub total : ℕ
-  pub trims : TrimsProof tells old.judged new.judged files task.proof problem.clauses (Ok (Steps steps kept total))
+  pub trims : TrimsProof tells old.judged new.judged files task.proof problem.clauses (Ok (Steps lines kept total))
   pub made : new.made ≡ old.made
-  pub came : CameToKeep tells old.proof new.proof old.out new.out task.out (lines_of steps) kept total status
+  pub came : CameToKeep tells old.proof new.proof old.out new.out task.out lines kept total status
 
 -- how far `trim` came
 abbrev pub CameToTrim : Bool → Streams → Streams → Files → ToRewrite → Status → Type 0

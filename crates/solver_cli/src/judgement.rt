@@ -14,7 +14,8 @@ ghost use Rattle.solver_cli.specs.Progress.{IsTold};
 use crate::reporting_source::ReportingSource;
 use cnf_base::Cnf;
 use command_line::ProofFormat;
-use drat_checker::check_drat;
+use drat_checker::{check_drat, check_drat_by};
+use drat_rules::Deletions;
 use host_io::{Host, HostSource, Role, Source, beside_kept};
 use lrat_checker::{CheckError, Verdict, check};
 use std::alloc::Global;
@@ -102,5 +103,6 @@ fn check_in<S: Source>(
     match format {
         ProofFormat::Lrat => check(alloc, formula, source),
         ProofFormat::Drat => check_drat(alloc, formula, source),
+        ProofFormat::DratBySet => check_drat_by(alloc, formula, Deletions::BySet, source),
     }
 }

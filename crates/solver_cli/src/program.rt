@@ -10,7 +10,6 @@ ghost use Rattle.host_io.specs.Memory.{channel_of, files_of};
 ghost use Rattle.drat_proof.specs.TwoRoles.{KeptButTwo};
 ghost use Rattle.schedule_plan.specs.Limits.{AreLimits};
 ghost use Rattle.schedule_plan.specs.Plan.{IsAdmissible};
-ghost use Rattle.lrat_rules.specs.Derivation.{text_of};
 ghost use Rattle.command_line.specs.Command.{IsSize, command, progress_asked};
 ghost use Rattle.command_line.specs.Reading.{rewrite_of};
 ghost use Rattle.solver_cli.specs.Headline.{Promises};
@@ -316,17 +315,21 @@ fn trim<H: Host>(alloc: Global, asked: &RewriteTask<'_>, host: &mut H) -> Status
         Err(error) => return Status::from(error),
     };
     match trimmed {
-        Trimmed::Steps { steps, kept, total } => keep(host, asked.out, &steps, kept, total),
+        Trimmed::Steps {
+            mut steps,
+            kept,
+            total,
+        } => keep(host, asked.out, &mut steps, kept, total),
         Trimmed::Refused { line, reason } => show(host, Verdict::Refused { line, reason }),
     }
 }
 
 // Writes the steps to the file of this name, and prints that the proof was verified, with the counts.
-fn keep<H: Host>(host: &mut H, name: &str, steps: &KeptSteps, kept: u64, total: u64) -> Status
+fn keep<H: Host>(host: &mut H, name: &str, steps: &mut KeptSteps, kept: u64, total: u64) -> Status
     requires unwritten { (H.channel host.old ProofOut).name ≡ None }
     requires unnamed { (H.channel host.old Out).name ≡ None }
     ensures came { CameToKeep H.tells (H.channel host.old ProofOut) (H.channel host.new ProofOut) (H.channel host.old Out)
-        (H.channel host.new Out) name.now (text_of steps.now) kept total result }
+        (H.channel host.new Out) name.now steps.old kept total result }
     ensures beside { KeptButTwo ProofOut Out (H.channel host.new ProofOut).name (H.channel host.old) (H.channel host.new)
         (H.files host.old) (H.files host.new) }
 {

@@ -2,7 +2,6 @@
 ghost use Rattle.std.specs.Prelude.{◌≡◌, ◌≢◌, None};
 ghost use Rattle.host_io.specs.declared.role.Role.TheVariants.{ProofIn, ProofOut};
 ghost use Rattle.host_io.specs.Files.{Kept};
-ghost use Rattle.lrat_rules.specs.Derivation.{text_of};
 ghost use Rattle.solver_cli.specs.Phases.{PutsText};
 ghost use Rattle.solver_cli.specs.TrimmedProof.{PutsFile, TrimsOpened, TrimsProof};
 
@@ -41,9 +40,9 @@ fn trim_opened<H: Host>(alloc: Global, host: &mut H, formula: &Cnf) -> Result<Tr
 }
 
 /// Creates the file of this name, writes the lines of the steps to it and flushes it. Takes no memory.
-pub fn put_proof<H: Host>(host: &mut H, name: &str, steps: &KeptSteps) -> Result<(), Failed>
+pub fn put_proof<H: Host>(host: &mut H, name: &str, steps: &mut KeptSteps) -> Result<(), Failed>
     requires unwritten { (H.channel host.old ProofOut).name ≡ None }
-    ensures puts { PutsFile H.tells (H.channel host.old ProofOut) (H.channel host.new ProofOut) name.now (text_of steps.now) result }
+    ensures puts { PutsFile H.tells (H.channel host.old ProofOut) (H.channel host.new ProofOut) name.now steps.old result }
     ensures kept { Kept ProofOut (H.channel host.new ProofOut).name (H.channel host.old) (H.channel host.new) (H.files host.old)
         (H.files host.new) }
 {
@@ -53,9 +52,9 @@ pub fn put_proof<H: Host>(host: &mut H, name: &str, steps: &KeptSteps) -> Result
     put_steps(host, steps)
 }
 
-fn put_steps<H: Host>(host: &mut H, steps: &KeptSteps) -> Result<(), Failed>
+fn put_steps<H: Host>(host: &mut H, steps: &mut KeptSteps) -> Result<(), Failed>
     requires created { (H.channel host.old ProofOut).name ≢ None }
-    ensures puts { PutsText H.tells (H.channel host.old ProofOut) (H.channel host.new ProofOut) (text_of steps.now) result }
+    ensures puts { PutsText H.tells (H.channel host.old ProofOut) (H.channel host.new ProofOut) steps.old result }
     ensures kept { Kept ProofOut (H.channel host.old ProofOut).name (H.channel host.old) (H.channel host.new) (H.files host.old)
         (H.files host.new) }
 {
@@ -64,8 +63,8 @@ fn put_steps<H: Host>(host: &mut H, steps: &KeptSteps) -> Result<(), Failed>
     print_steps(&mut sink, steps)
 }
 
-fn print_steps<S: Sink>(sink: &mut S, steps: &KeptSteps) -> Result<(), Failed>
-    ensures puts { PutsText S.tells (S.channel sink.old) (S.channel sink.new) (text_of steps.now) result }
+fn print_steps<S: Sink>(sink: &mut S, steps: &mut KeptSteps) -> Result<(), Failed>
+    ensures puts { PutsText S.tells (S.channel sink.old) (S.channel sink.new) steps.old result }
     ensures beside { S.beside sink.new ≡ S.beside sink.old }
 {
     steps.write(sink)?;

@@ -4,6 +4,7 @@ use Rattle.std.proofs.Common.{refl, sym, ap, subst, arith, inl, inr}
 use Rattle.std.specs.Prelude.{◌≢◌, IfOk, IsTrue}
 use Rattle.std.specs.Option.{option_to_list}
 use Rattle.std.proofs.lemmas.List.{append_assoc}
+use Rattle.std.proofs.lemmas.List.Elements.{Contains-append_left, Contains-append_right}
 use Rattle.cnf_base.specs.Truth.{Assignment}
 use Rattle.lrat_rules.specs.State.{clause_at}
 use Rattle.clause_ledger.specs.Told.{told_origin}
@@ -33,13 +34,14 @@ use Rattle.term_runner.specs.declared.term.Term.{Term}
 use Rattle.term_runner.specs.Caches.{all_entries, sizes}
 use Rattle.term_runner.specs.Finds.{Finds, IsProved}
 use Rattle.term_runner.specs.Held.{GivesUnit, HasUnits}
-use Rattle.term_runner.specs.Runner.{Gives, HasFalse, IsListed, IsRunner, OwnsTerms, owners, true_term}
+use Rattle.term_runner.specs.Runner.{Gives, HasFalse, IsListed, IsRunner, OwnsTerms, owners, refusal_of, refusals_of, true_term}
 use Rattle.term_runner.proofs.MadeParts.{lacks_part, of_only, only_of}
 use Rattle.term_runner.proofs.Giving.{units_settled}
 use Rattle.term_runner.proofs.Leaving.{origin_left, went_on}
 use Rattle.term_runner.proofs.NoEmpty.{no_change}
 use Rattle.term_runner.proofs.OwnUnits.{over_settled, unit_settled}
-use Rattle.term_runner.proofs.Owners.{among_here, among_others, units_back, units_of_rest, which_among}
+use Rattle.term_runner.proofs.Owners.{among_here, among_others, units_of_rest, which_among}
+use Rattle.term_runner.proofs.Refusals.{back_of, owner_of, refusal_kept, refusal_stays}
 use Rattle.term_runner.proofs.Replaced.{none_retired, units_replaced}
 use Rattle.term_runner.proofs.Stacks.{justified_kept, over_after}
 use Rattle.term_runner.proofs.WithinLimits.{within_after}
@@ -61,7 +63,7 @@ true_unit table node unit is proved = go unit
     go (Clause id) own = absurd (let e : true ≡ false = own.0 in cc)
 
 -- a term stays proved as nodes and clauses are added
-proved_kept : Growth → {S : Type 0} (old new : TableState S) → IsSound old → Extends old new → (held : HeldTerm)
+pub proved_kept : Growth → {S : Type 0} (old new : TableState S) → IsSound old → Extends old new → (held : HeldTerm)
     → IsProved old.graph old.book.state.live held → IsProved new.graph new.book.state.live held
 proved_kept growth old new sound extends held is = record {
   stands = growth.stands old.graph new.graph extends.nodes held.node is.stands;
@@ -94,7 +96,9 @@ module _ {S : Type 0} (growth : Growth) (steps : StepByStep S) (function : Level
           within = within_after old.formula.now old.limits old.terms.table old.terms.caches (all_entries old.terms.caches) over runner.within
               mid caches (went_on {T = HeldTerm} old.terms.table mid (Err came) found.steps.leaves (untorn whole)) found.sizes;
           proved = λ held among. proved_kept growth old.terms.table mid over.sound found.steps.extends held (runner.proved held among);
-          units = no_fault whole (owners old) runner.units;
+          units = no_fault whole (owners old ++ refusals_of old) runner.units;
+          refusals = λ id there. refusal_kept old.terms.table.graph mid.graph old.terms.table.book.state.live mid.book.state.live
+              found.steps.extends.nodes.order found.steps.extends.clauses id (runner.refusals id there);
           no_trail = runner.no_trail;
           kept = runner.kept;
           refuted = runner.refuted;
@@ -113,6 +117,7 @@ module _ {S : Type 0} (growth : Growth) (steps : StepByStep S) (function : Level
           within = own.within;
           proved = own.proved;
           units = own.units;
+          refusals = own.refusals;
           no_trail = own.no_trail;
           kept = own.kept;
           refuted = own.refuted;
@@ -134,6 +139,7 @@ module _ {S : Type 0} (growth : Growth) (steps : StepByStep S) (function : Level
         formula = ap (λ (r : Runner S). r.formula) same;
         limits = ap (λ (r : Runner S). r.limits) same;
         kept = ap (λ (r : Runner S). r.kept) same;
+        refusals = ap (λ (r : Runner S). r.refusals) same;
         sizes = ap (λ (r : Runner S). sizes r.terms.caches) same ∙ found.sizes;
         origin = ap (λ (t : TableState S). t.book.origin) same_table ∙ origin_left old.terms.table mid (Some came) found.steps.leaves;
       };
@@ -158,13 +164,14 @@ module _ {S : Type 0} (growth : Growth) (steps : StepByStep S) (function : Level
     more : IsSound mid
     more = found.steps.leaves.sound
 
-    units_with : HasUnits mid (all_entries caches) (term.held ∷ owners old)
-    units_with = units_replaced steps old.terms.table mid mid (all_entries old.terms.caches) (all_entries caches) [] (owners old) term.held
+    units_with : HasUnits mid (all_entries caches) (term.held ∷ (owners old ++ refusals_of old))
+    units_with = units_replaced steps old.terms.table mid mid (all_entries old.terms.caches) (all_entries caches) []
+        (owners old ++ refusals_of old) term.held
         runner.over.sound more found.steps.extends runner.units own (none_retired mid term.held.unit)
 
     -- those that own a clause are as before, and this one where it isn't True
     record IsNewList (list : List HeldTerm) : Type 0 where
-      pub units : HasUnits mid (all_entries caches) list
+      pub units : HasUnits mid (all_entries caches) (list ++ refusals_of old)
       pub from : (one : HeldTerm) → Contains list one → (term.held ≡ one) ⊎ Contains (owners old) one
       pub still : (one : HeldTerm) → Contains (owners old) one → Contains list one
       pub this : term.held.node ≡ False → Contains list term.held
@@ -172,16 +179,17 @@ module _ {S : Type 0} (growth : Growth) (steps : StepByStep S) (function : Level
     new_list : (items : List HeldTerm) → IsListed old.terms.out.items items term.held → IsNewList (items ++ option_to_list old.kept)
     new_list items listed = elim listed [
       | inl is ↦ subst (λ (list : List HeldTerm). IsNewList (list ++ option_to_list old.kept)) (sym is.1) (record {
-        units = units_of_rest mid (all_entries caches) term.held (owners old) (ap (λ (h : HeldTerm). h.unit) is.0) units_with;
+        units = units_of_rest mid (all_entries caches) term.held (owners old ++ refusals_of old) (ap (λ (h : HeldTerm). h.unit) is.0)
+            units_with;
         from = λ one among. inr among;
         still = λ one among. among;
         this = λ none. absurd (let e : True ≡ False = sym (ap (λ (h : HeldTerm). h.node) is.0) ∙ none in cc);
       })
       | inr is ↦
           let behind = option_to_list old.kept in
-          subst IsNewList (sym (ap (λ (list : List HeldTerm). list ++ behind) is ∙ append_assoc old.terms.out.items (term.held ∷ []) behind))
+          subst IsNewList (sym (ap (λ (list : List HeldTerm). list ++ behind) is.1 ∙ append_assoc old.terms.out.items (term.held ∷ []) behind))
           (record {
-            units = units_back mid (all_entries caches) old.terms.out.items behind term.held units_with;
+            units = back_of mid (all_entries caches) old.terms.out.items behind (refusals_of old) term.held units_with;
             from = which_among old.terms.out.items behind term.held;
             still = among_others old.terms.out.items behind term.held;
             this = λ none. among_here old.terms.out.items behind term.held;
@@ -207,6 +215,8 @@ module _ {S : Type 0} (growth : Growth) (steps : StepByStep S) (function : Level
         | inr was ↦ proved_kept growth old.terms.table mid runner.over.sound found.steps.extends one (runner.proved one was)
       ];
       units = now.units;
+      refusals = λ id there. refusal_kept old.terms.table.graph mid.graph old.terms.table.book.state.live mid.book.state.live
+          found.steps.extends.nodes.order found.steps.extends.clauses id (runner.refusals id there);
       no_trail = runner.no_trail;
       kept = runner.kept;
       refuted = λ is. elim (false_or term.held.node) [
@@ -235,6 +245,7 @@ module _ {S : Type 0} (growth : Growth) (steps : StepByStep S) (function : Level
         formula = ap (λ (r : Runner S). r.formula) same;
         limits = ap (λ (r : Runner S). r.limits) same;
         kept = ap (λ (r : Runner S). r.kept) same;
+        refusals = ap (λ (r : Runner S). r.refusals) same;
         sizes = ap (λ (r : Runner S). sizes r.terms.caches) same ∙ found.sizes;
         origin = ap (λ (t : TableState S). t.book.origin) here ∙ told_origin found.steps.leaves.told;
       };
@@ -267,6 +278,57 @@ nothing_found steps law function holds operands table caches sound fits = record
   sizes = refl;
 }
 
+-- The clauses that a call retired are deleted: those that own one own it yet.
+module _ {S : Type 0} (mid : Runner S) (new : TableState S) (nodes : new.graph ≡ mid.terms.table.graph) where
+  module _ (fitting : Fitting S) (done : new ≡ record mid.terms.table { book = new.book; retired = [] })
+      (gone : (id : ℕ) → Contains mid.terms.table.retired id → clause_at new.book.state.live id ≡ None)
+      (stay : (id : ℕ) → (Contains mid.terms.table.retired id → ⊥) → clause_at new.book.state.live id
+      ≡ clause_at mid.terms.table.book.state.live id)
+      (continues : Continues mid.terms.table new) where
+    none : new.retired ≡ []
+    none = ap (λ (t : TableState S). t.retired) done
+
+    inputs : new.inputs ≡ mid.terms.table.inputs
+    inputs = ap (λ (t : TableState S). t.inputs) done
+
+    -- a clause that is live isn't retired
+    live_yet : (id : ℕ) → clause_at new.book.state.live id ≡ Some [] → Contains mid.terms.table.retired id → ⊥
+    live_yet id empty there = let e : None ≡ Some [] = sym (gone id there) ∙ empty in cc
+
+    among_owners : (list : List HeldTerm) (held : HeldTerm) → Contains list held → Contains (list ++ refusals_of mid) held
+    among_owners list held among = Contains-append_left list (refusals_of mid) held among
+
+    -- the unit of one that owns it is not retired
+    pub proved_still : (list : List HeldTerm) → OwnsTerms mid list → (held : HeldTerm) → Contains list held
+        → IsProved new.graph new.book.state.live held
+    proved_still list runner held among =
+        let is = runner.proved held among in
+        subst (λ (graph : Graph). IsProved graph new.book.state.live held) (sym nodes) (record {
+          stands = is.stands;
+          unit = unit_settled mid.formula.now mid.terms.table new (all_entries mid.terms.caches) nodes none stay
+              (atom_of mid.terms.table.graph held.node) held.unit is.unit (λ id named there. runner.units.own held (among_owners list held
+              among) id named (inl there));
+        })
+
+    pub owns_still : (list : List HeldTerm) → OwnsTerms mid list → OwnsTerms (record mid { terms = record mid.terms { table = new } }) list
+    owns_still list runner = record {
+      over = over_settled mid.formula.now mid.terms.table new (all_entries mid.terms.caches) nodes none stay fitting inputs
+          continues.sound runner.over;
+      within = within_after mid.formula.now mid.limits mid.terms.table mid.terms.caches (all_entries mid.terms.caches) runner.over
+          runner.within new mid.terms.caches continues refl;
+      proved = proved_still list runner;
+      units = units_settled mid.terms.table new (all_entries mid.terms.caches) (list ++ refusals_of mid) nodes inputs none gone stay
+          runner.units;
+      refusals = λ id there. refusal_stays mid.terms.table.graph new.graph mid.terms.table.book.state.live new.book.state.live
+          (ap (λ (graph : Graph). graph.order) nodes) id
+          (stay id (λ retired. runner.units.own (refusal_of id) (Contains-append_right list (refusals_of mid) (refusal_of id)
+          (owner_of mid.refusals.items id there)) id refl (inl retired))) (runner.refusals id there);
+      no_trail = runner.no_trail;
+      kept = runner.kept;
+      refuted = runner.refuted;
+      unrefuted = λ no id above empty. runner.unrefuted no id (omega (arith, above, inputs)) (sym (stay id (live_yet id empty)) ∙ empty);
+    }
+
 -- The clauses that a call retired are deleted. However that ends, nodes and numbers are as they were.
 module _ {S : Type 0} (function : Levels → Bool) (holds : Assignment → Bool) (operands : List HeldTerm) (old mid : Runner S)
     (new : TableState S) (r : Result Term TableError) (own : Gives function holds operands old mid r) (nodes : new.graph
@@ -289,6 +351,7 @@ module _ {S : Type 0} (function : Levels → Bool) (holds : Assignment → Bool)
           formula = own.same.formula;
           limits = own.same.limits;
           kept = own.same.kept;
+          refusals = own.same.refusals;
           sizes = own.same.sizes;
           origin = origin_left old.terms.table new (Some WriteFault) leaves;
         };
@@ -305,40 +368,11 @@ module _ {S : Type 0} (function : Levels → Bool) (holds : Assignment → Bool)
       (stay : (id : ℕ) → (Contains mid.terms.table.retired id → ⊥) → clause_at new.book.state.live id
       ≡ clause_at mid.terms.table.book.state.live id)
       (continues : Continues mid.terms.table new) where
-    none : new.retired ≡ []
-    none = ap (λ (t : TableState S). t.retired) done
+    owns_now : (list : List HeldTerm) → OwnsTerms mid list → OwnsTerms (record mid { terms = record mid.terms { table = new } }) list
+    owns_now = owns_still mid new nodes fitting done gone stay continues
 
-    inputs : new.inputs ≡ mid.terms.table.inputs
-    inputs = ap (λ (t : TableState S). t.inputs) done
-
-    -- a clause that is live isn't retired
-    live_yet : (id : ℕ) → clause_at new.book.state.live id ≡ Some [] → Contains mid.terms.table.retired id → ⊥
-    live_yet id empty there = let e : None ≡ Some [] = sym (gone id there) ∙ empty in cc
-
-    -- the unit of one that owns it is not retired
-    proved_still : (list : List HeldTerm) → OwnsTerms mid list → (held : HeldTerm) → Contains list held
-        → IsProved new.graph new.book.state.live held
-    proved_still list runner held among =
-        let is = runner.proved held among in
-        subst (λ (graph : Graph). IsProved graph new.book.state.live held) (sym nodes) (record {
-          stands = is.stands;
-          unit = unit_settled mid.formula.now mid.terms.table new (all_entries mid.terms.caches) nodes none stay
-              (atom_of mid.terms.table.graph held.node) held.unit is.unit (λ id named there. runner.units.own held among id named (inl there));
-        })
-
-    owns_still : (list : List HeldTerm) → OwnsTerms mid list → OwnsTerms (record mid { terms = record mid.terms { table = new } }) list
-    owns_still list runner = record {
-      over = over_settled mid.formula.now mid.terms.table new (all_entries mid.terms.caches) nodes none stay fitting inputs
-          continues.sound runner.over;
-      within = within_after mid.formula.now mid.limits mid.terms.table mid.terms.caches (all_entries mid.terms.caches) runner.over
-          runner.within new mid.terms.caches continues refl;
-      proved = proved_still list runner;
-      units = units_settled mid.terms.table new (all_entries mid.terms.caches) list nodes inputs none gone stay runner.units;
-      no_trail = runner.no_trail;
-      kept = runner.kept;
-      refuted = runner.refuted;
-      unrefuted = λ no id above empty. runner.unrefuted no id (omega (arith, above, inputs)) (sym (stay id (live_yet id empty)) ∙ empty);
-    }
+    none_left : new.retired ≡ []
+    none_left = ap (λ (t : TableState S). t.retired) done
 
     -- the new term is among those that own a clause, or has none
     term_still : (list : List HeldTerm) → OwnsTerms mid list → (held : HeldTerm) → (held ≡ true_term) ⊎ Contains list held
@@ -348,11 +382,11 @@ module _ {S : Type 0} (function : Levels → Bool) (holds : Assignment → Bool)
         subst (λ (graph : Graph). IsTerm graph new.book.state.live holds held.node held.unit) (sym nodes) (record {
           stands = is.stands;
           value = is.value;
-          proved = unit_settled mid.formula.now mid.terms.table new (all_entries mid.terms.caches) nodes none stay
+          proved = unit_settled mid.formula.now mid.terms.table new (all_entries mid.terms.caches) nodes none_left stay
               (atom_of mid.terms.table.graph held.node) held.unit is.proved
               (λ id named there. elim listed [
                 | inl none_own ↦ absurd (let e : Trivial ≡ Clause id = sym (ap (λ (h : HeldTerm). h.unit) none_own) ∙ named in cc)
-                | inr among ↦ runner.units.own held among id named (inl there)
+                | inr among ↦ runner.units.own held (Contains-append_left list (refusals_of mid) held among) id named (inl there)
               ]);
         })
 
@@ -360,7 +394,7 @@ module _ {S : Type 0} (function : Levels → Bool) (holds : Assignment → Bool)
     good_of : (held : HeldTerm) → IsListed old.terms.out.items mid.terms.out.items held → (held ≡ true_term) ⊎ Contains (owners mid) held
     good_of held listed = elim listed [
       | inl is ↦ inl is.0
-      | inr is ↦ inr (subst (λ (items : List HeldTerm). Contains (items ++ option_to_list mid.kept) held) (sym is)
+      | inr is ↦ inr (subst (λ (items : List HeldTerm). Contains (items ++ option_to_list mid.kept) held) (sym is.1)
           (subst (λ (list : List HeldTerm). Contains list held)
           (sym (append_assoc old.terms.out.items (held ∷ []) (option_to_list mid.kept)))
           (among_here old.terms.out.items (option_to_list mid.kept) held)))
@@ -376,7 +410,7 @@ module _ {S : Type 0} (function : Levels → Bool) (holds : Assignment → Bool)
     pub gives_still : Leaves old.terms.table new (error_of r)
         → Gives function holds operands old (record mid { terms = record mid.terms { table = new } }) r
     gives_still leaves = record {
-      goes_on = λ whole. owns_still (owners mid) (own.goes_on whole);
+      goes_on = λ whole. owns_now (owners mid) (own.goes_on whole);
       term = term_of r own.goes_on own.term own.listed;
       listed = own.listed;
       refused = own.refused;
@@ -386,6 +420,7 @@ module _ {S : Type 0} (function : Levels → Bool) (holds : Assignment → Bool)
         formula = own.same.formula;
         limits = own.same.limits;
         kept = own.same.kept;
+        refusals = own.same.refusals;
         sizes = own.same.sizes;
         origin = origin_left old.terms.table new (error_of r) leaves;
       };

@@ -1,10 +1,10 @@
 -- A reclamation keeps the terms that are out: their nodes are its roots.
-use Rattle.std.proofs.Common.{◌≡◌, ◌⊎◌, ◌∙◌, zero, suc, true, List, [], Contains, Option, None, Some, refl, sym, ap, subst}
+use Rattle.std.proofs.Common.{◌≡◌, ◌⊎◌, ◌∙◌, ◌++◌, ℕ, zero, suc, true, List, [], Contains, Option, None, Some, refl, sym, ap, subst}
 use Rattle.std.proofs.Common.{arith, inl, inr}
 use Rattle.std.specs.Option.{option_to_list}
 use Rattle.std.specs.Prelude.{◌≢◌}
 use Rattle.std.proofs.lemmas.List.{append-nil}
-use Rattle.std.proofs.lemmas.List.Elements.{Contains-append_cases, Contains-append_left}
+use Rattle.std.proofs.lemmas.List.Elements.{Contains-append_cases, Contains-append_left, Contains-append_right}
 use Rattle.node_table.specs.declared.node.Node.{Node}
 use Rattle.node_table.specs.declared.node.Node.TheVariants.{False, True}
 use Rattle.node_table.specs.Diagram.{is_node}
@@ -19,9 +19,10 @@ use Rattle.term_runner.specs.declared.held.HeldTerm.{HeldTerm}
 use Rattle.term_runner.specs.declared.runner.Runner.{Runner}
 use Rattle.term_runner.specs.Caches.{all_entries, sizes}
 use Rattle.term_runner.specs.Finds.{IsProved}
-use Rattle.term_runner.specs.Runner.{IsGood, IsRunner, holds_in, nodes_of, owners, true_term}
+use Rattle.term_runner.specs.Runner.{IsGood, IsRunner, holds_in, nodes_of, owners, refusal_of, refusals_of, true_term}
 use Rattle.term_runner.specs.Tidy.{LeavesReached, held_nodes}
 use Rattle.term_runner.proofs.Given.{true_unit}
+use Rattle.term_runner.proofs.Refusals.{owner_of, refusal_stays}
 use Rattle.term_runner.proofs.Reclaimed.{in_map, leaves_reached, may_reclaim_owned, of_map, over_reclaimed, proved_stays, units_reclaimed}
 use Rattle.term_runner.proofs.WithinLimits.{within_after}
 
@@ -49,8 +50,15 @@ module _ {S : Type 0} (runner : Runner S) (is : IsRunner runner) where
       (is.proved was.0 (Contains-append_left runner.terms.out.items (option_to_list runner.kept) was.0 was.1)).stands
 
   pub terms_may_reclaim : MayReclaim runner.terms.table (all_entries runner.terms.caches) (nodes_of runner.terms.out.items)
-  terms_may_reclaim = may_reclaim_owned runner.terms.table (all_entries runner.terms.caches) (owners runner) (nodes_of runner.terms.out.items)
-      is.over.sound.tied.reduced is.units is.proved root_of
+  terms_may_reclaim = may_reclaim_owned runner.terms.table (all_entries runner.terms.caches) (owners runner) runner.refusals.items
+      (nodes_of runner.terms.out.items) is.over.sound.tied.reduced is.units is.refusals is.proved root_of
+
+  among_owners : (held : HeldTerm) → Contains (owners runner) held → Contains (owners runner ++ refusals_of runner) held
+  among_owners held among = Contains-append_left (owners runner) (refusals_of runner) held among
+
+  among_refusals : (id : ℕ) → Contains runner.refusals.items id → Contains (owners runner ++ refusals_of runner) (refusal_of id)
+  among_refusals id there = Contains-append_right (owners runner) (refusals_of runner) (refusal_of id) (owner_of runner.refusals.items id
+      there)
 
   module _ (growth : Growth) (new : TableState S) (caches : Caches) (more : Continues runner.terms.table new)
       (same : sizes caches ≡ sizes runner.terms.caches)
@@ -63,10 +71,18 @@ module _ {S : Type 0} (runner : Runner S) (is : IsRunner runner) where
           is.within new caches more same;
       proved = λ held among. proved_stays growth runner.terms.table new (nodes_of runner.terms.out.items)
           (all_entries runner.terms.caches) (all_entries caches) more.sound reclaims held (root_of held among)
-          (λ id named. reclaims.kept id (is.units.added id (record { held = held; stacked = among; unit = named }))
-          (is.units.own held among id named)) (is.proved held among);
+          (λ id named. reclaims.kept id (is.units.added id (record { held = held; stacked = among_owners held among; unit = named }))
+          (is.units.own held (among_owners held among) id named)) (is.proved held among);
       units = units_reclaimed runner.terms.table new (nodes_of runner.terms.out.items) (all_entries runner.terms.caches) (all_entries caches)
-          reclaims (owners runner) is.units;
+          reclaims (owners runner ++ refusals_of runner) is.units;
+      refusals = λ id there. refusal_stays runner.terms.table.graph new.graph runner.terms.table.book.state.live new.book.state.live
+          reclaims.order id (reclaims.kept id (is.units.added id (record {
+            held = refusal_of id;
+            stacked = among_refusals id there;
+            unit =
+                refl;
+          }))
+          (is.units.own (refusal_of id) (among_refusals id there) id refl)) (is.refusals id there);
       no_trail = is.no_trail;
       kept = is.kept;
       refuted = is.refuted;

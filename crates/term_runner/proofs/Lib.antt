@@ -56,3 +56,13 @@ pub mod Released
 pub mod Opened
 pub mod Kept
 pub mod Resting
+pub mod Refusals
+pub mod GivenUp
+pub mod CubeRefuted
+pub mod CubeFound
+pub mod CubeAsked
+pub mod CubeJoined
+pub mod Grown
+pub mod WeakerFound
+pub mod Weakened
+pub mod SumOver

@@ -1,20 +1,23 @@
 -- A runner that was opened owns no clause.
-use Rattle.std.proofs.Common.{◌≡◌, ◌∙◌, ◌<◌, ◌+◌, ◌++◌, ℕ, true, false, ℤ, List, [], length, Option, None, Some, refl, sym, ap}
+use Rattle.std.proofs.Common.{◌≡◌, ◌∙◌, ◌<◌, ◌+◌, ◌++◌, ℕ, true, false, ℤ, List, [], map, length, Contains, Option, None, Some, refl, sym}
+use Rattle.std.proofs.Common.{ap}
 use Rattle.std.proofs.Common.{subst, arith}
 use Rattle.std.specs.Option.{option_to_list}
 use Rattle.std.specs.Prelude.{IsTrue}
 use Rattle.cnf_base.specs.Order.{IsOrder}
 use Rattle.cnf_base.specs.Truth.{AreClausesOf}
 use Rattle.lrat_rules.specs.State.{State, clause_at, start}
-use Rattle.clause_ledger.specs.Book.{Book}
+use Rattle.cnf_base.specs.declared.step.Step.{Step}
+use Rattle.lrat_rules.specs.Conservative.{are_conservative}
+use Rattle.clause_ledger.specs.Book.{Book, after_steps}
 use Rattle.node_table.specs.Progress.{AreStepsUpTo}
 use Rattle.node_table.specs.Table.{TableState, IsSound, opened}
 use Rattle.operations.specs.Entries.{Entry}
 use Rattle.term_runner.specs.declared.held.HeldTerm.{HeldTerm}
 use Rattle.term_runner.specs.declared.runner.Runner.{Runner}
 use Rattle.term_runner.specs.Caches.{all_entries}
-use Rattle.term_runner.specs.Held.{IsOver}
-use Rattle.term_runner.specs.Runner.{IsRunner, OwnsTerms}
+use Rattle.term_runner.specs.Held.{HasUnits, IsOver}
+use Rattle.term_runner.specs.Runner.{IsRunner, OwnsTerms, refusal_of}
 use Rattle.term_runner.specs.Unused.{IsUnused}
 use Rattle.term_runner.proofs.Giving.{units_none}
 use Rattle.term_runner.proofs.Opening.{StartClauses, over_at}
@@ -44,9 +47,15 @@ unused_runner there none_above opening runner unused =
         size = unused.size;
         numbers = omega (arith, ap (λ (s : State). s.top) unused.book.state);
         variables = subst (AreStepsUpTo (formula.vars + runner.limits.max_nodes)) (sym unused.book.steps) tt;
+        leads = ap (after_steps (start formula.clauses)) unused.book.steps ∙ sym unused.book.state;
+        conserves = subst (λ (steps : List Step). are_conservative formula.vars (start formula.clauses) steps ≡ true) (sym
+            unused.book.steps)
+            refl;
       };
       proved = λ held among. absurd (omega (arith, among.1));
-      units = units_none table (all_entries runner.terms.caches) [] over.sound fresh refl;
+      units = subst (λ (ids : List ℕ). HasUnits table (all_entries runner.terms.caches) (map refusal_of ids)) (sym unused.none_refused)
+          (units_none table (all_entries runner.terms.caches) [] over.sound fresh refl);
+      refusals = λ id there. absurd (omega (arith, (subst (λ (ids : List ℕ). Contains ids id) unused.none_refused there).1));
       no_trail = unused.no_trail;
       kept = λ held is. absurd (let e : None ≡ Some held = sym unused.none_kept ∙ is in cc);
       refuted = λ is. absurd (let e : false ≡ true = sym unused.unrefuted ∙ is in cc);

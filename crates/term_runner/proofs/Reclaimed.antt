@@ -1,11 +1,12 @@
 -- A reclamation between moves: the nodes of the stacked terms and of the trail, which are its roots, stay with their
 -- functions, and so do the terms' units.
-use Rattle.std.proofs.Common.{◌≡◌, ◌⊎◌, ◌∙◌, ◌+◌, ◌||◌, ℕ, zero, suc, ℤ, pos, nat_abs, true, false, List, [], ◌∷◌, length, map, reverse}
+use Rattle.std.proofs.Common.{◌≡◌, ◌⊎◌, ◌∙◌, ◌+◌, ◌++◌, ◌||◌, ℕ, zero, suc, ℤ, pos, nat_abs, true, false, List, [], ◌∷◌, length, map}
+use Rattle.std.proofs.Common.{reverse}
 use Rattle.std.proofs.Common.{Option, None, Some, Contains, is_some, int_eq, refl, sym, ap, subst, arith, inl, inr}
 use Rattle.std.specs.List.{list_any}
 use Rattle.std.proofs.lemmas.Bool.{or_cases}
 use Rattle.std.proofs.lemmas.Bool.Decides.{Decides-int_eq}
-use Rattle.std.proofs.lemmas.List.{reverse-reverse}
+use Rattle.std.proofs.lemmas.List.{append-nil, reverse-reverse}
 use Rattle.std.proofs.lemmas.List.Elements.{Contains-append_cases, Contains-append_left, Contains-append_right}
 use Rattle.cnf_base.specs.Truth.{Assignment}
 use Rattle.cnf_base.specs.Formula.{Formula}
@@ -35,7 +36,9 @@ use Rattle.term_runner.specs.Held.{AreHeld, HasUnits, IsAt, IsHeld, IsOver, IsUn
 use Rattle.reconstruction.specs.declared.entries.Kept.{Kept}
 use Rattle.term_runner.specs.Trail.{AreKept, IsTrail}
 use Rattle.term_runner.specs.Tidy.{LeavesReached, held_nodes}
-use Rattle.term_runner.proofs.OwnUnits.{later}
+use Rattle.term_runner.specs.Runner.{IsRefusal, refusal_of}
+use Rattle.term_runner.proofs.OwnUnits.{later, same_clause}
+use Rattle.term_runner.proofs.Refusals.{which_refusal}
 use Rattle.term_runner.proofs.Trails.{in_reverse}
 
 -- what is in a list that is mapped, and in one that is reversed
@@ -321,8 +324,9 @@ unit_variable graph (Inner key) clause is literal any = of_branch (branch_at gra
         ]
 
 -- No clause stands in the way, where the nodes of those that own one are roots.
-module _ {S : Type 0} (table : TableState S) (kept : List Entry) (owners : List HeldTerm) (roots : List Node)
-    (reduced : IsReduced table.graph) (has : HasUnits table kept owners)
+module _ {S : Type 0} (table : TableState S) (kept : List Entry) (owners : List HeldTerm) (refusals : List ℕ) (roots : List Node)
+    (reduced : IsReduced table.graph) (has : HasUnits table kept (owners ++ map refusal_of refusals))
+    (refused : (id : ℕ) → Contains refusals id → IsRefusal table.graph table.book.state.live id)
     (proved : (held : HeldTerm) → Contains owners held → IsProved table.graph table.book.state.live held)
     (root : (held : HeldTerm) → Contains owners held → (held.node ≡ False) ⊎ Contains roots held.node) where
   -- the unit of a term is over its node
@@ -344,10 +348,27 @@ module _ {S : Type 0} (table : TableState S) (kept : List Entry) (owners : List 
         }
       ]
 
+  -- the clause of a refused cube is over no node
+  over_none : (id : ℕ) (clause : List ℤ) → clause_at table.book.state.live id ≡ Some clause → Contains refusals id
+      → IsOverReached table.graph roots clause
+  over_none id clause is there literal any key branch stands same =
+      let refusal = refused id there in
+      let here : Some refusal.clause ≡ Some clause = sym refusal.stands ∙ is in
+      let clause_is : refusal.clause ≡ clause = cc in
+      let small = refusal.over literal (ap (list_any (int_eq literal)) clause_is ∙ any) in
+      let large = reduced.above key branch stands in
+      absurd (omega (arith, small, large, same))
+
   pub may_reclaim_owned : MayReclaim table kept roots
   may_reclaim_owned id clause is added = elim (has.known id added) [
     | inl accounted ↦ inl accounted
-    | inr by ↦ inr (over_unit id clause is by)
+    | inr by ↦ inr (elim (Contains-append_cases owners (map refusal_of refusals) by.held by.stacked) [
+      | inl owner ↦ over_unit id clause is (record { held = by.held; stacked = owner; unit = by.unit })
+      | inr refusal ↦
+          let which = which_refusal refusals by.held refusal in
+          let id_is : which.0 ≡ id = same_clause which.0 id (sym (ap (λ (h : HeldTerm). h.unit) which.2) ∙ by.unit) in
+          over_none id clause is (subst (Contains refusals) id_is which.1)
+    ])
   ]
 
 -- so it is of stacked terms
@@ -355,7 +376,8 @@ pub may_reclaim : {S : Type 0} (formula : Formula) (table : TableState S) (kept 
     (trail : Stack) (stage : Stage) → IsReduced table.graph → HasUnits table kept (reverse stack)
     → IsAt formula table.graph table.book.state.live stack trail stage → MayReclaim table kept (held_nodes stack trail.recent)
 may_reclaim formula table kept stack trail stage reduced has at =
-    may_reclaim_owned table kept (reverse stack) (held_nodes stack trail.recent) reduced has
+    may_reclaim_owned table kept (reverse stack) [] (held_nodes stack trail.recent) reduced
+    (subst (HasUnits table kept) (sym (append-nil (reverse stack))) has) (λ id there. absurd (omega (arith, there.1)))
     (λ held among. let term = held_term formula table.graph table.book.state.live (reverse stack) stage.stack at.held held among in
     record { stands = term.2.is.stands; unit = term.2.is.proved })
     (λ held among. inr (held_root stack trail.recent held among))

@@ -1,13 +1,13 @@
 -- A term is released: it is out no more, and its clause is retired, or kept where it is the first empty one.
-use Rattle.std.proofs.Common.{◌≡◌, ◌∙◌, ◌<◌, ◌+◌, ◌++◌, ℕ, suc, List, [], ◌∷◌, Contains, Option, None, Some, length, take, drop}
+use Rattle.std.proofs.Common.{◌≡◌, ◌≢◌, ◌∙◌, ◌<◌, ◌+◌, ◌++◌, ℕ, suc, List, [], ◌∷◌, Contains, Option, None, Some, length, take, drop}
 use Rattle.std.proofs.Common.{refl, sym, ap, subst, arith, inl, inr}
 use Rattle.std.specs.Prelude.{get_or}
 use Rattle.std.specs.Option.{option_to_list}
 use Rattle.std.proofs.lemmas.List.{append-nil, append_assoc, drop_more, take-append-drop}
-use Rattle.std.proofs.lemmas.List.Elements.{Contains-append_right}
+use Rattle.std.proofs.lemmas.List.Elements.{Contains-append_left, Contains-append_right}
 use Rattle.lrat_rules.specs.State.{clause_at}
 use Rattle.clause_ledger.specs.Told.{told_origin}
-use Rattle.node_table.specs.declared.node.Node.TheVariants.{False}
+use Rattle.node_table.specs.declared.node.Node.TheVariants.{False, True}
 use Rattle.node_table.specs.declared.node.Justification.TheVariants.{Trivial}
 use Rattle.node_table.specs.Laws.{StepByStep}
 use Rattle.node_table.specs.Progress.{Continues, Steps}
@@ -18,8 +18,9 @@ use Rattle.term_runner.specs.declared.runner.Runner.{Runner}
 use Rattle.term_runner.specs.Caches.{all_entries}
 use Rattle.term_runner.specs.Finds.{IsProved}
 use Rattle.term_runner.specs.Held.{HasUnits, RetiresBut}
-use Rattle.term_runner.specs.Runner.{HasFalse, IsRunner, OwnsTerms, Releases, owners, true_term}
-use Rattle.term_runner.proofs.Owners.{among_here, among_others, units_back, units_front, units_less, which_among}
+use Rattle.term_runner.specs.Runner.{HasFalse, IsRefusal, IsRunner, OwnsTerms, Releases, owners, refusals_of, true_term}
+use Rattle.term_runner.proofs.Refusals.{back_of, front_of}
+use Rattle.term_runner.proofs.Owners.{among_here, among_others, units_less, which_among}
 use Rattle.term_runner.proofs.Stacks.{over_after}
 use Rattle.term_runner.proofs.WithinLimits.{within_after}
 
@@ -59,10 +60,11 @@ module _ {S : Type 0} (old : Runner S) (runner : IsRunner old) (held : HeldTerm)
       | inr other ↦ among_others front behind held one (subst (λ (list : List HeldTerm). Contains list one) (append-nil (front ++ behind)) other)
     ]
 
-    units_last : HasUnits old.terms.table (all_entries old.terms.caches) ((front ++ behind) ++ held ∷ [])
-    units_last = units_back old.terms.table (all_entries old.terms.caches) (front ++ behind) [] held
-        (subst (λ (list : List HeldTerm). HasUnits old.terms.table (all_entries old.terms.caches) (held ∷ list)) (sym (append-nil (front ++ behind)))
-        (units_front old.terms.table (all_entries old.terms.caches) front behind held own_still.units))
+    units_last : HasUnits old.terms.table (all_entries old.terms.caches) (((front ++ behind) ++ held ∷ []) ++ refusals_of old)
+    units_last = back_of old.terms.table (all_entries old.terms.caches) (front ++ behind) [] (refusals_of old) held
+        (subst (λ (list : List HeldTerm). HasUnits old.terms.table (all_entries old.terms.caches) (held ∷ (list ++ refusals_of old)))
+        (sym (append-nil (front ++ behind)))
+        (front_of old.terms.table (all_entries old.terms.caches) front behind (refusals_of old) held own_still.units))
 
     some_inside : (one : HeldTerm) → ◌≡◌ {A = Option HeldTerm} (Some held) (Some one) → held ≡ one
     some_inside one is = cc
@@ -75,6 +77,7 @@ module _ {S : Type 0} (old : Runner S) (runner : IsRunner old) (held : HeldTerm)
           within = own_still.within;
           proved = λ one there. own_still.proved one (from one there);
           units = units_last;
+          refusals = own_still.refusals;
           no_trail = own_still.no_trail;
           kept = λ one is. subst (λ (h : HeldTerm). h.node ≡ False) (some_inside one is) is_false;
           refuted = λ is. record { held = held; among = among_here (front ++ behind) [] held; is_false = is_false };
@@ -87,12 +90,13 @@ module _ {S : Type 0} (old : Runner S) (runner : IsRunner old) (held : HeldTerm)
     pub releases_kept : Releases held old new
     releases_kept = record {
       goes_on = goes_on_kept;
-      out = inr (record { front = front; behind = behind; was = was; is = items });
+      out = inr ((λ is. let e : False ≡ True = sym is_false ∙ is in cc), record { front = front; behind = behind; was = was; is = items });
       table = here ∙ ap (λ (t : TableState S). record old.terms.table { retired = t.retired }) (sym here);
       caches = ap (λ (r : Runner S). r.terms.caches) same;
       formula = ap (λ (r : Runner S). r.formula) same;
       limits = ap (λ (r : Runner S). r.limits) same;
       refuted = ap (λ (r : Runner S). r.refuted) same;
+      refusals = ap (λ (r : Runner S). r.refusals) same;
       origin = ap (λ (t : TableState S). t.book.origin) here;
       continues = subst (λ (t : TableState S). Continues old.terms.table t) (sym here) continues;
     }
@@ -101,13 +105,14 @@ module _ {S : Type 0} (old : Runner S) (runner : IsRunner old) (held : HeldTerm)
   module _ (steps : StepByStep S) (fitting : Fitting S) (table : TableState S) (new : Runner S)
       (same : new ≡ record old { terms = record old.terms { table = table; out = new.terms.out } })
       (items : new.terms.out.items ≡ front ++ behind) (retires : RetiresBut old.terms.table table held.unit Trivial)
-      (more : Steps old.terms.table table 0 None) (other : held.node ≡ False → (one : HeldTerm) × (old.kept ≡ Some one)) where
+      (more : Steps old.terms.table table 0 None) (other : held.node ≡ False → (one : HeldTerm) × (old.kept ≡ Some one))
+      (not_true : held.node ≢ True) where
     abbrev rest : List HeldTerm
     rest = front ++ (behind ++ kept)
 
-    units_rest : HasUnits table (all_entries old.terms.caches) rest
-    units_rest = units_less old.terms.table table (all_entries old.terms.caches) held rest retires
-        (units_front old.terms.table (all_entries old.terms.caches) front (behind ++ kept) held own.units)
+    units_rest : HasUnits table (all_entries old.terms.caches) (rest ++ refusals_of old)
+    units_rest = units_less old.terms.table table (all_entries old.terms.caches) held (rest ++ refusals_of old) retires
+        (front_of old.terms.table (all_entries old.terms.caches) front (behind ++ kept) (refusals_of old) held own.units)
 
     -- an entry's clause isn't the one that is retired
     fits_rest : Fits table (all_entries old.terms.caches)
@@ -116,7 +121,8 @@ module _ {S : Type 0} (old : Runner S) (runner : IsRunner old) (held : HeldTerm)
         fitting.kept old.terms.table table (all_entries old.terms.caches) own.over.sound more.leaves.sound more.extends fits
         (λ id named gone. elim (retires.only id gone) [
           | inl before ↦ fits.unretired id named before
-          | inr this ↦ own.units.own held (among_here front (behind ++ kept) held) id this.0 (inr named)
+          | inr this ↦ own.units.own held (Contains-append_left (front ++ held ∷ (behind ++ kept)) (refusals_of old) held
+              (among_here front (behind ++ kept) held)) id this.0 (inr named)
         ])
 
     proved_rest : (one : HeldTerm) → Contains rest one → IsProved table.graph table.book.state.live one
@@ -152,6 +158,8 @@ module _ {S : Type 0} (old : Runner S) (runner : IsRunner old) (held : HeldTerm)
           table old.terms.caches more.leaves refl;
       proved = proved_rest;
       units = units_rest;
+      refusals = λ id there. subst (λ (t : TableState S). IsRefusal t.graph t.book.state.live id) (sym retires.same) (own.refusals id
+          there);
       no_trail = own.no_trail;
       kept = own.kept;
       refuted = λ is. false_yet (own.refuted is);
@@ -169,12 +177,13 @@ module _ {S : Type 0} (old : Runner S) (runner : IsRunner old) (held : HeldTerm)
         let here : new.terms.table ≡ table = ap (λ (r : Runner S). r.terms.table) same in
         record {
           goes_on = goes_on_rest;
-          out = inr (record { front = front; behind = behind; was = was; is = items });
+          out = inr (not_true, record { front = front; behind = behind; was = was; is = items });
           table = subst (λ (t : TableState S). t ≡ record old.terms.table { retired = t.retired }) (sym here) retires.same;
           caches = ap (λ (r : Runner S). r.terms.caches) same;
           formula = ap (λ (r : Runner S). r.formula) same;
           limits = ap (λ (r : Runner S). r.limits) same;
           refuted = ap (λ (r : Runner S). r.refuted) same;
+          refusals = ap (λ (r : Runner S). r.refusals) same;
           origin = ap (λ (t : TableState S). t.book.origin) here ∙ told_origin more.leaves.told;
           continues = subst (λ (t : TableState S). Continues old.terms.table t) (sym here) more.leaves;
         }
@@ -190,6 +199,7 @@ releases_true old held runner is continues = record {
   formula = refl;
   limits = refl;
   refuted = refl;
+  refusals = refl;
   origin = refl;
   continues = continues;
 }

@@ -103,3 +103,14 @@ module _ {S : Type 0} (old new : TableState S) (r : Result Justification TableEr
           | inr added ↦ added id named
         ]
       ]) last_of given
+
+  -- the same where there is one operand
+  pub added_one : IsSound old → (one : Atom) (u : Justification) → IsJustified old.book.state.live (one ∷ []) u
+      → IfOk r (λ unit. (unit ≡ u) ⊎ ((id : ℕ) → unit ≡ Clause id → IsAddedTo new id))
+      → IfOk r (λ unit. (id : ℕ) → unit ≡ Clause id → IsAddedTo new id)
+  added_one sound one u proved given = both_ok r _ _ _ (λ unit last by id named.
+      elim by [
+        | inl own ↦ absurd (let within = unit_within old sound one u id proved (sym own ∙ named) in let above = (last id named).1 in
+            omega (arith, within, above))
+        | inr added ↦ added id named
+      ]) last_of given

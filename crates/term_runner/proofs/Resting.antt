@@ -1,7 +1,9 @@
 -- A runner of which no term is out: the empty clause was added, or it owns no clause.
-use Rattle.std.proofs.Common.{◌≡◌, ◌++◌, true, false, List, [], ◌∷◌, length, reverse, Contains, Option, None, Some, refl, sym, subst, arith}
+use Rattle.std.proofs.Common.{◌≡◌, ◌++◌, true, false, List, [], ◌∷◌, length, map, reverse, Contains, Option, None, Some, refl, sym, subst}
+use Rattle.std.proofs.Common.{arith}
 use Rattle.std.specs.Option.{option_to_list}
 use Rattle.std.specs.Prelude.{IsTrue}
+use Rattle.std.proofs.lemmas.List.Elements.{Contains-append_left}
 use Rattle.node_table.specs.declared.node.Node.{Node}
 use Rattle.node_table.specs.declared.node.Node.TheVariants.{False}
 use Rattle.node_table.specs.declared.node.Justification.{Justification}
@@ -13,7 +15,7 @@ use Rattle.term_runner.specs.declared.runner.Runner.{Runner}
 use Rattle.term_runner.specs.Caches.{all_entries}
 use Rattle.term_runner.specs.Held.{HasUnits}
 use Rattle.term_runner.specs.Opened.{HasEmpty}
-use Rattle.term_runner.specs.Runner.{IsRunner, OwnsTerms, owners}
+use Rattle.term_runner.specs.Runner.{IsRunner, OwnsTerms, owners, refusal_of, refusals_of}
 use Rattle.term_runner.specs.Terms.{HasOwnUnits}
 use Rattle.term_runner.proofs.Owners.{among_here}
 
@@ -23,7 +25,7 @@ nothing (x ∷ list) none = absurd (let e : length (x ∷ list) ≡ 0 = none in 
 
 module _ {S : Type 0} (runner : Runner S) where
   -- the unit of a term that is False is an empty clause
-  empty_of : (terms : List HeldTerm) → OwnsTerms runner terms → (held : HeldTerm) → (among : Contains terms held) → held.node ≡ False
+  pub empty_of : (terms : List HeldTerm) → OwnsTerms runner terms → (held : HeldTerm) → (among : Contains terms held) → held.node ≡ False
       → HasEmpty runner.terms.table
   empty_of terms owns held among is =
       by_unit held.unit refl (subst (λ (node : Node). IsJustified runner.terms.table.book.state.live (atom_of runner.terms.table.graph node ∷ []) held.unit) is
@@ -34,7 +36,11 @@ module _ {S : Type 0} (runner : Runner S) where
       by_unit Trivial named proved = absurd (let e : false ≡ true = proved in cc)
       by_unit (Clause id) named proved = record {
         id = id;
-        above = (owns.units.added id (record { held = held; stacked = among; unit = named })).above;
+        above = (owns.units.added id (record {
+          held = held;
+          stacked = Contains-append_left terms (refusals_of runner) held among;
+          unit = named;
+        })).above;
         empty = proved.1;
       }
 
@@ -50,11 +56,12 @@ module _ {S : Type 0} (runner : Runner S) where
       let empty = empty_of (owners runner) is held here (is.kept held same) in
       absurd (is.unrefuted clean empty.id empty.above empty.empty)
 
-  pub owns_nothing : IsRunner runner → length runner.terms.out.items ≡ 0 → runner.refuted ≡ false → HasOwnUnits runner.terms
-  owns_nothing is none clean =
+  pub owns_nothing : IsRunner runner → length runner.terms.out.items ≡ 0 → runner.refusals.items ≡ [] → runner.refuted ≡ false
+      → HasOwnUnits runner.terms
+  owns_nothing is none given_up clean =
       subst (λ (list : List HeldTerm). HasUnits runner.terms.table (all_entries runner.terms.caches) (reverse list)) (sym empty)
       (subst (λ (list : List HeldTerm). HasUnits runner.terms.table (all_entries runner.terms.caches) list)
-      (λ k. empty k ++ option_to_list (none_kept is clean runner.kept refl k)) is.units)
+      (λ k. (empty k ++ option_to_list (none_kept is clean runner.kept refl k)) ++ map refusal_of (given_up k)) is.units)
     where
       empty : runner.terms.out.items ≡ []
       empty = nothing runner.terms.out.items none

@@ -110,7 +110,7 @@ filter_map f test (x ∷ xs) = go (test (f x)) (filter_map f test xs)
     go true same = ap (λ (l : List ℕ). f x ∷ l) same
     go false same = same
 
-filter_reverse : (test : ℕ → Bool) (xs : List ℕ) → filter test (reverse xs) ≡ reverse (filter test xs)
+pub filter_reverse : (test : ℕ → Bool) (xs : List ℕ) → filter test (reverse xs) ≡ reverse (filter test xs)
 filter_reverse test [] = refl
 filter_reverse test (x ∷ xs) = ap (filter test) (reverse-append (x ∷ []) xs) ∙ filter-append test (reverse xs) (x ∷ []) ∙ go (test x) (filter_reverse test xs)
   where

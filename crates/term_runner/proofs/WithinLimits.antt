@@ -1,8 +1,11 @@
 -- A proof that goes on stays within the limits.
-use Rattle.std.proofs.Common.{◌≡◌, ◌∙◌, ◌+◌, ◌++◌, ℕ, List, [], ◌∷◌, sym, subst, arith}
+use Rattle.std.proofs.Common.{◌≡◌, ◌∙◌, ◌+◌, ◌++◌, ℕ, true, List, [], ◌∷◌, sym, ap, subst, arith}
 use Rattle.cnf_base.specs.declared.step.Step.{Step}
 use Rattle.cnf_base.specs.Formula.{Formula}
-use Rattle.clause_ledger.specs.Told.{told_formula, told_steps}
+use Rattle.lrat_rules.specs.Conservative.{are_conservative}
+use Rattle.lrat_rules.specs.State.{State, start}
+use Rattle.clause_ledger.specs.Book.{Book, after_steps}
+use Rattle.clause_ledger.specs.Told.{after_steps-append, conservative_further, told_formula, told_steps}
 use Rattle.node_table.specs.Progress.{AreStepsUpTo, Continues}
 use Rattle.node_table.specs.Table.{TableState, last_variable}
 use Rattle.operations.specs.Entries.{Entry}
@@ -33,4 +36,11 @@ module _ {S : Type 0} (formula : Formula) (limits : Limits) (old : TableState S)
     variables = subst (AreStepsUpTo (formula.vars + limits.max_nodes)) (sym (told_steps more.told))
         (further_steps (formula.vars + limits.max_nodes) old.book.steps more.more within.variables
         (subst (λ (most : ℕ). AreStepsUpTo most more.more) last_is more.variables));
+    leads = ap (after_steps (start formula.clauses)) (told_steps more.told)
+        ∙ after_steps-append (start formula.clauses) old.book.steps more.more
+        ∙ ap (λ (s : State). after_steps s more.more) within.leads ∙ sym (ap (λ (b : Book S). b.state) more.told.is);
+    conserves = subst (λ (steps : List Step). are_conservative formula.vars (start formula.clauses) steps ≡ true) (sym (told_steps
+        more.told))
+        (conservative_further formula.vars (start formula.clauses) old.book.steps more.more within.conserves
+        ((λ i. are_conservative (sym over.vars i) (within.leads i) more.more) ∙ more.conserves));
   }

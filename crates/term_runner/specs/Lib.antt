@@ -17,4 +17,6 @@ pub mod Examples
 pub mod Trial
 pub mod Unused
 pub mod Runner
+pub mod Parity
 pub mod Sets
+pub mod Asked

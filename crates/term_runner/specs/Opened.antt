@@ -6,6 +6,7 @@ use Rattle.cnf_base.specs.declared.step.Step.{Step}
 use Rattle.cnf_base.specs.Truth.{AreClausesOf}
 use Rattle.cnf_base.specs.Formula.{Formula}
 use Rattle.host_io.specs.Channel.{Channel, Rose}
+use Rattle.lrat_rules.specs.Conservative.{are_conservative}
 use Rattle.lrat_rules.specs.State.{State, clause_at, start}
 use Rattle.lrat_rules.specs.Derivation.{IsCutProof, IsWritten, text_of}
 use Rattle.clause_ledger.specs.Book.{AreTold, Book, IsCutText, IsProofOf, addition, after_steps}
@@ -81,7 +82,7 @@ LeavesKind old new kind (Some table.IdLimit) = kind new.book.state
 LeavesKind old new kind (Some table.OutOfMemory) = kind new.book.state
 LeavesKind old new kind (Some table.WriteFault) = BreaksKind kind old.book new.book
 
--- The proof so far is of the formula, and within the limits.
+-- The proof so far is of the formula, and within the limits. Its steps are conservative.
 pub record IsWithinLimits {S : Type 0} (formula : Formula) (limits : Limits) (table : TableState S) (caches : Caches) : Type 0 where
   pub allowed : AreLimits limits
   pub of_formula : table.book.formula ≡ formula.clauses
@@ -90,6 +91,8 @@ pub record IsWithinLimits {S : Type 0} (formula : Formula) (limits : Limits) (ta
   pub size : HaveSize caches limits.cache
   pub numbers : table.book.state.top ≤ max (length formula.clauses) limits.max_ids
   pub variables : AreStepsUpTo (formula.vars + limits.max_nodes) table.book.steps
+  pub leads : after_steps (start formula.clauses) table.book.steps ≡ table.book.state
+  pub conserves : IsTrue (are_conservative formula.vars (start formula.clauses) table.book.steps)
 
 -- an empty clause is live that was added
 pub record HasEmpty {S : Type 0} (table : TableState S) : Type 0 where

@@ -1,19 +1,20 @@
 -- A runner between two calls that give, take or release terms, and what such a call promises. After a failed write nothing is asked
 -- of it but its sink.
-use Rattle.std.specs.Prelude.{◌≡◌, ◌≢◌, ◌⊎◌, ◌<◌, ◌+◌, ◌*◌, ◌++◌, ℕ, Bool, false, List, [], ◌∷◌, Contains, Some}
+use Rattle.std.specs.Prelude.{◌≡◌, ◌≢◌, ◌⊎◌, ◌<◌, ◌+◌, ◌*◌, ◌++◌, ℕ, ℤ, Bool, false, List, [], ◌∷◌, Contains, Some}
 use Rattle.std.specs.Prelude.{Result, Err, IfOk, IsErr, IsTrue, map}
 use Rattle.std.specs.Option.{option_to_list}
 use Rattle.cnf_base.specs.Truth.{Assignment}
-use Rattle.lrat_rules.specs.State.{clause_at}
+use Rattle.lrat_rules.specs.State.{Live, clause_at}
 use Rattle.node_table.specs.declared.error.TableError.{TableError}
 use Rattle.node_table.specs.declared.error.TableError.TheVariants.{NodeLimit}
 use Rattle.node_table.specs.declared.node.Node.{Node}
 use Rattle.node_table.specs.declared.node.Node.TheVariants.{False, True}
-use Rattle.node_table.specs.declared.node.Justification.TheVariants.{Trivial}
-use Rattle.node_table.specs.Diagram.{KeepsNodes, levels}
+use Rattle.node_table.specs.declared.node.Justification.TheVariants.{Clause, Trivial}
+use Rattle.node_table.specs.Diagram.{Graph, KeepsNodes, levels}
 use Rattle.node_table.specs.Made.{LacksPart, MakesOnly}
 use Rattle.node_table.specs.Progress.{Continues, Leaves, error_of}
 use Rattle.node_table.specs.Table.{AddsAtMost, UnlessTorn}
+use Rattle.node_table.specs.Tied.{IsUpTo}
 use Rattle.node_table.specs.Value.{Levels, by_level, value_of}
 use Rattle.operations.specs.Budget.{most_additions}
 use Rattle.clause_terms.specs.Term.{IsTerm}
@@ -35,19 +36,34 @@ true_term = record { node = True; unit = Trivial }
 abbrev pub owners : {S : Type 0} → Runner S → List HeldTerm
 owners runner = runner.terms.out.items ++ option_to_list runner.kept
 
+-- The clause of a cube that was refused, under its number, as what owns it: True, which needs none.
+abbrev pub refusal_of : ℕ → HeldTerm
+refusal_of id = record { node = True; unit = Clause id }
+
+abbrev pub refusals_of : {S : Type 0} → Runner S → List HeldTerm
+refusals_of runner = map refusal_of runner.refusals.items
+
+-- the clause is live, and over the formula's variables alone
+pub record IsRefusal (graph : Graph) (live : Live) (id : ℕ) : Type 0 where
+  pub clause : List ℤ
+  pub stands : clause_at live id ≡ Some clause
+  pub over : IsUpTo (levels graph) clause
+
 -- one of these terms is False
 pub record HasFalse (terms : List HeldTerm) : Type 0 where
   pub held : HeldTerm
   pub among : Contains terms held
   pub is_false : held.node ≡ False
 
--- Between two calls: the table is over the formula, and within the limits; each term that owns a clause is proved, its clause is its own, and no clause
--- that was added is lost. The empty clause was added exactly where the runner says so, and then one of these terms is False.
+-- Between two calls: the table is over the formula, and within the limits; each term that owns a clause is proved, its clause is its own,
+-- those of refused cubes stand, and no clause that was added is lost. The empty clause was added exactly where the runner says so, and
+-- then one of these terms is False.
 pub record OwnsTerms {S : Type 0} (runner : Runner S) (terms : List HeldTerm) : Type 0 where
   pub over : IsOver runner.formula.now runner.terms.table (all_entries runner.terms.caches)
   pub within : IsWithinLimits runner.formula.now runner.limits runner.terms.table runner.terms.caches
   pub proved : (held : HeldTerm) → Contains terms held → IsProved runner.terms.table.graph runner.terms.table.book.state.live held
-  pub units : HasUnits runner.terms.table (all_entries runner.terms.caches) terms
+  pub units : HasUnits runner.terms.table (all_entries runner.terms.caches) (terms ++ refusals_of runner)
+  pub refusals : (id : ℕ) → Contains runner.refusals.items id → IsRefusal runner.terms.table.graph runner.terms.table.book.state.live id
   pub no_trail : runner.terms.trail ≡ empty_stack
   pub kept : (held : HeldTerm) → runner.kept ≡ Some held → held.node ≡ False
   pub refuted : IsTrue runner.refuted → HasFalse terms
@@ -63,17 +79,18 @@ IsGood runner held = (held ≡ true_term) ⊎ Contains runner.terms.out.items he
 
 -- the term came onto the list of those that are out, or it is True and the list is as it was
 abbrev pub IsListed : List HeldTerm → List HeldTerm → HeldTerm → Type 0
-IsListed before after held = ((held ≡ true_term) × (after ≡ before)) ⊎ (after ≡ before ++ held ∷ [])
+IsListed before after held = ((held ≡ true_term) × (after ≡ before)) ⊎ ((held.node ≢ True) × (after ≡ before ++ held ∷ []))
 
 -- whether a term of this runner holds
 abbrev pub holds_in : {S : Type 0} → Runner S → HeldTerm → Assignment → Bool
 holds_in runner held a = value_of runner.terms.table.graph (by_level runner.terms.table.graph.order a) held.node
 
--- only the terms that are out, and what was added, changed; the proof goes to the same sink
+-- only the terms that are out, and what was added, changed; no cube was refused; the proof goes to the same sink
 pub record IsSameRun {S : Type 0} (old new : Runner S) : Type 0 where
   pub formula : new.formula ≡ old.formula
   pub limits : new.limits ≡ old.limits
   pub kept : new.kept ≡ old.kept
+  pub refusals : new.refusals ≡ old.refusals
   pub sizes : sizes new.terms.caches ≡ sizes old.terms.caches
   pub origin : new.terms.table.book.origin ≡ old.terms.table.book.origin
 
@@ -109,12 +126,14 @@ pub record IsWithout (held : HeldTerm) (before after : List HeldTerm) : Type 0 w
 -- A term was released: it is out no more, and its clause is retired, unless it is the first empty one. All else is as it was.
 pub record Releases {S : Type 0} (held : HeldTerm) (old new : Runner S) : Type 0 where
   pub goes_on : IsRunner new
-  pub out : ((held ≡ true_term) × (new.terms.out.items ≡ old.terms.out.items)) ⊎ IsWithout held old.terms.out.items new.terms.out.items
+  pub out : ((held ≡ true_term) × (new.terms.out.items ≡ old.terms.out.items))
+      ⊎ ((held.node ≢ True) × IsWithout held old.terms.out.items new.terms.out.items)
   pub table : new.terms.table ≡ record old.terms.table { retired = new.terms.table.retired }
   pub caches : new.terms.caches ≡ old.terms.caches
   pub formula : new.formula ≡ old.formula
   pub limits : new.limits ≡ old.limits
   pub refuted : new.refuted ≡ old.refuted
+  pub refusals : new.refusals ≡ old.refusals
   pub origin : new.terms.table.book.origin ≡ old.terms.table.book.origin
   pub continues : Continues old.terms.table new.terms.table
 

@@ -25,6 +25,7 @@ pub record IsUnused {S : Type 0} (runner : Runner S) : Type 0 where
   pub none_left : runner.terms.left ≡ 0
   pub unrefuted : runner.refuted ≡ false
   pub none_kept : runner.kept ≡ None
+  pub none_refused : runner.refusals.items ≡ []
 
 -- A runner was opened over this formula, order and sink, within these limits.
 pub record IsOpenedOver {S : Type 0} (formula : Formula) (order : List ℕ) (limits : Limits) (sink : S) (runner : Runner S) : Type 0 where

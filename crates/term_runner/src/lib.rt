@@ -4,8 +4,10 @@
 //! `reconstruction` for the terms of quantified variables.
 #![tactic(auto)]
 
+mod ask;
 mod caches;
 mod capacity;
+mod cube;
 mod decide;
 mod error;
 mod examples;
@@ -16,6 +18,7 @@ mod held;
 mod moves;
 mod open;
 mod outcome;
+mod parity;
 mod progress;
 mod reclamation;
 mod run;
@@ -25,6 +28,7 @@ mod term;
 mod terms;
 mod trial;
 mod unit;
+mod weaker;
 
 pub use clause_terms::{Model, Trail, push_clause, recover};
 pub use error::RunError;

@@ -21,7 +21,7 @@ use crate::outcome::{Run, outcome_of};
 use crate::progress::Progress;
 use crate::terms::Terms;
 use clause_ledger::Ledger;
-use cnf_base::{Cnf, OutOfMemory};
+use cnf_base::{Cnf, Id, OutOfMemory};
 use host_io::Sink;
 use lrat_rules::{derivation_law, soundness_law, start_law};
 use node_table::{Diagram, Table, canonical_law, in_use_law, opening_law};
@@ -59,6 +59,8 @@ pub struct Runner<'a, S: Sink + Drop> {
     pub(crate) refuted: bool,
     // The first term that was False, once it is released: its clause stays.
     pub(crate) kept: Option<HeldTerm>,
+    // The clauses of cubes that were refused, which stay.
+    pub(crate) refusals: Vec<Id>,
 }
 
 impl<'a, S: Sink + Drop> Runner<'a, S> {
@@ -107,16 +109,18 @@ impl<'a, S: Sink + Drop> Runner<'a, S> {
         let Parts { diagram, caches } = parts;
         let ledger = Ledger::new(formula, sink, limits.max_ids);
         let table = Table::new(alloc, ledger, diagram, limits.max_nodes);
+        let refusals = Vec::new(alloc);
         Runner {
             formula,
             limits,
             terms: Terms::new(alloc, table, caches),
             refuted: false,
             kept: None,
+            refusals,
         }
     }
 
-    /// Runs a plan and flushes the proof, once all terms are released. What they left is given back before the first move, so that the
+    /// Runs a plan and flushes the proof, once all terms are released. What they and cubes left is given back before the first move, so that the
     /// plan's nodes and clauses are all that count then; the numbers that they took stay. Where the empty clause was added the answer is
     /// `Unsat` at once. In a runner that no term was asked of it ends as `run_plan` does.
     pub fn run(self, plan: &Plan) -> (S, Result<Run, RunError>)
@@ -161,13 +165,16 @@ impl<'a, S: Sink + Drop> Runner<'a, S> {
         soundness_law();
         in_use_law();
         canonical_law();
+        let mut runner = self;
+        runner.give_up_refusals();
         let Runner {
             formula,
             limits,
             mut terms,
             refuted,
             kept: _,
-        } = self;
+            refusals: _,
+        } = runner;
         formula.formula_law();
         terms.table.ledger().book_law();
         let found = terms.decide(refuted, formula, plan, limits.cache, progress);

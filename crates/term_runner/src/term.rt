@@ -10,6 +10,7 @@ ghost use Rattle.node_table.specs.Table.{AddsAtMost, UnlessTorn, live_nodes};
 ghost use Rattle.node_table.specs.Value.{Levels};
 ghost use Rattle.apply_and.specs.Conjunction.{conjunction_of};
 ghost use Rattle.schedule_plan.specs.Plan.{input as input_term, term_holds};
+ghost use Rattle.term_runner.specs.Caches.{sizes};
 ghost use Rattle.term_runner.specs.declared.held.HeldTerm.{HeldTerm as HeldValue};
 ghost use Rattle.term_runner.specs.declared.runner.Runner.{Runner as RunnerValue};
 ghost use Rattle.term_runner.specs.Runner.{Gives, IsGood, IsListed, IsRunner, Releases, holds_in, nodes_of, true_term};
@@ -32,7 +33,7 @@ use reclaim::reclaim;
 /// A term that a runner gave. It goes back by `release` alone.
 #[derive(Debug, Drop)]
 pub struct Term {
-    held: HeldTerm,
+    pub(crate) held: HeldTerm,
 }
 
 impl Term {
@@ -85,6 +86,13 @@ impl<'a, S: Sink + Drop> Runner<'a, S> {
         self.terms.out.len()
     }
 
+    /// How many nodes there are.
+    pub fn live(&self) -> u32
+        ensures { result ≡ live_nodes self.now.terms.table.graph }
+    {
+        self.terms.table.live()
+    }
+
     /// Takes a term back. Its unit is retired, but for the first empty clause; after a failed write nothing changes.
     pub fn release(&mut self, term: Term)
         requires runner { IsTrue self.old.terms.table.book.in_step → IsRunner self.old }
@@ -128,7 +136,9 @@ impl<'a, S: Sink + Drop> Runner<'a, S> {
         ensures kept { OnErr result (self.new.terms.table.graph ≡ self.old.terms.table.graph) }
         ensures top { self.new.terms.table.book.state.top ≡ self.old.terms.table.book.state.top }
         ensures same { (self.new.terms.out ≡ self.old.terms.out) × (self.new.formula ≡ self.old.formula)
-            × (self.new.limits ≡ self.old.limits) × (self.new.refuted ≡ self.old.refuted) × (self.new.kept ≡ self.old.kept) }
+            × (self.new.limits ≡ self.old.limits) × (self.new.refuted ≡ self.old.refuted) × (self.new.kept ≡ self.old.kept)
+            × (self.new.refusals ≡ self.old.refusals) }
+        ensures sizes { sizes self.new.terms.caches ≡ sizes self.old.terms.caches }
         ensures origin { self.new.terms.table.book.origin ≡ self.old.terms.table.book.origin }
         ensures leaves { Leaves self.old.terms.table self.new.terms.table (error_of result) }
         ensures error { IfErr result (λ e. (e ≡ OutOfMemory) ⊎ (e ≡ WriteFault)) }
@@ -194,8 +204,8 @@ impl<'a, S: Sink + Drop> Runner<'a, S> {
         Ok(Term { held })
     }
 
-    // Puts a term on the list of those that are out, for which there is room, unless it is True.
-    fn place(&mut self, held: &HeldTerm)
+    /// Puts a term on the list of those that are out, for which there is room, unless it is True.
+    pub(crate) fn place(&mut self, held: &HeldTerm)
         requires room { vec_len self.old.terms.out < vec_capacity self.old.terms.out }
         requires true_alone { held.now.node ≡ True → held.now.unit ≡ Justification.Trivial }
         ensures listed { IsListed self.old.terms.out.items self.new.terms.out.items held.now }
@@ -214,13 +224,17 @@ impl<'a, S: Sink + Drop> Runner<'a, S> {
         self.terms.out.push_reserved(*held);
     }
 
-    // Deletes the retired clauses behind a call, but where it broke off for want of memory or of numbers.
-    fn settle(&mut self, found: Result<Term, TableError>) -> Result<Term, TableError>
+    /// Deletes the retired clauses behind a call, but where it broke off for want of memory or of numbers.
+    pub(crate) fn settle(&mut self, found: Result<Term, TableError>) -> Result<Term, TableError>
         requires runner { UnlessTorn found (IsRunner self.old) }
         ensures gives { (function : Levels → Bool) (holds : Assignment → Bool) (operands : List HeldValue) (old : RunnerValue S)
             → Gives function holds operands old self.old found → Gives function holds operands old self.new result }
         ensures adds { (most : ℕ) (old : RunnerValue S) → AddsAtMost most old.terms.table self.old.terms.table
             → AddsAtMost most old.terms.table self.new.terms.table }
+        // What was found is given, unless a write failed; nodes and terms stay.
+        ensures given { (result ≡ found) ⊎ (result ≡ Err WriteFault) }
+        ensures nodes { self.new.terms.table.graph ≡ self.old.terms.table.graph }
+        ensures out { self.new.terms.out ≡ self.old.terms.out }
     {
         steps_law::<S>();
         entry_law::<S>();
@@ -232,8 +246,8 @@ impl<'a, S: Sink + Drop> Runner<'a, S> {
     }
 }
 
-// Whether a call came to its end, or to the limit of nodes.
-fn has_ended(found: &Result<Term, TableError>) -> bool
+/// Whether a call came to its end, or to the limit of nodes.
+pub(crate) fn has_ended<T>(found: &Result<T, TableError>) -> bool
     ensures { IsTrue result → (error_of found.now ≡ None) ⊎ (error_of found.now ≡ Some NodeLimit) }
 {
     match found {

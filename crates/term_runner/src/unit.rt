@@ -114,6 +114,7 @@ pub fn unit_of_implied<S: Sink + Drop>(
         × (table.new.book.state.top ≡ table.old.book.state.top + 1)) }
     ensures nodes { table.new.graph ≡ table.old.graph }
     ensures steps { Steps table.old table.new 1 (error_of result) }
+    ensures none_added { IfErr result (λ e. e ≢ WriteFault → AddsNone table.old table.new) }
     ensures retired { table.new.retired ≡ table.old.retired }
     ensures no_node_limit { result ≢ Err NodeLimit }
 {
@@ -176,8 +177,8 @@ pub fn own_unit<S: Sink + Drop>(
     unit_of(table, u, v, w, just)
 }
 
-// Adds the clause of a node alone once more, where it is live.
-fn add_again<S: Sink + Drop>(
+/// Adds the clause of a node alone once more, where it is live.
+pub fn add_again<S: Sink + Drop>(
     table: &mut Table<S>,
     w: Node,
     unit: &Justification,
@@ -265,8 +266,8 @@ pub(crate) fn is_same(one: Node, other: Node) -> bool
     one == other
 }
 
-// The clause that a justification names.
-fn clause_id(just: &Justification) -> Option<Id>
+/// The clause that a justification names.
+pub fn clause_id(just: &Justification) -> Option<Id>
     ensures { MatchOption result (just.now ≡ Trivial) (λ id. just.now ≡ Clause id) }
 {
     match just {

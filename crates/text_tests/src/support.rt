@@ -1,5 +1,6 @@
 // What the tests share: rows and the texts in them; literals, numbers, orders and moves as text.
 use cnf_base::{Cnf, Id, Lit};
+use cube_text::Cubes;
 use schedule_plan::{Order, Plan};
 use std::alloc::{AllocError, Global};
 use std::test::Fail;
@@ -36,6 +37,15 @@ pub fn push_ids(out: &mut String, ids: &[Id]) -> Result<(), AllocError> {
 pub fn push_clauses(out: &mut String, formula: &Cnf) -> Result<(), AllocError> {
     for place in 0..formula.len() {
         push_literals(out, formula.clause(place + 1))?;
+        out.push_str(" 0")?;
+    }
+    Ok(())
+}
+
+/// Puts cubes with their zeros.
+pub fn push_cubes(out: &mut String, cubes: &Cubes) -> Result<(), AllocError> {
+    for place in 0..cubes.len() {
+        push_literals(out, cubes.cube(place + 1))?;
         out.push_str(" 0")?;
     }
     Ok(())

@@ -1,7 +1,10 @@
 // What is read: tokens, formulas, orders, schedules and the steps of proofs, in pieces of one byte, of three, and whole. The expected
 // answers are those of the formats' rules.
-use crate::support::{cut, push_clauses, push_ids, push_literals, push_moves, push_order, text_of};
+use crate::support::{
+    cut, push_clauses, push_cubes, push_ids, push_literals, push_moves, push_order, text_of,
+};
 use cnf_base::{Cnf, Group, Id, IdList, LitList, OutOfMemory, Step};
+use cube_text::read_cubes;
 use dimacs_reader::{Mode, read_cnf};
 use drat_text::{DratReader, DratStep};
 use host_io::SliceSource;
@@ -17,10 +20,10 @@ use text_scan::{Scanner, Token};
 const FORMULA: &[u8] = b"p cnf 3 3\n1 -2 0\n2 -3 0\n3 0";
 
 // A format, a text, and what it is. Each token stands behind its line, a long one marked; a formula behind the number of its variables;
-// an order is of three variables; a schedule is one for the formula above. A step is told by its line, its number, `+` with the literals
-// and the hints, each group by its candidate, or `-` with the numbers; one of DRAT by its line, and `+` or `-` with the literals. Behind
-// tokens and steps stands the end or the error, and which line is told. Behind `=` stands how many bytes the text may have. The last row
-// has the texts of errors that no text leads to.
+// an order and cubes are of three variables; a schedule is one for the formula above. A step is told by its line, its number, `+` with
+// the literals and the hints, each group by its candidate, or `-` with the numbers; one of DRAT by its line, and `+` or `-` with the
+// literals. Behind tokens and steps stands the end or the error, and which line is told. Behind `=` stands how many bytes the text may
+// have. The last row has the texts of errors that no text leads to.
 const TEXTS: &str = "\
 tokens=9;; end 1
 tokens=9;/ \t\r/; end 3
@@ -98,6 +101,17 @@ order;2 1/3 0/;line 2: Range
 order;-1 2 3/;line 1: BadNumber
 order;1 2 3 3/;line 1: Repeated
 order;;line 1: Missing
+cubes;;
+cubes;# none but this/0/; 0
+cubes;1 -2 0/3 0 0/; 1 -2 0 3 0 0
+cubes;1/# between/ 2\r/0 -3 0; 1 2 0 -3 0
+cubes;1 1 02 0; 1 1 2 0
+cubes;1 0 -1 0; 1 0 -1 0
+cubes;1 2 -1 0;line 1: BothSigns
+cubes;1 -2 0/-3 2/3 0/;line 3: BothSigns
+cubes;1 0/-4 0/;line 2: LiteralRange
+cubes;1 0/2/;line 3: NoEndingZero
+cubes;1 0/% 0/;line 2: BadToken
 schedule;c 1/q 1/c 2/a 2/q 2/c 3/a 2/q 3/;Push(1) Exists(1) Push(2) And Exists(2) Push(3) And Exists(3) 
 schedule;# all at once// c 3 1 002/  # a/a 3/q 3 1 2;Push(3) Push(1) Push(2) And And Exists(3) Exists(1) Exists(2) 
 schedule;c 1/q 1 1/c 2 3/a 2/a 2/;Push(1) Exists(1) Exists(1) Push(2) Push(3) And And 
@@ -207,6 +221,9 @@ lax;p cnf 1 1/1 0/% 1;1: 1 0
 order;2 x 1;line 1: BadNumber
 order;4 1;line 1: Range
 order;2/2 1;line 2: Repeated
+cubes;1 0 x 1;line 1: BadToken
+cubes;1/4 1;line 2: LiteralRange
+cubes;1 2/-1 0;line 2: BothSigns
 schedule;c 4/a 2;line 1: ClauseRange
 schedule;# x/q 1/c 1;line 2: StackShort
 schedule;c 1/q 2/x x;line 2: VariableInUse
@@ -217,6 +234,7 @@ const FAULTS: &str = "\
 strict;p cnf 2 2/c a note/1 -2 0/2 0/;a read failed
 lax;p cnf 2 2/c a note/1 -2 0/2 0/;a read failed
 order;# of three variables:/3  2  1/;a read failed
+cubes;# of two cubes:/1 -2 0/3  1 0/;a read failed
 schedule;# all are at once/c 1 2 3/a 3/;a read failed
 steps=1000;c a proof of one/3 1 0  2  0 /; a read failed 1";
 
@@ -307,6 +325,13 @@ fn formula(
 fn order(alloc: Global, out: &mut String, source: &mut SliceSource) -> Result<(), AllocError> {
     match Order::read(alloc, 3, source) {
         Ok(order) => push_order(out, &order),
+        Err(error) => write!(out, "{error}"),
+    }
+}
+
+fn cubes(alloc: Global, out: &mut String, source: &mut SliceSource) -> Result<(), AllocError> {
+    match read_cubes(alloc, 3, source) {
+        Ok(cubes) => push_cubes(out, &cubes),
         Err(error) => write!(out, "{error}"),
     }
 }
@@ -475,6 +500,7 @@ fn push_answer(
         "strict" => formula(alloc, out, Mode::Strict, source),
         "lax" => formula(alloc, out, Mode::Lax, source),
         "order" => order(alloc, out, source),
+        "cubes" => cubes(alloc, out, source),
         "schedule" => schedule(alloc, out, source),
         "steps" => steps(alloc, out, limit, source),
         "step" => first_step(alloc, out, source),

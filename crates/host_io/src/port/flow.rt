@@ -113,11 +113,16 @@ impl<W: Write + Drop> Output<W> {
         ensures name { name_out self.new ≡ name_out self.old }
         ensures tally { Answers tally.old tally.new result }
     {
-        let answer = tally.note(some_taken(self.stream.write(bytes), bytes));
-        if let Some(Ok(count)) = answer {
-            self.written = self.written.and(&bytes[..count]);
+        // What the buffer takes is told apart at once, since an answer of the system is a large value to hand on.
+        let count = match self.stream.write(bytes) {
+            Ok(count) => count,
+            Err(e) => return tally.note(Err(e)),
+        };
+        if count == 0 && !bytes.is_empty() {
+            return Some(Err(tally.fail()));
         }
-        answer
+        self.written = self.written.and(&bytes[..count]);
+        Some(Ok(count))
     }
 
     /// One flush.
@@ -134,17 +139,5 @@ impl<W: Write + Drop> Output<W> {
             self.flushed = self.written.and(&[]);
         }
         answer
-    }
-}
-
-// A write that takes nothing of a piece that isn't empty is a failure.
-fn some_taken(answer: io::Result<usize>, bytes: &[u8]) -> io::Result<usize>
-    ensures ok { IfOk result (λ n. answer ≡ Ok n) }
-    ensures progress { IfOk result (λ n. 0 < length bytes.now → 0 < n) }
-    ensures err { IfErr result (λ e. (answer ≡ Err e) ⊎ (answer ≡ Ok 0)) }
-{
-    match answer {
-        Ok(0) if !bytes.is_empty() => Err(io::Error::from(ErrorKind::WriteZero)),
-        answer => answer,
     }
 }

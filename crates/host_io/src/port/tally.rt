@@ -41,7 +41,8 @@ impl Tally {
         self.fail()
     }
 
-    fn fail(&mut self) -> Failed
+    /// A call failed.
+    pub(super) fn fail(&mut self) -> Failed
         ensures rises { Rises self.old self.new }
         ensures breaks { breaks_of self.new ≡ breaks_of self.old }
     {

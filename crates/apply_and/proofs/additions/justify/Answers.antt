@@ -12,18 +12,22 @@ use Rattle.node_table.specs.Diagram.{Graph, variable_at}
 use Rattle.node_table.specs.HandedOn.{handed_on, same_error}
 use Rattle.node_table.specs.Justification.{IsJustified}
 use Rattle.operations.specs.Accounts.{GivesOne, given_just}
+use Rattle.operations.specs.Additions.{AreBoth}
 use Rattle.operations.specs.Results.{conjunction_atoms}
-use Rattle.operations.specs.Sides.{cofactor_at}
-use Rattle.operations.specs.declared.parts.Side.TheVariants.{High, Low}
+use Rattle.operations.specs.Sides.{High, Low, cofactor_at}
 use Rattle.apply_and.proofs.Closed.{high_apart, high_clause, is_open, low_apart}
 use Rattle.apply_and.proofs.ConjunctionClauses.{conjunction_owned}
+use Rattle.apply_and.proofs.additions.justify.Given.{Over}
 use Rattle.apply_and.proofs.additions.justify.Goals as goal
+use Rattle.apply_and.proofs.additions.justify.Goals.{After-as_slice}
 
 nonzero_variable : (n : ℕ) → 0 < n → is_nonzero (pos n) ≡ true
 nonzero_variable n positive = grind (arith, positive)
 
-pub add_both-requires-clause-both : goal.add_both-requires-clause-both
-add_both-requires-clause-both g c =
+-- what both additions stand on
+abbrev both : (g : Over) (c : After-as_slice g) → AreBoth c.args.table.now.graph c.args.table.now.book.state.live c.args.operands.now.level
+    c.as_slice.result.now c.parts_of-high.result.0 c.parts_of-high.result.1
+both g c =
     let graph = c.args.table.now.graph in
     let live = c.args.table.now.book.state.live in
     let o = c.args.operands.now in
@@ -38,12 +42,16 @@ add_both-requires-clause-both g c =
     ≡ true = c.clause_law.ensures.among (conjunction_atoms graph o.u o.v w) clause is in
     let x = pos (variable_at graph o.level) in
     let within = c.operand_law.ensures.level graph tied.reduced o split in
-    let high = c.parts_of-high.ensures in
-    let low = c.parts_of-low.ensures in
+    let high = c.parts_of-high.ensures.high in
+    let low = c.parts_of-high.ensures.low in
     let behind = high_clause c.literal_law.ensures c.operand_law.ensures graph tied.reduced tied.ordered live o split w High c.args.high.now
     sides.on_high clause is among in
     let apart = low_apart c.literal_law.ensures c.operand_law.ensures graph tied.reduced tied.ordered live o split w High c.args.high.now
-    sides.on_high clause is among in record {
+    sides.on_high clause is among in
+    let both_apart = high_apart c.literal_law.ensures c.operand_law.ensures graph tied.reduced tied.ordered live o split w High
+    c.args.high.now sides.on_high clause is among in record {
+      highs = high.sides;
+      lows = low.sides;
       within = within;
       some = λ empty. c.literal_law.ensures.some graph o.u (neg_atom (atom_of graph o.v) ∷ atom_of graph w ∷ []) split.first
           (is ∙ ap Some empty);
@@ -52,19 +60,19 @@ add_both-requires-clause-both g c =
       owned = conjunction_owned c.literal_law.ensures graph o.u o.v w clause among;
       on_high = c.conjunction_law.ensures.high x (atom_of graph o.u) (atom_of graph o.v) (atom_of graph w)
           (atom_of graph (cofactor_at High graph o.level o.u)) (atom_of graph (cofactor_at High graph o.level o.v))
-          (atom_of graph (cofactor_at High graph o.level w)) (neg_ℤ x ∷ clause) _ _ _ _ behind
-          (c.closing_law.ensures.consistent (neg_ℤ x ∷ clause)
-          (high_apart c.literal_law.ensures c.operand_law.ensures graph tied.reduced tied.ordered live o split w High c.args.high.now
-          sides.on_high clause is among))
-          high.parts.up high.parts.first high.parts.second high.parts.children;
-      on_low = λ first own. c.conjunction_law.ensures.low x (atom_of graph o.u) (atom_of graph o.v) (atom_of graph w)
+          (atom_of graph (cofactor_at High graph o.level w)) (neg_ℤ x ∷ clause) _ high.sides behind
+          (c.closing_law.ensures.consistent (neg_ℤ x ∷ clause) both_apart) high.kept;
+      on_low = c.conjunction_law.ensures.low x (atom_of graph o.u) (atom_of graph o.v) (atom_of graph w)
           (atom_of graph (cofactor_at Low graph o.level o.u)) (atom_of graph (cofactor_at Low graph o.level o.v))
-          (atom_of graph (cofactor_at Low graph o.level w)) clause first _ _ _ _
-          (nonzero_variable (variable_at graph o.level) (tied.ordered.within o.level within).0) (behind ∙ ap Some (sym own)) is
-          (c.closing_law.ensures.consistent clause apart) low.parts.up low.parts.first low.parts.second low.parts.children;
-      high_live = high.live;
-      low_live = low.live;
+          (atom_of graph (cofactor_at Low graph o.level w)) clause _ low.sides
+          (nonzero_variable (variable_at graph o.level) (tied.ordered.within o.level within).0) is
+          (c.closing_law.ensures.consistent clause apart) (c.closing_law.ensures.apart x clause both_apart).1 low.kept;
+      high_live = high.are.stand;
+      low_live = low.are.stand;
     }
+
+pub add_both-requires-clause-both : goal.add_both-requires-clause-both
+add_both-requires-clause-both g c = both g (goal.at.add_both-requires-clause-both g c).After-as_slice
 
 pub returns-in_default-clause-gives : goal.returns-in_default-clause-gives
 returns-in_default-clause-gives g c untorn = c.high_clause_law.ensures.none c.args.table.now c.requires.sound
@@ -98,10 +106,10 @@ returns-clause-justified g c =
 pub returns-clause-told : goal.returns-clause-told
 returns-clause-told g c id same = record {
   clause = c.as_slice.result.now;
-  high = c.parts_of-high.result;
-  low = c.parts_of-low.result;
+  high = c.parts_of-high.ensures.high.sides;
+  low = c.parts_of-high.ensures.low.sides;
   is = sym c.conjunction_clause.ensures ∙ c.in-Some.is ∙ ap Some (sym c.as_slice.ensures.literals);
-  on_high = record { are = c.parts_of-high.ensures.parts; stand = c.parts_of-high.ensures.live };
-  on_low = record { are = c.parts_of-low.ensures.parts; stand = c.parts_of-low.ensures.live };
-  adds = c.in_ok-id.ensures.told;
+  on_high = c.parts_of-high.ensures.high.are;
+  on_low = c.parts_of-high.ensures.low.are;
+  adds = c.in_ok-id.ensures.told (both g (goal.at.returns-clause-told g c).After-as_slice);
 }

@@ -2,7 +2,7 @@
 use Rattle.std.proofs.Common.{rules, None, Some, ◌≡◌, ◌∙◌, ap, sym, refl, codes}
 use Rattle.std.specs.Prelude.{Option}
 use Rattle.clap.specs.Words.{Text, first_value, found_of, rows_of}
-use Rattle.command_line.specs.Command.{ToRewrite, mode_given, rewrite_among, to_rewrite}
+use Rattle.command_line.specs.Command.{mode_given, rewrite_among, to_rewrite}
 use Rattle.command_line.specs.Reading.{text_of}
 use Rattle.command_line.proofs.Meant.{ap₃, rewrite_values}
 use Rattle.command_line.proofs.rewrite.rewrite_among.Goals as goal

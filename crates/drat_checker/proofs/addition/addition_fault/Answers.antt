@@ -11,7 +11,8 @@ use Rattle.drat_checker.proofs.Visited.{more-false}
 use Rattle.drat_checker.proofs.addition.addition_fault.Goals as goal
 
 -- the clause's literals alone, or behind the roots
-with-roots : ForcedLaw → (clauses : List (List ℤ)) (roots clause : List ℤ) → Derives clauses [] roots → SameQuiet clauses clause (roots ++ clause)
+with-roots : ForcedLaw → (clauses : List (List ℤ)) (roots clause : List ℤ) → Derives clauses [] roots
+    → SameQuiet clauses clause (roots ++ clause)
 with-roots forced clauses roots clause are = same-behind clauses [] roots clause (derives-same forced are)
 
 pub returns-then-refuted-clause-fault : goal.returns-then-refuted-clause-fault

@@ -30,8 +30,10 @@ passes_number-requires c = record {
 pub loop-number-preserved : goal.loop-number-preserved
 loop-number-preserved c =
     let places = c.args.db.now in
-    let here : place_passes (standing places) c.args.pivot c.args.trail.now (place_at places (slice_index c.numbers-numbers.result.now c.loop-number.number-index)) ≡ true =
-    ap (λ (t : List ℤ). place_passes (standing places) c.args.pivot t (place_at places (slice_index c.numbers-numbers.result.now c.loop-number.number-index)))
+    let here : place_passes (standing places) c.args.pivot c.args.trail.now (place_at places
+    (slice_index c.numbers-numbers.result.now c.loop-number.number-index)) ≡ true =
+    ap (λ (t : List ℤ). place_passes (standing places) c.args.pivot t (place_at places
+    (slice_index c.numbers-numbers.result.now c.loop-number.number-index)))
     (sym c.loop-number.invariant.same)
     ∙ sym c.in_ok-good.ensures.passes ∙ c.if-not-good.false in
     record {
@@ -40,15 +42,18 @@ loop-number-preserved c =
       moves = moves-then c.args.trail.now c.loop-number.trail
           (λ x m. ap (λ (l : List ℤ). literals_of l x) c.loop-number.invariant.same ∙ m) c.loop-number.invariant.moves
           c.in_ok-good.ensures.moves;
-      pass = pass-step places c.args.pivot c.args.trail.now c.numbers-numbers.result.now c.loop-number.number-index (slice_index c.numbers-numbers.result.now c.loop-number.number-index)
+      pass = pass-step places c.args.pivot c.args.trail.now c.numbers-numbers.result.now c.loop-number.number-index
+          (slice_index c.numbers-numbers.result.now c.loop-number.number-index)
           c.loop-number-test.true refl c.loop-number.invariant.pass here;
     }
 
 pub returns-then-not-good-clause-pass : goal.returns-then-not-good-clause-pass
 returns-then-not-good-clause-pass c =
     let places = c.args.db.now in
-    let here : place_passes (standing places) c.args.pivot c.args.trail.now (place_at places (slice_index c.numbers-numbers.result.now c.loop-number.number-index)) ≡ false =
-    ap (λ (t : List ℤ). place_passes (standing places) c.args.pivot t (place_at places (slice_index c.numbers-numbers.result.now c.loop-number.number-index)))
+    let here : place_passes (standing places) c.args.pivot c.args.trail.now (place_at places
+    (slice_index c.numbers-numbers.result.now c.loop-number.number-index)) ≡ false =
+    ap (λ (t : List ℤ). place_passes (standing places) c.args.pivot t (place_at places
+    (slice_index c.numbers-numbers.result.now c.loop-number.number-index)))
     (sym c.loop-number.invariant.same)
     ∙ sym c.in_ok-good.ensures.passes ∙ c.if-not-good.true in
     sym (one-fails places c.args.pivot c.args.trail.now (slice_index c.numbers-numbers.result.now c.loop-number.number-index) here)

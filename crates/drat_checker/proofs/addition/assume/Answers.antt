@@ -18,7 +18,8 @@ loop-literal-preserved c =
     let new = unclashed c.in_ok-clash.clash c.falsify.new.self old (with_last x old) c.if-clash.false c.in_ok-clash.ensures.literals in
     record {
       extends = extends-then c.loop-literal.invariant.extends (extends-is new (extends-last x old));
-      also = λ q. also-more c.args.trail.now old c.args.clause.now c.loop-literal.literal-index x c.loop-literal-test.true c.literal-item.is q
+      also = λ q. also-more c.args.trail.now old c.args.clause.now c.loop-literal.literal-index x c.loop-literal-test.true
+          c.literal-item.is q
           c.falsify.new.self new (c.loop-literal.invariant.also q);
     }
 

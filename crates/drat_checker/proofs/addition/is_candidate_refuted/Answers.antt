@@ -14,7 +14,8 @@ use Rattle.drat_checker.proofs.addition.is_candidate_refuted.Goals as goal
 
 pub returns-then-clash-clause-refuted : goal.returns-then-clash-clause-refuted
 returns-then-clash-clause-refuted c =
-    clashed c.quiet_law.ensures.none c.quiet_law.ensures.fails (standing c.args.db.now) (c.args.trail.now ++ others_of c.args.pivot c.args.other.now)
+    clashed c.quiet_law.ensures.none c.quiet_law.ensures.fails (standing c.args.db.now)
+    (c.args.trail.now ++ others_of c.args.pivot c.args.other.now)
     (c.in_ok-clash.ensures.clash c.if-clash.true)
 
 pub returns-then-clash-clause-moves : goal.returns-then-clash-clause-moves

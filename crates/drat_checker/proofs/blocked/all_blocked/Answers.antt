@@ -13,7 +13,8 @@ loop-number-init c = record { pass = λ number other none stands. absurd (cc) }
 
 pub loop-number-preserved : goal.loop-number-preserved
 loop-number-preserved c = record {
-  pass = pass-step c.args.db.now c.args.pivot c.args.clause.now c.numbers-numbers.result.now c.loop-number.number-index (slice_index c.numbers-numbers.result.now c.loop-number.number-index)
+  pass = pass-step c.args.db.now c.args.pivot c.args.clause.now c.numbers-numbers.result.now c.loop-number.number-index
+      (slice_index c.numbers-numbers.result.now c.loop-number.number-index)
       c.loop-number-test.true refl c.loop-number.invariant.pass
       (c.is_number_blocked-blocked.ensures c.if-not-blocked.false (standing c.args.db.now));
 }

@@ -29,7 +29,8 @@ literals-preserved c =
       moves = moves-then c.args.trail.now c.literals.trail (more-false (derives-extends so_far.derives)) so_far.moves step.moves;
       derives = derives-then so_far.derives step.derives;
       guarded = guard-next c.args.db.now c.literals.kept.pairs.items c.visit.new.self.pairs.items c.literals.trail c.visit.new.trail
-          c.literals.place c.literal-literal.result within c.literal-literal.ensures e so_far.guarded step.moves (step.visited c.if-conflict.false);
+          c.literals.place c.literal-literal.result within c.literal-literal.ensures e so_far.guarded step.moves
+          (step.visited c.if-conflict.false);
       holds = holds-more c.args.db.now e so_far.holds;
     }
 

@@ -11,6 +11,7 @@ use Rattle.drat_checker.proofs.propagation.take_short.Given as goal
 abbrev pub invariant-loop-number : goal.invariant-loop-number
 invariant-loop-number l = record {
   derives : Derives (standing l.fn.db) l.fn.trail l.trail;
-  holds : (number : ℕ) (clause : List ℤ) → IsTrue (has_number number (take l.number-index l.numbers)) → place_at l.fn.db number ≡ Some clause
+  holds : (number : ℕ) (clause : List ℤ) → IsTrue (has_number number (take l.number-index l.numbers))
+      → place_at l.fn.db number ≡ Some clause
       → is_short clause ≡ true → is_true l.trail clause ≡ true;
 }

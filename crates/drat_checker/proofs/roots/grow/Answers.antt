@@ -12,7 +12,8 @@ pub returns-then-clash : goal.returns-then-clash
 returns-then-clash c =
     let g = c.requires.growing in (
       c.requires.watched,
-      clash-from c.quiet_law.ensures.none c.quiet_law.ensures.fails c.propagation_law.ensures.forced (standing c.args.db.now) c.args.trail.now
+      clash-from c.quiet_law.ensures.none c.quiet_law.ensures.fails c.propagation_law.ensures.forced
+          (standing c.args.db.now) c.args.trail.now
           (growing-derived c.args.db.now c.args.clause.now c.args.kept.now c.args.trail.now g)
           (c.in_ok-clash.ensures.conflict c.if-clash.true (standing c.args.db.now)
           (growing-among c.args.db.now c.args.clause.now c.args.kept.now c.args.trail.now g)),

@@ -1,29 +1,47 @@
 -- A clause that forces nothing under the roots forced none of them.
 use Rattle.std.proofs.Common.{sym, ◌∙◌, subst}
 use Rattle.drat_checker.specs.declared.roots.Roots.{Roots}
+use Rattle.drat_checker.specs.declared.roots.Roots.TheVariants.{Stale, Settled}
+use Rattle.drat_checker.specs.Places.{Places}
 use Rattle.drat_checker.specs.Roots.{AreKept}
-use Rattle.drat_checker.proofs.Fewer.{roots-without, watched-fewer}
+use Rattle.drat_checker.proofs.Fewer.{roots-fewer, watched-fewer}
 use Rattle.drat_checker.proofs.roots.lowered.Goals as goal
 
 pub returns-in-NotUnit : goal.returns-in-NotUnit
-returns-in-NotUnit c = λ places fewer kept gone were.
-    let both = subst (λ (r : Roots). AreKept r places kept c.args.trail.now) c.in-Settled.is were in (
-      watched-fewer c.args.clause.now places fewer gone kept both.0,
-      roots-without c.args.clause.now places fewer gone kept c.args.trail.now (sym c.effect_of.ensures ∙ c.in-NotUnit.is) both.1,
+returns-in-NotUnit c = λ fewer kept is were.
+    let both = subst (λ (r : Roots). AreKept r c.args.db.now kept c.args.trail.now) c.in-Settled.is were in
+    subst (λ (ps : Places). AreKept Settled ps kept c.args.trail.now) (sym is) (
+      watched-fewer c.args.db.now c.args.number kept both.0,
+      roots-fewer c.args.db.now c.args.number c.in-Some.clause.now (sym c.in-Some.ensures) kept c.args.trail.now
+          (sym c.effect_of.ensures ∙ c.in-NotUnit.is) both.1,
     )
 
 pub returns-in-Unit : goal.returns-in-Unit
-returns-in-Unit c = λ places fewer kept gone were.
-    watched-fewer c.args.clause.now places fewer gone kept (subst (λ (r : Roots). AreKept r places kept c.args.trail.now) c.in-Settled.is were).0
+returns-in-Unit c = λ fewer kept is were.
+    subst (λ (ps : Places). AreKept Stale ps kept c.args.trail.now) (sym is)
+    (watched-fewer c.args.db.now c.args.number kept
+    (subst (λ (r : Roots). AreKept r c.args.db.now kept c.args.trail.now) c.in-Settled.is were).0)
 
 pub returns-in-Conflict : goal.returns-in-Conflict
-returns-in-Conflict c = λ places fewer kept gone were.
-    watched-fewer c.args.clause.now places fewer gone kept (subst (λ (r : Roots). AreKept r places kept c.args.trail.now) c.in-Settled.is were).0
+returns-in-Conflict c = λ fewer kept is were.
+    subst (λ (ps : Places). AreKept Stale ps kept c.args.trail.now) (sym is)
+    (watched-fewer c.args.db.now c.args.number kept
+    (subst (λ (r : Roots). AreKept r c.args.db.now kept c.args.trail.now) c.in-Settled.is were).0)
+
+pub returns-in-None : goal.returns-in-None
+returns-in-None c = λ fewer kept is were.
+    subst (λ (ps : Places). AreKept Stale ps kept c.args.trail.now) (sym is)
+    (watched-fewer c.args.db.now c.args.number kept
+    (subst (λ (r : Roots). AreKept r c.args.db.now kept c.args.trail.now) c.in-Settled.is were).0)
 
 pub returns-in-Clash : goal.returns-in-Clash
-returns-in-Clash c = λ places fewer kept gone were.
-    watched-fewer c.args.clause.now places fewer gone kept (subst (λ (r : Roots). AreKept r places kept c.args.trail.now) c.in-Clash.is were).0
+returns-in-Clash c = λ fewer kept is were.
+    subst (λ (ps : Places). AreKept Stale ps kept c.args.trail.now) (sym is)
+    (watched-fewer c.args.db.now c.args.number kept
+    (subst (λ (r : Roots). AreKept r c.args.db.now kept c.args.trail.now) c.in-Clash.is were).0)
 
 pub returns-in-Stale : goal.returns-in-Stale
-returns-in-Stale c = λ places fewer kept gone were.
-    watched-fewer c.args.clause.now places fewer gone kept (subst (λ (r : Roots). AreKept r places kept c.args.trail.now) c.in-Stale.is were)
+returns-in-Stale c = λ fewer kept is were.
+    subst (λ (ps : Places). AreKept Stale ps kept c.args.trail.now) (sym is)
+    (watched-fewer c.args.db.now c.args.number kept
+    (subst (λ (r : Roots). AreKept r c.args.db.now kept c.args.trail.now) c.in-Stale.is were))

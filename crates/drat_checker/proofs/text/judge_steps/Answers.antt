@@ -6,8 +6,9 @@ use Rattle.lrat_text.specs.declared.error.StepError.TheVariants.{ReadFault, OutO
 use Rattle.lrat_text.specs.LineReader.{GaveStep, given, is_reading, steps_ahead, so_far}
 use Rattle.lrat_checker.specs.TextVerdict.{end_verdict, error_answer, Answers}
 use Rattle.drat_text.specs.Draft.{drat_form}
-use Rattle.drat_rules.specs.Run.{after, drat_step_fault}
-use Rattle.drat_checker.specs.DratVerdict.{drat_steps_verdict}
+use Rattle.drat_rules.specs.Clauses.{equality_of}
+use Rattle.drat_rules.specs.Run.{after_by, drat_step_fault}
+use Rattle.drat_checker.specs.DratVerdict.{drat_steps_verdict_by}
 use Rattle.drat_checker.proofs.Turns.{at_end, at_error, at_bad_step, at_good_step, good_so_far, fault_so_far, read_fault_alone}
 use Rattle.drat_checker.proofs.Wanted.{behind_wants, step_is_wanted, error_wants, memory_alone}
 use Rattle.drat_checker.proofs.text.judge_steps.Goals as goal
@@ -15,9 +16,10 @@ use Rattle.drat_checker.proofs.text.judge_steps.Goals as goal
 pub returns-in-Ok-None-clause-decides : goal.returns-in-Ok-None-clause-decides
 returns-in-Ok-None-clause-decides g c = λ told.
     Decides-then
-    (λ bytes more. drat_steps_verdict c.args.judge.now false (steps_ahead drat_form c.args.reader.now bytes) ≡ Some c.verdict_at_end.result)
+    (λ bytes more. drat_steps_verdict_by (equality_of c.args.deletions) c.args.judge.now false (steps_ahead drat_form c.args.reader.now
+    bytes) ≡ Some c.verdict_at_end.result)
     (c.steps.invariant.same told) (c.in-Ok-None.ensures.gives told)
-    (λ bytes middle more before gives. before ∙ at_end c.steps.judge c.steps.has_empty _ _ _ _ gives
+    (λ bytes middle more before gives. before ∙ at_end (equality_of c.args.deletions) c.steps.judge c.steps.has_empty _ _ _ _ gives
     (ap (λ r. given c.next_into.new.step (Ok r)) c.in-Ok-None.field-0-is)
     ∙ ap Some (sym (c.verdict_at_end.ensures ∙ ap (end_verdict c.steps.has_empty) c.line.ensures)))
 
@@ -26,16 +28,18 @@ returns-in-Some-clause-decides g c = λ told.
     let bad : drat_step_fault c.steps.judge c.next_into.new.step
     ≡ Some c.in-Some.reason = sym c.in_ok-reason-in-Ok-Some.ensures.fault ∙ c.in-Some.is in
     Decides-then _ (c.steps.invariant.same told) (c.in-Ok-Some.ensures.gives told)
-    (λ bytes middle more before gives. before ∙ at_bad_step c.steps.judge c.steps.has_empty _ _ _ _ gives c.next_into.new.step
+    (λ bytes middle more before gives. before ∙ at_bad_step (equality_of c.args.deletions) c.steps.judge c.steps.has_empty _ _ _ _ gives
+    c.next_into.new.step
     c.in-Ok-Some.line c.in-Some.reason (ap (λ r. given c.next_into.new.step (Ok r)) c.in-Ok-Some.field-0-is) bad)
 
 pub returns-in-Err-clause-decides : goal.returns-in-Err-clause-decides
 returns-in-Err-clause-decides g c = λ told.
     Decides-then
     (λ bytes more. Answers c.answer_to.result
-    (drat_steps_verdict c.args.judge.now false (steps_ahead drat_form c.args.reader.now bytes)))
+    (drat_steps_verdict_by (equality_of c.args.deletions) c.args.judge.now false (steps_ahead drat_form c.args.reader.now bytes)))
     (c.steps.invariant.same told) (c.in-Err.ensures.gives told)
-    (λ bytes middle more before gives. at_error c.steps.judge c.steps.has_empty _ _ _ _ gives _ before c.in-Err.error refl
+    (λ bytes middle more before gives. at_error (equality_of c.args.deletions) c.steps.judge c.steps.has_empty _ _ _ _ gives _ before
+    c.in-Err.error refl
     c.answer_to.result c.answer_to.ensures)
 
 pub returns-in-Err-clause-undecided : goal.returns-in-Err-clause-undecided
@@ -44,10 +48,10 @@ returns-in-Err-clause-undecided g c = λ told is.
     let failed : c.in-Err.error ≡ ReadFault = read_fault_alone c.in-Err.error (sym c.answer_to.ensures ∙ is) in
     let none = fault_so_far _ c.steps.reader c.next_into.new.self bytes
     (c.in-Err.ensures.so_far told (ap is_reading c.steps.invariant.reading)) (ap Err failed) in
-    ap (λ l. drat_steps_verdict c.args.judge.now false (so_far drat_form c.args.reader.now l))
+    ap (λ l. drat_steps_verdict_by (equality_of c.args.deletions) c.args.judge.now false (so_far drat_form c.args.reader.now l))
     (gained-then (c.steps.invariant.same told) (c.in-Err.ensures.gives told))
     ∙ c.steps.invariant.so_far told none.0 bytes
-    ∙ ap (drat_steps_verdict c.steps.judge c.steps.has_empty) none.1
+    ∙ ap (drat_steps_verdict_by (equality_of c.args.deletions) c.steps.judge c.steps.has_empty) none.1
 
 pub returns-in-Err-clause-fault : goal.returns-in-Err-clause-fault
 returns-in-Err-clause-fault g c = λ is.
@@ -63,29 +67,33 @@ returns-in-Err-clause-unfailed g c = λ differ.
 pub steps-preserved : goal.steps-preserved
 steps-preserved g c =
     let is_good : drat_step_fault c.steps.judge c.next_into.new.step ≡ None = sym c.in_ok-reason-in-Ok-Some.ensures.fault ∙ c.in-None.is in
-    let moved : c.step.new.self ≡ after c.steps.judge c.next_into.new.step = search rules in
+    let moved : c.step.new.self ≡ after_by (equality_of c.args.deletions) c.steps.judge c.next_into.new.step = search rules in
     let gave : GaveStep drat_form c.in-Ok-Some.line c.steps.reader c.next_into.new.self = search rules in
     record {
       same = λ told.
           Decides-then _ (c.steps.invariant.same told) (c.in-Ok-Some.ensures.gives told)
           (λ bytes middle more before gives. before
-          ∙ at_good_step c.steps.judge c.steps.has_empty _ _ _ _ gives c.next_into.new.step c.in-Ok-Some.line c.step.new.self
+          ∙ at_good_step (equality_of c.args.deletions) c.steps.judge c.steps.has_empty _ _ _ _ gives c.next_into.new.step c.in-Ok-Some.line
+          c.step.new.self
           c.or_adds_empty-has_empty.result
           (ap (λ r. given c.next_into.new.step (Ok r)) c.in-Ok-Some.field-0-is) is_good moved c.or_adds_empty-has_empty.ensures);
       wants = λ told.
           Decides-then _ (c.steps.invariant.wants told) (c.in-Ok-Some.ensures.spends told (ap is_reading c.steps.invariant.reading))
           (λ bytes middle more before spends n wants. before n
-          (behind_wants c.steps.judge _ _ _ _ spends c.next_into.new.step c.in-Ok-Some.line c.step.new.self
+          (behind_wants (equality_of c.args.deletions) c.steps.judge _ _ _ _ spends c.next_into.new.step c.in-Ok-Some.line c.step.new.self
           (ap (λ r. given c.next_into.new.step (Ok r)) c.in-Ok-Some.field-0-is) is_good moved n wants));
       so_far = λ told scanning.
-          let good = good_so_far c.steps.judge c.steps.has_empty _ c.steps.reader c.next_into.new.self _
+          let good = good_so_far (equality_of c.args.deletions) c.steps.judge c.steps.has_empty _ c.steps.reader c.next_into.new.self _
           (c.in-Ok-Some.ensures.so_far told (ap is_reading c.steps.invariant.reading))
           c.next_into.new.step c.in-Ok-Some.line c.step.new.self c.or_adds_empty-has_empty.result
           (ap (λ r. given c.next_into.new.step (Ok r)) c.in-Ok-Some.field-0-is) is_good moved c.or_adds_empty-has_empty.ensures scanning
           in
-          front-then (λ bytes. drat_steps_verdict c.args.judge.now false (so_far drat_form c.args.reader.now bytes))
-          (λ bytes. drat_steps_verdict c.steps.judge c.steps.has_empty (so_far drat_form c.steps.reader bytes))
-          (λ bytes. drat_steps_verdict c.step.new.self c.or_adds_empty-has_empty.result (so_far drat_form c.next_into.new.self bytes))
+          front-then (λ bytes. drat_steps_verdict_by (equality_of c.args.deletions) c.args.judge.now false (so_far drat_form
+          c.args.reader.now bytes))
+          (λ bytes. drat_steps_verdict_by (equality_of c.args.deletions) c.steps.judge c.steps.has_empty (so_far drat_form c.steps.reader
+          bytes))
+          (λ bytes. drat_steps_verdict_by (equality_of c.args.deletions) c.step.new.self c.or_adds_empty-has_empty.result (so_far drat_form
+          c.next_into.new.self bytes))
           (c.steps.invariant.same told) (c.in-Ok-Some.ensures.gives told) (c.steps.invariant.so_far told good.0) good.1;
       reading = gave.reading;
       reads = OnlyReads-then c.steps.invariant.reads c.next_into.ensures.reads;
@@ -98,7 +106,7 @@ pub returns-in_err-reason-in-Ok-Some-clause-wants : goal.returns-in_err-reason-i
 returns-in_err-reason-in-Ok-Some-clause-wants g c = λ told is.
     Decides-then _ (c.steps.invariant.wants told) (c.in-Ok-Some.ensures.spends told (ap is_reading c.steps.invariant.reading))
     (λ bytes middle more before spends. before (length more)
-    (step_is_wanted c.steps.judge _ _ _ _ spends c.next_into.new.step c.in-Ok-Some.line
+    (step_is_wanted (equality_of c.args.deletions) c.steps.judge _ _ _ _ spends c.next_into.new.step c.in-Ok-Some.line
     (ap (λ r. given c.next_into.new.step (Ok r)) c.in-Ok-Some.field-0-is) (length more) (c.near_law.ensures more)))
 
 -- or to read it
@@ -107,4 +115,4 @@ returns-in-Err-clause-wants g c = λ told is.
     let memory : c.in-Err.error ≡ NoMemory = memory_alone c.in-Err.error (sym c.answer_to.ensures ∙ is) in
     Decides-then _ (c.steps.invariant.wants told) (c.in-Err.ensures.spends told (ap is_reading c.steps.invariant.reading))
     (λ bytes middle more before spends. before (length more)
-    (error_wants c.steps.judge _ _ _ _ spends (ap Err memory)))
+    (error_wants (equality_of c.args.deletions) c.steps.judge _ _ _ _ spends (ap Err memory)))

@@ -7,22 +7,24 @@ use Rattle.lrat_text.specs.declared.reader.ReaderStatus.TheVariants.{Reading}
 use Rattle.lrat_text.specs.LineReader.{steps_ahead, so_far, fuel}
 use Rattle.lrat_text.specs.LineWants.{wants_ahead}
 use Rattle.drat_text.specs.Draft.{drat_form}
-use Rattle.drat_checker.specs.DratVerdict.{drat_steps_verdict}
+use Rattle.drat_rules.specs.Clauses.{equality_of}
+use Rattle.drat_checker.specs.DratVerdict.{drat_steps_verdict_by}
 use Rattle.drat_checker.specs.Memory.{drat_reading_may_want_memory}
 use Rattle.drat_checker.proofs.text.judge_steps.Given as goal
 
 abbrev pub invariant-steps : goal.invariant-steps
 invariant-steps g l = record {
   same : IsTrue g.S.Source.tells → Decides (g.S.Source.channel l.fn.source) (g.S.Source.channel l.source)
-      (λ bytes more. drat_steps_verdict l.fn.judge false (steps_ahead drat_form l.fn.reader bytes)
-      ≡ drat_steps_verdict l.judge l.has_empty (steps_ahead drat_form l.reader more));
+      (λ bytes more. drat_steps_verdict_by (equality_of l.deletions) l.fn.judge false (steps_ahead drat_form l.fn.reader bytes)
+      ≡ drat_steps_verdict_by (equality_of l.deletions) l.judge l.has_empty (steps_ahead drat_form l.reader more));
   wants : IsTrue g.S.Source.tells → Decides (g.S.Source.channel l.fn.source) (g.S.Source.channel l.source)
-      (λ bytes more. (n : ℕ) → IsTrue (drat_reading_may_want_memory n l.judge (wants_ahead drat_form l.reader more))
-      → IsTrue (drat_reading_may_want_memory n l.fn.judge (wants_ahead drat_form l.fn.reader bytes)));
+      (λ bytes more. (n : ℕ) → IsTrue (drat_reading_may_want_memory (equality_of l.deletions) n l.judge (wants_ahead drat_form l.reader
+      more))
+      → IsTrue (drat_reading_may_want_memory (equality_of l.deletions) n l.fn.judge (wants_ahead drat_form l.fn.reader bytes)));
   so_far : IsTrue g.S.Source.tells → is_scanning l.reader.scan.status ≡ true → (more : List ℕ)
-      → drat_steps_verdict l.fn.judge false
+      → drat_steps_verdict_by (equality_of l.deletions) l.fn.judge false
       (so_far drat_form l.fn.reader (gained (g.S.Source.channel l.fn.source) (g.S.Source.channel l.source) ++ more))
-      ≡ drat_steps_verdict l.judge l.has_empty (so_far drat_form l.reader more);
+      ≡ drat_steps_verdict_by (equality_of l.deletions) l.judge l.has_empty (so_far drat_form l.reader more);
   reading : l.reader.status ≡ Reading;
   reads : OnlyReads (g.S.Source.channel l.fn.source) (g.S.Source.channel l.source);
   unfailed : (g.S.Source.channel l.source).faults ≡ (g.S.Source.channel l.fn.source).faults;

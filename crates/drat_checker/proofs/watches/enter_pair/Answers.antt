@@ -20,9 +20,11 @@ returns-in_ok-enter-in-Some-clause-entered c =
     on-ok c.enter-in-Some.result
     (λ second x own.
     elim (or_cases (int_eq x pair.first) _ (ap (λ p. is_in p x) (sym c.in-Some.is) ∙ own)) [
-      | inl one ↦ subst (λ (y : ℤ). has_number c.args.number (watchers c.enter-in-Some.new.self y) ≡ true) (sym (int_eq-true x pair.first one))
+      | inl one ↦ subst (λ (y : ℤ). has_number c.args.number (watchers c.enter-in-Some.new.self y) ≡ true) (sym
+          (int_eq-true x pair.first one))
           ((c.enter-in-Some.ensures.kept.kept pair.first).kept c.args.number c.in_ok-enter-in-Some.ensures.entered)
-      | inr two ↦ subst (λ (y : ℤ). has_number c.args.number (watchers c.enter-in-Some.new.self y) ≡ true) (sym (int_eq-true x pair.second two))
+      | inr two ↦ subst (λ (y : ℤ). has_number c.args.number (watchers c.enter-in-Some.new.self y) ≡ true) (sym
+          (int_eq-true x pair.second two))
           second
     ])
     c.enter-in-Some.ensures.entered

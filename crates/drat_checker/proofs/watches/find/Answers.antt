@@ -13,7 +13,8 @@ loop-literal-init c = refl
 pub loop-literal-preserved-then-eq : goal.loop-literal-preserved-then-eq
 loop-literal-preserved-then-eq c =
     one-more (λ y. int_eq y c.args.other || literals_of c.args.trail.now y) c.args.clause.now c.loop-literal.literal-index
-    c.literal-item.result c.loop-literal-test.true c.literal-item.is (or_left _ _ (sym c.eq.ensures ∙ c.if-eq.true)) c.loop-literal.invariant
+    c.literal-item.result c.loop-literal-test.true c.literal-item.is (or_left _ _ (sym c.eq.ensures
+    ∙ c.if-eq.true)) c.loop-literal.invariant
 
 pub loop-literal-preserved : goal.loop-literal-preserved
 loop-literal-preserved c =

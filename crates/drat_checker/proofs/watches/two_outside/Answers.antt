@@ -19,5 +19,6 @@ returns-in-None c =
 pub returns-in-None-find : goal.returns-in-None-find
 returns-in-None-find c =
     absurd (not-forced c.in-Some.second
-    (sym (last-forced (literals_of c.args.trail.now) c.in-Some.second c.args.clause.now (c.in-None-find.ensures.none refl) c.in-Some.ensures.found
+    (sym (last-forced (literals_of c.args.trail.now) c.in-Some.second c.args.clause.now
+    (c.in-None-find.ensures.none refl) c.in-Some.ensures.found
     c.in-Some.ensures.unfalse) ∙ c.requires))

@@ -1,5 +1,6 @@
 -- One number: its clause stays, goes from the list, watches another literal, or forces its last one; a false clause; and the end.
-use Rattle.std.proofs.Common.{◌≡◌, ◌+◌, ◌-◌, ◌<◌, Bool, true, false, ℕ, ℤ, neg_ℤ, List, [], length, take, set, None, Some, nat_eq, int_eq, if◌then◌else◌}
+use Rattle.std.proofs.Common.{◌≡◌, ◌+◌, ◌-◌, ◌<◌, Bool, true, false, ℕ, ℤ, neg_ℤ, List, [], length, take, set, None, Some, nat_eq}
+use Rattle.std.proofs.Common.{int_eq, if◌then◌else◌}
 use Rattle.std.proofs.Common.{refl, sym, ap, ◌∙◌, subst, arith, length-set}
 use Rattle.std.proofs.Math.IntN.{neg_ℤ-neg_ℤ}
 use Rattle.std.proofs.Math.Seq.{get_or-set_other}
@@ -32,7 +33,8 @@ numbers-init c = record {
   derives = derives-none (standing c.args.db.now) c.args.trail.now;
   visited = subst (λ (l : List ℕ). AreVisited c.args.db.now c.args.pairs.now.items c.args.literal c.args.trail.now l)
       (sym (take_all c.len-left.result c.args.out.now (omega (arith, c.len-left.ensures))))
-      (visited-start c.args.db.now c.args.pairs.now.items c.args.lists.now c.args.literal c.args.trail.now c.args.out.now c.requires.watched);
+      (visited-start c.args.db.now c.args.pairs.now.items c.args.lists.now c.args.literal c.args.trail.now c.args.out.now
+      c.requires.watched);
 }
 
 pub look-requires : goal.look-requires
@@ -129,7 +131,8 @@ numbers-preserved-in-Moved c =
     record {
       many = length-set pairs k (Some pair) ∙ so_far.many;
       within = omega (arith, so_far.within, c.drop_at-in-Moved.ensures.len);
-      watched = watched-moved pairs all all' places k literal so_far.watched keeps trail pair moved (set pairs k (Some pair)) refl room entered;
+      watched = watched-moved pairs all all' places k literal so_far.watched keeps trail pair moved (set pairs k
+          (Some pair)) refl room entered;
       moves = moves-then c.args.trail.now trail (more-false (derives-extends so_far.derives)) so_far.moves
           (moves-to pairs all all' places k literal so_far.watched keeps trail pair moved (set pairs k (Some pair)) refl room);
       derives = so_far.derives;
@@ -153,9 +156,11 @@ numbers-preserved c =
     let unfalse : literals_of trail other ≡ false =
     ap (literals_of trail) (sym (neg_ℤ-neg_ℤ other)) ∙ ap (λ z. literals_of trail (neg_ℤ z)) (sym c.negated.ensures)
     ∙ sym c.in_ok-clash-in-Last.ensures.clash ∙ c.if-clash.false in
-    let e : effect (literals_of trail) last.clause ≡ Forced other = last-forced (literals_of trail) other last.clause last.last last.held unfalse in
+    let e : effect (literals_of trail) last.clause ≡ Forced other = last-forced (literals_of trail) other last.clause last.last last.held
+    unfalse in
     let new : c.falsify.new.self ≡ with_last (neg_ℤ other) trail =
-    unclashed c.in_ok-clash-in-Last.clash c.falsify.new.self trail (with_last c.negated.result trail) c.if-clash.false c.in_ok-clash-in-Last.ensures.literals
+    unclashed c.in_ok-clash-in-Last.clash c.falsify.new.self trail (with_last c.negated.result trail) c.if-clash.false
+    c.in_ok-clash-in-Last.ensures.literals
     ∙ ap (λ z. with_last z trail) c.negated.ensures in
     let grown : Extends trail c.falsify.new.self = extends-is new (extends-last (neg_ℤ other) trail) in
     let derived : Derives (standing places) trail c.falsify.new.self =
@@ -199,7 +204,8 @@ clashed-same false new old last e is = cc
 -- behind a clash the false literals are as they were
 pub returns-then-clash-clause-derives : goal.returns-then-clash-clause-derives
 returns-then-clash-clause-derives c =
-    derives-is (clashed-same c.in_ok-clash-in-Last.clash c.falsify.new.self c.numbers.trail (with_last c.negated.result c.numbers.trail) c.if-clash.true
+    derives-is (clashed-same c.in_ok-clash-in-Last.clash c.falsify.new.self c.numbers.trail
+    (with_last c.negated.result c.numbers.trail) c.if-clash.true
     c.in_ok-clash-in-Last.ensures.literals) c.numbers.invariant.derives
 
 none-left : (places : Places) (pairs : Pairs) (literal : ℤ) (literals : List ℤ) (out : List ℕ) (left : ℕ) → left ≡ 0

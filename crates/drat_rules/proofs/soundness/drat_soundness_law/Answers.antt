@@ -12,11 +12,11 @@ pub returns-clause-addition : goal.returns-clause-addition
 returns-clause-addition c a clauses clause z own s good = SatisfiesAllUpToPivot-drat_fault a clauses clause s z own good
 
 pub returns-clause-deletion : goal.returns-clause-deletion
-returns-clause-deletion c a clauses clause s = all-without_first (clause_holds a) clause clauses s
+returns-clause-deletion c same a clauses clause s = all-without_first same (clause_holds a) clause clauses s
 
 pub returns-clause-steps : goal.returns-clause-steps
-returns-clause-steps c a place clauses steps z own s good =
-    let survives = steps-sound a place clauses steps record { satisfied = s; nonzero = z } own good in
+returns-clause-steps c same a place clauses steps z own s good =
+    let survives = steps-sound same a place clauses steps record { satisfied = s; nonzero = z } own good in
     (survives.assignment, survives.model.satisfied)
 
 pub returns-clause-nonzero_start : goal.returns-clause-nonzero_start

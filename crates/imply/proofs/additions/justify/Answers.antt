@@ -1,11 +1,8 @@
 -- The parts of both sides close, and the low clause is given.
-use Rattle.std.proofs.Common.{◌≡◌, ◌<◌, ◌∙◌, ◌∷◌, ℕ, ℤ, pos, neg_ℤ, true, List, [], Option, None, Some, Result, refl, arith, ap, sym}
+use Rattle.std.proofs.Common.{◌≡◌, ◌<◌, ◌∙◌, ◌∷◌, ℕ, pos, neg_ℤ, true, [], Some, Result, refl, arith, ap, sym}
 use Rattle.std.proofs.Common.{subst}
-use Rattle.lrat_rules.specs.Chain.{literals_of}
 use Rattle.lrat_rules.specs.Soundness.{is_nonzero}
 use Rattle.hint_chain.specs.Atoms.{clause_from_atoms}
-use Rattle.hint_chain.specs.declared.part.Part.{Part}
-use Rattle.hint_chain.specs.Greedy.{PartsClose}
 use Rattle.node_table.specs.declared.error.TableError.{TableError}
 use Rattle.node_table.specs.declared.error.TableError.TheVariants.{WriteFault}
 use Rattle.node_table.specs.declared.node.Justification.{Justification}
@@ -15,31 +12,21 @@ use Rattle.node_table.specs.Diagram.{Graph, variable_at}
 use Rattle.node_table.specs.HandedOn.{handed_on, same_error}
 use Rattle.node_table.specs.Justification.{IsJustified}
 use Rattle.operations.specs.Accounts.{GivesOne, given_just}
+use Rattle.operations.specs.Additions.{AreBoth}
 use Rattle.operations.specs.Results.{implication_atoms}
-use Rattle.operations.specs.Sides.{cofactor_at}
-use Rattle.operations.specs.declared.parts.Side.TheVariants.{High, Low}
+use Rattle.operations.specs.Sides.{High, Low, cofactor_at}
 use Rattle.imply.proofs.ImplicationClauses.{high_apart, high_clause, is_open, low_apart, owned}
+use Rattle.imply.proofs.additions.justify.Given.{Over}
 use Rattle.imply.proofs.additions.justify.Goals as goal
+use Rattle.imply.proofs.additions.justify.Goals.{After-as_slice}
 
 nonzero_variable : (n : ℕ) → 0 < n → is_nonzero (pos n) ≡ true
 nonzero_variable n positive = grind (arith, positive)
 
--- a part that isn't there changes nothing
-closes_blank : (clause : List ℤ) (first second last blank : Option Part) → blank ≡ None
-    → PartsClose (literals_of clause) (first ∷ second ∷ last ∷ []) → PartsClose (literals_of clause) (blank ∷ first ∷ second ∷ last ∷ [])
-closes_blank clause first second last blank none closes =
-    subst (λ (part : Option Part). PartsClose (literals_of clause) (part ∷ first ∷ second ∷ last ∷ [])) (sym none)
-    (record { hints = closes.hints; found = closes.found })
-
-closes_behind : (clause : List ℤ) (high : Part) (first second last blank : Option Part) → blank ≡ None
-    → PartsClose (literals_of clause) (Some high ∷ first ∷ second ∷ last ∷ [])
-    → PartsClose (literals_of clause) (Some high ∷ blank ∷ first ∷ second ∷ last ∷ [])
-closes_behind clause high first second last blank none closes =
-    subst (λ (part : Option Part). PartsClose (literals_of clause) (Some high ∷ part ∷ first ∷ second ∷ last ∷ [])) (sym none)
-    (record { hints = closes.hints; found = closes.found })
-
-pub add_both-requires-clause-both : goal.add_both-requires-clause-both
-add_both-requires-clause-both g c =
+-- what both additions stand on
+abbrev both : (g : Over) (c : After-as_slice g) → AreBoth c.args.table.now.graph c.args.table.now.book.state.live c.args.operands.now.level
+    c.as_slice.result.now c.parts_of-high.result.0 c.parts_of-high.result.1
+both g c =
     let graph = c.args.table.now.graph in
     let o = c.args.operands.now in
     let clause = c.as_slice.result.now in
@@ -49,31 +36,31 @@ add_both-requires-clause-both g c =
     ∙ ap Some (sym c.as_slice.ensures.literals) in
     let x = pos (variable_at graph o.level) in
     let within = c.operand_law.ensures.level graph tied.reduced o split in
-    let high = c.parts_of-high.ensures in
-    let low = c.parts_of-low.ensures in
+    let high = c.parts_of-high.ensures.high in
+    let low = c.parts_of-high.ensures.low in
     let behind = high_clause c.literal_law.ensures c.operand_law.ensures graph tied.reduced o split clause is in
-    let apart = low_apart c.literal_law.ensures c.operand_law.ensures graph tied.reduced o split clause is in record {
+    let apart = low_apart c.literal_law.ensures c.operand_law.ensures graph tied.reduced o split clause is in
+    let both_apart = high_apart c.literal_law.ensures c.operand_law.ensures graph tied.reduced o split clause is tied.ordered in record {
+      highs = high.sides;
+      lows = low.sides;
       within = within;
       some = λ empty. c.literal_law.ensures.some graph o.u (atom_of graph o.v ∷ []) split.first (is ∙ ap Some empty);
       short = omega (arith, c.clause_law.ensures.short (implication_atoms graph o.u o.v) clause is);
       apart = apart;
       owned = owned c.literal_law.ensures c.operand_law.ensures graph tied.reduced o split clause is;
-      on_high = closes_blank (neg_ℤ x ∷ clause) _ _ _ _ high.parts.result
-          (c.implication_law.ensures.high x (atom_of graph o.u) (atom_of graph o.v)
+      on_high = c.implication_law.ensures.high x (atom_of graph o.u) (atom_of graph o.v)
           (atom_of graph (cofactor_at High graph o.level o.u)) (atom_of graph (cofactor_at High graph o.level o.v))
-          (neg_ℤ x ∷ clause) _ _ _ behind
-          (c.closing_law.ensures.consistent (neg_ℤ x ∷ clause)
-          (high_apart c.literal_law.ensures c.operand_law.ensures graph tied.reduced o split clause is tied.ordered))
-          high.parts.first high.parts.second high.parts.children);
-      on_low = λ first own. closes_behind clause first _ _ _ _ low.parts.result
-          (c.implication_law.ensures.low x (atom_of graph o.u) (atom_of graph o.v)
+          (neg_ℤ x ∷ clause) _ high.sides behind (c.closing_law.ensures.consistent (neg_ℤ x ∷ clause) both_apart) high.kept;
+      on_low = c.implication_law.ensures.low x (atom_of graph o.u) (atom_of graph o.v)
           (atom_of graph (cofactor_at Low graph o.level o.u)) (atom_of graph (cofactor_at Low graph o.level o.v))
-          clause first _ _ _ (nonzero_variable (variable_at graph o.level) (tied.ordered.within o.level within).0)
-          (behind ∙ ap Some (sym own)) is (c.closing_law.ensures.consistent clause apart)
-          low.parts.first low.parts.second low.parts.children);
-      high_live = high.live;
-      low_live = low.live;
+          clause _ low.sides (nonzero_variable (variable_at graph o.level) (tied.ordered.within o.level within).0) is
+          (c.closing_law.ensures.consistent clause apart) (c.closing_law.ensures.apart x clause both_apart).1 low.kept;
+      high_live = high.are.stand;
+      low_live = low.are.stand;
     }
+
+pub add_both-requires-clause-both : goal.add_both-requires-clause-both
+add_both-requires-clause-both g c = both g (goal.at.add_both-requires-clause-both g c).After-as_slice
 
 pub returns-in_err-id-clause-gives : goal.returns-in_err-id-clause-gives
 returns-in_err-id-clause-gives g c untorn =
@@ -100,10 +87,10 @@ returns-clause-justified g c =
 pub returns-clause-told : goal.returns-clause-told
 returns-clause-told g c = record {
   clause = c.as_slice.result.now;
-  high = c.parts_of-high.result;
-  low = c.parts_of-low.result;
+  high = c.parts_of-high.ensures.high.sides;
+  low = c.parts_of-high.ensures.low.sides;
   is = c.implication_clause-clause.ensures ∙ ap Some (sym c.as_slice.ensures.literals);
-  on_high = record { are = c.parts_of-high.ensures.parts; stand = c.parts_of-high.ensures.live };
-  on_low = record { are = c.parts_of-low.ensures.parts; stand = c.parts_of-low.ensures.live };
-  adds = c.in_ok-id.ensures.told;
+  on_high = c.parts_of-high.ensures.high.are;
+  on_low = c.parts_of-high.ensures.low.are;
+  adds = c.in_ok-id.ensures.told (both g (goal.at.returns-clause-told g c).After-as_slice);
 }

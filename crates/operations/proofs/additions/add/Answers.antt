@@ -1,24 +1,14 @@
--- One addition: its hints are a strict refutation, and its clause is there.
-use Rattle.std.proofs.Common.{◌≡◌, ◌+◌, ◌∙◌, ◌∷◌, [], ℕ, ℤ, true, List, Contains, Option, Some, Result, Ok, Err, ap, sym, subst}
-use Rattle.std.specs.Prelude.{IfOk, OnOk}
-use Rattle.lrat_rules.specs.Chain.{literals_of}
+-- One addition: its clause is there.
+use Rattle.std.proofs.Common.{◌≡◌, ◌+◌, ◌∙◌, ℕ, ℤ, List, Contains, Some, Result, Ok, Err, ap, sym}
+use Rattle.std.specs.Prelude.{IfOk}
 use Rattle.lrat_rules.specs.State.{State, clause_at}
-use Rattle.lrat_rules.specs.Strict.{RefutesStrictly}
-use Rattle.clause_ledger.specs.Book.{Book, AreTold, addition, with_next}
-use Rattle.hint_chain.specs.declared.part.Part.{Part}
-use Rattle.hint_chain.specs.Greedy.{greedy}
+use Rattle.clause_ledger.specs.Book.{with_next}
 use Rattle.node_table.specs.declared.error.TableError.{TableError}
 use Rattle.node_table.specs.Progress.{Steps, error_of}
 use Rattle.node_table.specs.Refused.{used_up}
 use Rattle.node_table.specs.Table.{TableState, IsAddedTo}
-use Rattle.operations.specs.Additions.{AddsFrom, IsAdded}
+use Rattle.operations.specs.Additions.{IsAdded}
 use Rattle.operations.proofs.additions.add.Goals as goal
-
-pub justify-requires-clause-strict : goal.justify-requires-clause-strict
-justify-requires-clause-strict g c =
-    let live = c.args.table.now.book.state.live in
-    subst (λ (hints : List ℕ). RefutesStrictly live c.args.clause.now hints) (sym c.as_slice.ensures)
-    (c.greedy_law.ensures.refutes live c.args.clause.now c.args.parts.now _ c.hints_of-hints.ensures c.requires.live)
 
 pub returns-clause-clause : goal.returns-clause-clause
 returns-clause-clause g c =
@@ -53,17 +43,6 @@ returns-clause-added g c =
     added_by c.args.table.now c.justify.new.self c.args.clause.now c.justify.result
     (c.justify.ensures.no_empty c.requires.some) c.justify.ensures.added c.justify.ensures.own c.justify.ensures.retired
     c.justify.ensures.unretired
-
-told_by : {S : Type 0} (old new : Book S) (clause : List ℤ) (parts : List (Option Part)) (hints : List ℕ) (r : Result ℕ TableError)
-    → greedy (literals_of clause) parts ≡ Some hints → OnOk r (AreTold true old new (addition old.state clause hints ∷ []))
-    → OnOk r (AddsFrom old new clause parts)
-told_by old new clause parts hints (Ok id) chosen told = record { hints = hints; chosen = chosen; told = told }
-told_by old new clause parts hints (Err error) chosen told = tt
-
-pub returns-clause-told : goal.returns-clause-told
-returns-clause-told g c =
-    told_by c.args.table.now.book c.justify.new.self.book c.args.clause.now c.args.parts.now c.as_slice.result.now c.justify.result
-    (c.hints_of-hints.ensures ∙ ap Some (sym c.as_slice.ensures)) c.justify.ensures.step
 
 pub returns-clause-id_limit : goal.returns-clause-id_limit
 returns-clause-id_limit g c = used_up c.args.table.now c.justify.new.self c.justify.result c.justify.ensures.refused

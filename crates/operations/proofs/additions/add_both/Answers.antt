@@ -1,22 +1,27 @@
 -- The low clause is given, and the high one is retired, also where the low one is refused.
-use Rattle.std.proofs.Common.{rules, arith, ◌≡◌, ◌≢◌, ◌∙◌, ◌+◌, ◌++◌, ℕ, ℤ, neg_ℤ, List, [], ◌∷◌, Option, None, Some, Result, Err, length, ap, refl, sym}
+use Rattle.std.proofs.Common.{rules, arith, ◌≡◌, ◌≢◌, ◌∙◌, ◌+◌, ◌++◌, ℕ, ℤ, pos, neg_ℤ, false, List, [], ◌∷◌, Option, None, Some, Result, Err, length, ap, refl, sym}
 use Rattle.std.proofs.Common.{subst}
-use Rattle.lrat_rules.specs.Chain.{literals_of}
+use Rattle.lrat_rules.specs.Chain.{literals_of, with_literal}
+use Rattle.lrat_rules.specs.Strict.{RefutesStrictly}
 use Rattle.lrat_rules.specs.State.{Live, clause_at}
 use Rattle.hint_chain.specs.declared.part.Part.{Part}
-use Rattle.hint_chain.specs.Greedy.{AreLiveParts, PartsClose}
+use Rattle.hint_chain.specs.Greedy.{AreLiveParts}
+use Rattle.hint_chain.specs.Step.{Spells, parts_in}
 use Rattle.node_table.specs.declared.error.TableError.{TableError}
 use Rattle.node_table.specs.declared.error.TableError.TheVariants.{WriteFault}
-use Rattle.node_table.specs.Diagram.{Graph}
+use Rattle.node_table.specs.Diagram.{Graph, variable_at}
 use Rattle.node_table.specs.HandedOn.{handed_on, same_error}
 use Rattle.node_table.specs.Table.{TableState, IsUsedUp}
 use Rattle.node_table.specs.Tied.{IsOverNodes, KeepsClauses}
 use Rattle.operations.specs.Accounts.{GivesOne, given_clause}
-use Rattle.operations.specs.Additions.{AddsFrom, high_of, parts_in}
+use Rattle.operations.specs.Additions.{AddsFrom, high_of}
 use Rattle.operations.proofs.additions.add_both.Goals as goal
 
 not_empty : (literal : ℤ) (rest clause : List ℤ) → clause ≡ literal ∷ rest → clause ≡ [] → ⊥
 not_empty literal rest clause is empty = cc
+
+abbrev part_of : ℕ → List ℤ → Part
+part_of id clause = record { id = id; clause = clause }
 
 -- parts that are live stay so
 parts_kept : (old new : Live) → KeepsClauses old new → (parts : List (Option Part)) → AreLiveParts old parts → AreLiveParts new parts
@@ -24,55 +29,80 @@ parts_kept old new keeps [] live = tt
 parts_kept old new keeps (None ∷ parts) live = (tt, parts_kept old new keeps parts live.1)
 parts_kept old new keeps (Some part ∷ parts) live = (keeps part.id part.clause live.0, parts_kept old new keeps parts live.1)
 
-pub variable-requires : goal.variable-requires
-variable-requires g c = c.requires.both.within
+pub variable-x-requires : goal.variable-x-requires
+variable-x-requires g c = c.requires.both.within
 
 pub behind-long-requires : goal.behind-long-requires
 behind-long-requires g c = c.requires.both.short
 
-pub add-requires-clause-some : goal.add-requires-clause-some
-add-requires-clause-some g c = not_empty c.negated.result c.args.clause.now _ (c.as_slice.ensures.literals ∙ c.behind-long.ensures)
-
-pub add-requires-clause-short : goal.add-requires-clause-short
-add-requires-clause-short g c =
-    let long = c.as_slice.ensures.literals ∙ c.behind-long.ensures in
+pub step_hints-hints-requires : goal.step_hints-hints-requires
+step_hints-hints-requires g c =
+    let long = c.as_slice-own.ensures.literals ∙ c.behind-long.ensures in
     omega (arith, ap (λ (l : List ℤ). length l) long, c.requires.both.short)
 
-pub add-requires-clause-close : goal.add-requires-clause-close
-add-requires-clause-close g c =
-    let long : c.as_slice.result.now ≡ high_of c.args.table.now.graph c.args.level c.args.clause.now =
-    c.as_slice.ensures.literals ∙ c.behind-long.ensures
-    ∙ ap (λ (l : ℤ). l ∷ c.args.clause.now) (c.negated.ensures ∙ ap neg_ℤ c.variable.ensures) in
-    subst (λ (clause : List ℤ). PartsClose (literals_of clause) (parts_in c.args.high.now)) (sym long) c.requires.both.on_high
+pub add-requires-clause-some : goal.add-requires-clause-some
+add-requires-clause-some g c = not_empty c.negated.result c.args.clause.now _ (c.as_slice-own.ensures.literals ∙ c.behind-long.ensures)
 
-pub add-requires-clause-live : goal.add-requires-clause-live
-add-requires-clause-live g c = c.requires.both.high_live
+pub add-requires-clause-strict : goal.add-requires-clause-strict
+add-requires-clause-strict g c =
+    let graph = c.args.table.now.graph in
+    let live = c.args.table.now.book.state.live in
+    let clause = c.args.clause.now in
+    let own = c.as_slice-own.result.now in
+    let both = c.requires.both in
+    let long : c.as_slice-own.result.now ≡ high_of graph c.args.level clause =
+    c.as_slice-own.ensures.literals ∙ c.behind-long.ensures ∙ ap (λ (l : ℤ). l ∷ clause) (c.negated.ensures ∙ ap neg_ℤ c.variable-x.ensures) in
+    let chosen = c.step_hints-hints.ensures both.highs
+    (subst (λ (l : List ℤ). Spells (literals_of l) c.args.high.now both.highs) (sym long) both.on_high) in
+    subst (λ (hints : List ℕ). RefutesStrictly live own hints) (sym c.as_slice.ensures)
+    (c.greedy_law.ensures.refutes live own (parts_in both.highs) _ chosen both.high_live)
 
 pub add-requires-clause-over_nodes : goal.add-requires-clause-over_nodes
 add-requires-clause-over_nodes g c =
     let graph = c.args.table.now.graph in
+    let clause = c.args.clause.now in
     let tied = c.requires.sound.tied in
     let both = c.requires.both in
-    let long : c.as_slice.result.now ≡ high_of graph c.args.level c.args.clause.now =
-    c.as_slice.ensures.literals ∙ c.behind-long.ensures
-    ∙ ap (λ (l : ℤ). l ∷ c.args.clause.now) (c.negated.ensures ∙ ap neg_ℤ c.variable.ensures) in
-    subst (λ (clause : List ℤ). IsOverNodes graph clause) (sym long)
-    (c.literal_law.ensures.behind graph tied.reduced tied.ordered c.args.level both.within c.args.clause.now both.owned both.apart).1
+    let long : c.as_slice-own.result.now ≡ high_of graph c.args.level clause =
+    c.as_slice-own.ensures.literals ∙ c.behind-long.ensures ∙ ap (λ (l : ℤ). l ∷ clause) (c.negated.ensures ∙ ap neg_ℤ c.variable-x.ensures) in
+    subst (λ (l : List ℤ). IsOverNodes graph l) (sym long)
+    (c.literal_law.ensures.behind graph tied.reduced tied.ordered c.args.level both.within clause both.owned both.apart).1
 
-pub add-requires-2-clause-close : goal.add-requires-2-clause-close
-add-requires-2-clause-close g c =
-    c.requires.both.on_low _ (ap (λ (p : Part). p.clause) c.of.ensures ∙ c.behind-long.ensures
-    ∙ ap (λ (l : ℤ). l ∷ c.args.clause.now) (c.negated.ensures ∙ ap neg_ℤ c.variable.ensures))
+pub step_hints_behind-low_hints-requires-clause-new : goal.step_hints_behind-low_hints-requires-clause-new
+step_hints_behind-low_hints-requires-clause-new g c =
+    let graph = c.args.table.now.graph in
+    let clause = c.args.clause.now in
+    let tied = c.requires.sound.tied in
+    let both = c.requires.both in
+    subst (λ (y : ℤ). literals_of clause y ≡ false) (sym c.variable-x.ensures)
+    (c.closing_law.ensures.apart (pos (variable_at graph c.args.level)) clause
+    (c.literal_law.ensures.behind graph tied.reduced tied.ordered c.args.level both.within clause both.owned both.apart).0).0
 
-pub add-requires-2-clause-live : goal.add-requires-2-clause-live
-add-requires-2-clause-live g c =
+pub step_hints_behind-low_hints-requires-clause-open : goal.step_hints_behind-low_hints-requires-clause-open
+step_hints_behind-low_hints-requires-clause-open g c =
+    let graph = c.args.table.now.graph in
+    let clause = c.args.clause.now in
+    let tied = c.requires.sound.tied in
+    let both = c.requires.both in
+    subst (λ (y : ℤ). literals_of clause (neg_ℤ y) ≡ false) (sym c.variable-x.ensures)
+    (c.closing_law.ensures.apart (pos (variable_at graph c.args.level)) clause
+    (c.literal_law.ensures.behind graph tied.reduced tied.ordered c.args.level both.within clause both.owned both.apart).0).1
+
+pub add-requires-2-clause-strict : goal.add-requires-2-clause-strict
+add-requires-2-clause-strict g c =
     let old = c.args.table.now.book.state.live in
     let new = c.add.new.table.book.state.live in
+    let clause = c.args.clause.now in
     let first = c.in_ok-first in
-    let stands : clause_at new first.first ≡ Some c.behind-long.result = first.ensures.clause ∙ ap Some c.as_slice.ensures.literals in (
-      subst (λ (part : Part). clause_at new part.id ≡ Some part.clause) (sym c.of.ensures) stands,
-      parts_kept old new first.ensures.steps.extends.clauses (parts_in c.args.low.now) c.requires.both.low_live,
-    )
+    let both = c.requires.both in
+    let stands : clause_at new first.first ≡ Some (neg_ℤ c.variable-x.result ∷ clause) = first.ensures.clause
+    ∙ ap Some (c.as_slice-own.ensures.literals ∙ c.behind-long.ensures ∙ ap (λ (l : ℤ). l ∷ clause) c.negated.ensures) in
+    let chosen = c.step_hints_behind-low_hints.ensures both.lows
+    (subst (λ (y : ℤ). Spells (with_literal y (literals_of clause)) c.args.low.now both.lows) (sym c.variable-x.ensures) both.on_low) in
+    subst (λ (hints : List ℕ). RefutesStrictly new clause hints) (sym c.as_slice-2.ensures)
+    (c.greedy_law.ensures.refutes new clause
+    (Some (record { id = first.first; clause = neg_ℤ c.variable-x.result ∷ clause }) ∷ parts_in both.lows) _ chosen
+    (stands, parts_kept old new first.ensures.added.steps.extends.clauses (parts_in both.lows) both.low_live))
 
 pub add-requires-2-clause-over_nodes : goal.add-requires-2-clause-over_nodes
 add-requires-2-clause-over_nodes g c =
@@ -158,19 +188,32 @@ returns-in-Ok-clause-two_added g c =
     )
 
 pub returns-in-Ok-clause-told : goal.returns-in-Ok-clause-told
-returns-in-Ok-clause-told g c =
+returns-in-Ok-clause-told g c both =
     let old = c.args.table.now in
+    let graph = old.graph in
+    let clause = c.args.clause.now in
     let first = c.in_ok-first in
-    let long = high_of old.graph c.args.level c.args.clause.now in
-    let longer : c.behind-long.result ≡ long = c.behind-long.ensures
-    ∙ ap (λ (l : ℤ). l ∷ c.args.clause.now) (c.negated.ensures ∙ ap neg_ℤ c.variable.ensures) in
-    let part : c.of.result ≡ record { id = old.book.state.top + 1; clause = long } = c.of.ensures
-    ∙ (λ i. record { id = first.ensures.added.number i; clause = longer i }) in record {
-      between = c.add.new.table.book;
-      first = subst (λ (l : List ℤ). AddsFrom old.book c.add.new.table.book l (parts_in c.args.high.now))
-          (c.as_slice.ensures.literals ∙ longer) first.ensures.told;
-      second = subst (λ (t : TableState g.row.S.Denot). AddsFrom c.add.new.table.book t.book c.args.clause.now
-          (Some (record { id = old.book.state.top + 1; clause = long }) ∷ parts_in c.args.low.now)) (sym c.retire.ensures.retired)
-          (subst (λ (p : Part). AddsFrom c.add.new.table.book c.add-2.new.table.book c.args.clause.now (Some p ∷ parts_in c.args.low.now))
-          part c.in-Ok.ensures.told);
+    let between = c.add.new.table.book in
+    let long : c.as_slice-own.result.now ≡ high_of graph c.args.level clause =
+    c.as_slice-own.ensures.literals ∙ c.behind-long.ensures ∙ ap (λ (l : ℤ). l ∷ clause) (c.negated.ensures ∙ ap neg_ℤ c.variable-x.ensures) in
+    let x = c.variable-x.result in
+    let high_part : record { id = first.first; clause = neg_ℤ x ∷ clause } ≡ part_of (old.book.state.top + 1)
+    (high_of graph c.args.level clause) = (λ i. record { id = first.ensures.added.number i; clause = neg_ℤ (c.variable-x.ensures i) ∷ clause }) in
+    let chosen = c.step_hints-hints.ensures both.highs
+    (subst (λ (l : List ℤ). Spells (literals_of l) c.args.high.now both.highs) (sym long) both.on_high) in
+    let low_chosen = c.step_hints_behind-low_hints.ensures both.lows
+    (subst (λ (y : ℤ). Spells (with_literal y (literals_of clause)) c.args.low.now both.lows) (sym c.variable-x.ensures) both.on_low) in record {
+      between = between;
+      first = subst (λ (l : List ℤ). AddsFrom old.book between l (parts_in both.highs)) long (record {
+        hints = c.as_slice.result.now;
+        chosen = chosen ∙ ap Some (sym c.as_slice.ensures);
+        told = first.ensures.told;
+      });
+      second = subst (λ (t : TableState g.row.S.Denot). AddsFrom between t.book clause
+          (Some (part_of (old.book.state.top + 1) (high_of graph c.args.level clause)) ∷ parts_in both.lows)) (sym c.retire.ensures.retired)
+          (subst (λ (p : Part). AddsFrom between c.add-2.new.table.book clause (Some p ∷ parts_in both.lows)) high_part (record {
+            hints = c.as_slice-2.result.now;
+            chosen = low_chosen ∙ ap Some (sym c.as_slice-2.ensures);
+            told = c.in-Ok.ensures.told;
+          }));
     }

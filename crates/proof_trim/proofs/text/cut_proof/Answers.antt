@@ -71,7 +71,8 @@ returns-in-Err-clause-unfailed g c = λ differ.
 pub steps-init : goal.steps-init
 steps-init g c = record {
   same = λ told. Decides-none _ _ (λ more. refl);
-  cut = λ told. Decides-none _ _ (λ more. cut_first c.args.judge.now (steps_ahead c.args.reader.now more) c.args.cut.now c.requires.nothing);
+  cut = λ told. Decides-none _ _ (λ more. cut_first c.args.judge.now (steps_ahead c.args.reader.now more) c.args.cut.now
+      c.requires.nothing);
   so_far = λ told scanning more. ap (λ (l : List ℕ). steps_verdict c.args.judge.now false (so_far c.args.reader.now (l ++ more)))
       (gained-none (g.S.Source.channel c.args.source.now));
   counted = (let none : c.args.cut.now.total ≡ 0 = ap (λ (cut : CutProof). cut.total) c.requires.nothing in omega (arith, none));
@@ -98,7 +99,8 @@ steps-preserved g c =
           (λ bytes middle more before gives.
           let next : steps_ahead c.steps.reader middle ≡ next_step c.next_into.new.step c.in-Ok-Some.line
           (steps_ahead c.next_into.new.self more) =
-          subst (λ r. Gives r c.next_into.new.self.line (steps_ahead c.steps.reader middle) (steps_ahead c.next_into.new.self more)) is gives
+          subst (λ r. Gives r c.next_into.new.self.line (steps_ahead c.steps.reader middle) (steps_ahead c.next_into.new.self more)) is
+          gives
           in
           before ∙ cut_on c.steps.cut c.take_step.new.cut c.steps.has_empty c.or_adds_empty-has_empty.result c.steps.judge
           c.take_step.new.judge (steps_ahead c.steps.reader middle) (steps_ahead c.next_into.new.self more) c.next_into.new.step

@@ -110,3 +110,6 @@ pub returns-clause-told : goal.returns-clause-told
 returns-clause-told g c differ other =
     subst (λ (hints : List ℕ). OnOk c.add_unit.result (AddsUnit c.args.table.now c.add_unit.new.table c.args.w hints))
     (λ i. hint_of (sym c.in-Some.ensures i) ++ hint_of (sym c.in-Some-clause_id.ensures i)) c.add_unit.ensures.told
+
+pub returns-clause-none_added : goal.returns-clause-none_added
+returns-clause-none_added g c = c.add_unit.ensures.none_added

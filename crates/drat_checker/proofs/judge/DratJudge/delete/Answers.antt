@@ -1,16 +1,27 @@
--- The clause is gone, and the roots stay where it forced none of them.
-use Rattle.std.proofs.Common.{sym, subst}
-use Rattle.drat_checker.specs.Places.{Places}
-use Rattle.drat_checker.specs.Roots.{AreKept}
+-- The first such clause is gone, and the roots stay where it forced none of them; or there is none.
+use Rattle.std.proofs.Common.{◌≡◌, refl, sym, ap, ◌∙◌, subst, ℤ, List}
+use Rattle.drat_rules.specs.Clauses.{equality_of, without_first_by}
+use Rattle.drat_checker.specs.Places.{standing}
+use Rattle.drat_checker.proofs.Standing.{place-within, remove-first, without-none}
 use Rattle.drat_checker.proofs.judge.DratJudge.delete.Goals as goal
+
+pub clear-requires : goal.clear-requires
+clear-requires c = place-within c.self.inside.db c.in-Some.number c.in-Some.ensures.found.own c.in-Some.ensures.found.stands
 
 pub invariant_of-self : goal.invariant_of-self
 invariant_of-self c =
-    subst (λ (ps : Places). AreKept c.self.inside.roots ps c.self.inside.kept c.self.inside.trail)
-    (sym (c.remove-found.ensures.none c.if-not-found.true)) c.self.invariant
+    c.lowered-self-inside.ensures c.clear.new.self c.self.inside.kept c.clear.ensures c.self.invariant
 
-pub invariant_of-self-2 : goal.invariant_of-self-2
-invariant_of-self-2 c =
-    c.lowered-self-inside.ensures c.self.inside.db c.remove-found.new.self c.self.inside.kept
-    (record { left = c.remove-found.ensures.standing; many = c.remove-found.ensures.many; stood = c.remove-found.ensures.fewer })
-    c.self.invariant
+pub returns-in-None : goal.returns-in-None
+returns-in-None c =
+    let same = equality_of c.args.deletions in
+    subst (λ (cs : List (List ℤ)). cs ≡ without_first_by same c.args.clause.now cs) c.self.view_is
+    (sym (without-none same c.self.inside.db c.args.clause.now (c.in-None.ensures.none refl).absent))
+
+pub returns-in-Some : goal.returns-in-Some
+returns-in-Some c =
+    let same = equality_of c.args.deletions in
+    let first = c.in-Some.ensures.found in
+    ap standing c.clear.ensures
+    ∙ remove-first same c.self.inside.db c.in-Some.number c.args.clause.now first.own first.stands first.twin first.least
+    ∙ ap (without_first_by same c.args.clause.now) c.self.view_is

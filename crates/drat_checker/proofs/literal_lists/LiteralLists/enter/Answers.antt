@@ -14,7 +14,8 @@ pub returns-then-key-ge-NEAR_PLACES-clause-entered : goal.returns-then-key-ge-NE
 returns-then-key-ge-NEAR_PLACES-clause-entered c =
     let new : LiteralLists = record { near = c.args.self.now.near; far = c.enter.new.self } in
     on-ok c.enter.result
-    (λ h. ap (has_number c.args.number) (far-own new c.args.literal c.key_of-key.result c.key_of-key.ensures.key c.if-key-ge-NEAR_PLACES.true) ∙ h)
+    (λ h. ap (has_number c.args.number) (far-own new c.args.literal c.key_of-key.result c.key_of-key.ensures.key
+    c.if-key-ge-NEAR_PLACES.true) ∙ h)
     c.enter.ensures.entered
 
 pub returns-in_err-reach-clause-kept : goal.returns-in_err-reach-clause-kept

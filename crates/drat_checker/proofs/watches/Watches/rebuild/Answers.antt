@@ -11,7 +11,13 @@ loop-number-init c = watched-none _ c.clear.ensures.items
 
 pub enter-requires : goal.enter-requires
 enter-requires c =
-    omega (arith, c.loop-number.invariant.many, length-take c.loop-number.number c.args.db.now, c.in_ok-count.ensures, c.loop-number-test.true)
+    omega (
+      arith,
+      c.loop-number.invariant.many,
+      length-take c.loop-number.number c.args.db.now,
+      c.in_ok-count.ensures,
+      c.loop-number-test.true,
+    )
 
 pub loop-number-preserved : goal.loop-number-preserved
 loop-number-preserved c =

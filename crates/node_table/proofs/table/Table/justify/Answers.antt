@@ -1,9 +1,13 @@
 -- What is left to show of `Table::justify`.
-use Rattle.std.proofs.Common.{◌≢◌, ◌∙◌, ◌+◌, ◌≤◌, ℕ, List, length, [], Option, Some, Contains, is_some, sym, ap, subst}
+use Rattle.std.proofs.Common.{◌≡◌, ◌≢◌, ◌∙◌, ◌+◌, ◌≤◌, ℕ, true, List, length, [], Option, Some, Contains, is_some, sym, ap, subst}
 use Rattle.std.specs.Prelude.{vec_capacity}
+use Rattle.lrat_rules.specs.Conservative.{is_conservative}
 use Rattle.lrat_rules.specs.State.{State, clause_at}
+use Rattle.lrat_rules.specs.Strict.{RefutesStrictly}
+use Rattle.clause_ledger.specs.Book.{addition}
 use Rattle.clause_ledger.specs.Told.{told_state, told_formula}
 use Rattle.node_table.specs.declared.error.TableError.{TableError}
+use Rattle.node_table.specs.Diagram.{levels}
 use Rattle.node_table.specs.Tied.{IsAdded, IsOverNodes}
 use Rattle.node_table.specs.Places.{HavePlaces}
 use Rattle.node_table.specs.Table.{TableState, AddsNoEmpty, IsSound}
@@ -58,6 +62,15 @@ returns-in-Ok-clause-unretired g c among =
     not_next inside.diagram inside.ledger.state is.tied (ap (λ (n : ℕ). is_some (clause_at inside.ledger.state.live n))
     (sym c.in-Ok.ensures.added.0) ∙ (is.retired.each c.in-Ok.id there).stands)
 
+-- the clause follows by its hints
+conserves : (g : Over) (c : After-add g) → is_conservative (levels c.self.inside.diagram) c.self.inside.ledger.state
+    (addition c.self.inside.ledger.state c.args.clause.now c.args.hints.now) ≡ true
+conserves g c =
+    let state = c.self.inside.ledger.state in
+    c.strict_addition_law.ensures.conservative (levels c.self.inside.diagram) state (state.top + 1) c.args.clause.now c.args.hints.now
+    (subst {A = TableState g.row.S.Denot} (λ t. RefutesStrictly t.book.state.live c.args.clause.now c.args.hints.now) (sym c.self.view_is)
+    c.requires.strict)
+
 -- the steps, as the ledger answered
 steps : (g : Over) (c : After-add g)
     → StepsOrRefutes c.args.self.now
@@ -79,7 +92,7 @@ steps g c =
       torn = own.torn;
     } in
     let all = justify_steps (aside g c) inside.diagram inside.ledger new c.args.clause.now c.args.hints.now
-    (sound g c) over c.self.invariant.1 c.marks_law.ensures.fewer c.add.result answers in
+    (sound g c) over c.self.invariant.1 c.marks_law.ensures.fewer (conserves g c) c.add.result answers in
     let none = justify_no_empty (aside g c) inside.diagram inside.ledger new c.args.clause.now c.args.hints.now
     (sound g c) over c.self.invariant.1 c.marks_law.ensures.fewer c.add.result answers in (
       subst (λ (ids : List ℕ). StepsOrRefutes

@@ -57,6 +57,7 @@ module _ (g : Over) (c : After-new g) where
     terms = c.new.result;
     refuted = false;
     kept = None;
+    refusals = c.new-refusals.result;
   })
   unused = record {
     limits = c.requires.limits;
@@ -79,6 +80,7 @@ module _ (g : Over) (c : After-new g) where
     none_left = c.new.ensures.left;
     unrefuted = refl;
     none_kept = refl;
+    none_refused = c.new-refusals.ensures.items;
   }
 
 pub returns-clause-opened : goal.returns-clause-opened

@@ -63,3 +63,9 @@ returns-in_err-count-clause-origin g c =
 
 pub returns-clause-origin : goal.returns-clause-origin
 returns-clause-origin g c = told_origin c.in_ok-count.ensures.leaves.told
+
+pub returns-clause-sizes : goal.returns-clause-sizes
+returns-clause-sizes g c = c.reclaim.ensures.sizes
+
+pub returns-in_err-count-clause-sizes : goal.returns-in_err-count-clause-sizes
+returns-in_err-count-clause-sizes g c = c.reclaim.ensures.sizes

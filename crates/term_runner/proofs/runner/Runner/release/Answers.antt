@@ -1,11 +1,11 @@
 -- A term goes from the list, and its clause is retired, or kept.
-use Rattle.std.proofs.Common.{◌≡◌, ◌∙◌, ◌<◌, ◌++◌, ◌∷◌, suc, List, Contains, Some, length, take, drop, inl, refl, sym, ap, subst}
+use Rattle.std.proofs.Common.{◌≡◌, ◌∙◌, ◌<◌, ◌++◌, ◌∷◌, suc, true, false, List, Contains, Some, length, take, drop, inl, refl, sym, ap, subst}
 use Rattle.std.specs.Prelude.{get_or, IsTrue}
 use Rattle.std.specs.Option.{option_to_list}
 use Rattle.std.proofs.lemmas.List.Elements.{Contains-append_left}
 use Rattle.clause_ledger.specs.Book.{Book}
 use Rattle.term_runner.specs.declared.held.HeldTerm.{HeldTerm}
-use Rattle.term_runner.specs.Runner.{owners}
+use Rattle.term_runner.specs.Runner.{owners, refusals_of}
 use Rattle.term_runner.proofs.Kept.{good_true}
 use Rattle.term_runner.proofs.Released.{around, releases_kept, releases_retired, releases_true}
 use Rattle.term_runner.proofs.runner.Runner.release.Given.{Over}
@@ -38,8 +38,11 @@ module _ (g : Over) (c : After-remove g) where
   pub was : items ≡ take c.in-Some.place items ++ c.args.term.held ∷ drop (suc c.in-Some.place) items
   was = around items c.in-Some.place c.args.term.held small at
 
-  pub among : Contains (owners c.args.self.now) c.args.term.held
+  among : Contains (owners c.args.self.now) c.args.term.held
   among = Contains-append_left items (option_to_list c.args.self.now.kept) c.args.term.held (c.in-Some.place, small, at)
+
+  pub among_all : Contains (owners c.args.self.now ++ refusals_of c.args.self.now) c.args.term.held
+  among_all = Contains-append_left (owners c.args.self.now) (refusals_of c.args.self.now) c.args.term.held among
 
 pub returns-then-is_first_false-clause-releases : goal.returns-then-is_first_false-clause-releases
 returns-then-is_first_false-clause-releases g c on =
@@ -55,13 +58,13 @@ pub retire_unit-requires-clause-added : goal.retire_unit-requires-clause-added
 retire_unit-requires-clause-added g c id is =
     let inside = (goal.at.retire_unit-requires-clause-added g c).After-remove in
     let runner = c.requires.runner (in_step g inside) in
-    runner.units.added id (record { held = c.args.term.held; stacked = among g inside; unit = is })
+    runner.units.added id (record { held = c.args.term.held; stacked = among_all g inside; unit = is })
 
 pub retire_unit-requires-clause-unretired : goal.retire_unit-requires-clause-unretired
 retire_unit-requires-clause-unretired g c id is gone =
     let inside = (goal.at.retire_unit-requires-clause-unretired g c).After-remove in
     let runner = c.requires.runner (in_step g inside) in
-    runner.units.own c.args.term.held (among g inside) id is (inl gone)
+    runner.units.own c.args.term.held (among_all g inside) id is (inl gone)
 
 pub returns-clause-releases : goal.returns-clause-releases
 returns-clause-releases g c on =
@@ -73,3 +76,4 @@ returns-clause-releases g c on =
     (was g inside) c.steps_law.ensures c.entry_law.ensures table
     (record old { terms = record old.terms { table = table; out = c.remove.new.self } }) refl c.remove.ensures.items
     c.retire_unit.ensures.retired c.retire_unit.ensures.steps (c.is_first_false.ensures.other c.if-is_first_false.false)
+    (λ is. let e : true ≡ false = sym (c.is_same.ensures.1 is) ∙ c.if-is_same.false in cc)

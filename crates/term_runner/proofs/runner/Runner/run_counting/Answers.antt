@@ -1,5 +1,5 @@
 -- What is left to show of `run_counting`.
-use Rattle.std.proofs.Common.{◌≡◌, ◌∙◌, ℤ, Bool, true, false, List, [], Option, None, Result, Ok, Err, refl, sym, ap, subst}
+use Rattle.std.proofs.Common.{◌≡◌, ◌∙◌, ℤ, Bool, true, false, List, [], length, Option, None, Result, Ok, Err, refl, sym, ap, subst}
 use Rattle.std.specs.Prelude.{IfOk, IsTrue}
 use Rattle.host_io.specs.Channel.{Channel}
 use Rattle.clause_ledger.specs.Book.{Book, IsBook, IsProofOf}
@@ -11,6 +11,7 @@ use Rattle.term_runner.specs.declared.error.RunError.{RunError}
 use Rattle.term_runner.specs.declared.outcome.Outcome.{Outcome}
 use Rattle.term_runner.specs.declared.outcome.Outcome.TheVariants.{Unsat}
 use Rattle.term_runner.specs.declared.outcome.Run.{Run}
+use Rattle.term_runner.specs.declared.runner.Runner.{Runner}
 use Rattle.term_runner.specs.Caches.{all_entries}
 use Rattle.term_runner.specs.Ends.{outcome_of}
 use Rattle.term_runner.specs.Opened.{EndsWithinFrom, IsBehind, Leads}
@@ -21,25 +22,28 @@ use Rattle.term_runner.proofs.Resting.{empty_added, nothing, owns_nothing}
 use Rattle.term_runner.proofs.runner.Runner.run_counting.Goals as goal
 
 pub decide-found-requires-clause-capacity : goal.decide-found-requires-clause-capacity
-decide-found-requires-clause-capacity g c = c.requires.runner.within.allowed.cache
+decide-found-requires-clause-capacity g c = c.give_up_refusals.ensures.goes_on.within.allowed.cache
 
 pub decide-found-requires-clause-size : goal.decide-found-requires-clause-size
-decide-found-requires-clause-size g c = c.requires.runner.within.size
+decide-found-requires-clause-size g c = c.give_up_refusals.ensures.goes_on.within.size
 
 pub decide-found-requires-clause-over : goal.decide-found-requires-clause-over
-decide-found-requires-clause-over g c = c.requires.runner.over
+decide-found-requires-clause-over g c = c.give_up_refusals.ensures.goes_on.over
 
 pub decide-found-requires-clause-refuted : goal.decide-found-requires-clause-refuted
-decide-found-requires-clause-refuted g c is = empty_added c.args.self c.requires.runner is
+decide-found-requires-clause-refuted g c is = empty_added c.give_up_refusals.new.self c.give_up_refusals.ensures.goes_on is
 
 pub decide-found-requires-clause-own : goal.decide-found-requires-clause-own
-decide-found-requires-clause-own g c clean = owns_nothing c.args.self c.requires.runner c.requires.none_out clean
+decide-found-requires-clause-own g c clean = owns_nothing c.give_up_refusals.new.self c.give_up_refusals.ensures.goes_on
+    (ap (λ (r : Runner g.row.S.Denot). length r.terms.out.items) c.give_up_refusals.ensures.same ∙ c.requires.none_out)
+    c.give_up_refusals.ensures.none clean
 
 pub decide-found-requires-clause-none_out : goal.decide-found-requires-clause-none_out
-decide-found-requires-clause-none_out g c = nothing c.args.self.terms.out.items c.requires.none_out
+decide-found-requires-clause-none_out g c = nothing c.give_up_refusals.new.self.terms.out.items
+    (ap (λ (r : Runner g.row.S.Denot). length r.terms.out.items) c.give_up_refusals.ensures.same ∙ c.requires.none_out)
 
 pub decide-found-requires-clause-no_trail : goal.decide-found-requires-clause-no_trail
-decide-found-requires-clause-no_trail g c = c.requires.runner.no_trail
+decide-found-requires-clause-no_trail g c = c.give_up_refusals.ensures.goes_on.no_trail
 
 -- a refusal comes only where the empty clause wasn't added before
 clean_before : {Q : Type 0} (refuted : Bool) (found : Result (Option (List Bool)) TableError)
@@ -49,11 +53,13 @@ clean_before false found at_once none error is = none refl
 
 pub returns-clause-ends : goal.returns-clause-ends
 returns-clause-ends g c =
-    let runner = c.requires.runner in
-    let formula = c.args.self.formula.now in
-    let limits = c.args.self.limits in
+    let self = c.give_up_refusals.new.self in
+    let moved = c.give_up_refusals.ensures.same in
+    let runner = c.give_up_refusals.ensures.goes_on in
+    let formula = self.formula.now in
+    let limits = self.limits in
     let moves = c.args.plan.now in
-    let table = c.args.self.terms.table in
+    let table = self.terms.table in
     let order = table.graph.order in
     let first = table.book.state.top in
     let tells = g.S.Sink.tells in
@@ -72,7 +78,9 @@ returns-clause-ends g c =
     let origin : Channel = channel new.book.origin in
     let before : Channel = channel table.book.sink in
     let after : Channel = channel new.book.sink in
-    let fresh : IsTrue tells → origin.written ≡ [] = λ t. ap (λ (s : g.row.S.Denot). (channel s).written) same ∙ c.requires.fresh t in
+    let fresh : IsTrue tells → origin.written ≡ [] = λ t. ap (λ (s : g.row.S.Denot). (channel s).written) same ∙ ap (λ (r : Runner
+    g.row.S.Denot). (channel r.terms.table.book.origin).written) moved
+    ∙ c.requires.fresh t in
     let from_origin : IsBehind tells origin after formula.clauses new.book =
     subst (λ (b : Book g.row.S.Denot). IsBehind tells (channel b.origin) (channel b.sink) formula.clauses b) kept
     (behind_of tells channel _ ledger formula.clauses (ap (λ (b : Book g.row.S.Denot). b.formula) kept ∙ of_formula)
@@ -82,9 +90,9 @@ returns-clause-ends g c =
     (law.since.name ∙ ap (λ (s : g.row.S.Denot). (channel s).name) (sym same))
     (law.since.unfailed runner.over.sound.in_step ∙ ap (λ (s : g.row.S.Denot). (channel s).faults) (sym same)) from_origin in
     let leads = decided_leads c.canonical_law.ensures c.soundness_law.ensures.derived c.derivation_law.ensures.refutes_by_step
-    c.start_law.ensures.none_above c.in_use_law.ensures tells before after formula moves limits table new c.args.self.terms.caches
-    (all_entries c.args.self.terms.caches) found c.formula_law.ensures.literals runner.over runner.within begun behind
-    (clean_before c.args.self.refuted found (λ is. (told.at_once is).0) runner.unrefuted)
+    c.start_law.ensures.none_above c.in_use_law.ensures tells before after formula moves limits table new self.terms.caches
+    (all_entries self.terms.caches) found c.formula_law.ensures.literals runner.over runner.within begun behind
+    (clean_before self.refuted found (λ is. (told.at_once is).0) runner.unrefuted)
     (λ unchanged. ap (λ (t : TableState g.row.S.Denot). (channel t.book.sink).written) unchanged) c.table_law.ensures.few_nodes
     told.decides in
     let outcome = subst (λ (o : Result Outcome RunError). Leads first tells before after formula order moves limits new.book o)
@@ -92,13 +100,16 @@ returns-clause-ends g c =
     let handed = subst (λ (b : Book g.row.S.Denot). Leads first tells before (channel b.sink) formula order moves limits b
     c.outcome_of.result) (sym kept) outcome in
     let ended = c.finish-result.ensures.ends before formula order moves limits first handed in
-    subst (λ (s : g.row.S.Denot). EndsWithinFrom first tells before (channel s) formula order moves limits c.finish-result.result)
-    (sym c.close.ensures) ended
+    subst (λ (r : Runner g.row.S.Denot). EndsWithinFrom r.terms.table.book.state.top tells (channel r.terms.table.book.sink)
+    (channel c.close.result) r.formula.now r.terms.table.graph.order moves r.limits c.finish-result.result) moved
+    (subst (λ (s : g.row.S.Denot). EndsWithinFrom first tells before (channel s) formula order moves limits c.finish-result.result)
+    (sym c.close.ensures) ended)
 
 pub finish-result-requires : goal.finish-result-requires
 finish-result-requires g c = record {
   in_step = λ whole. ap (λ (b : Book g.row.S.Denot). b.in_step) c.into_ledger-ledger.ensures
-      ∙ (went_on c.args.self.terms.table c.decide-found.new.self.table c.decide-found.result c.decide-found.ensures.decides.leaves
+      ∙ (went_on c.give_up_refusals.new.self.terms.table c.decide-found.new.self.table c.decide-found.result
+      c.decide-found.ensures.decides.leaves
       (λ torn. whole (c.outcome_of.ensures ∙ ap outcome_of torn))).sound.in_step;
 }
 
@@ -114,17 +125,22 @@ outcome_is found other (Err e) one two is = tt
 pub returns-clause-refuted : goal.returns-clause-refuted
 returns-clause-refuted g c is =
     outcome_is c.outcome_of.result (outcome_of c.decide-found.result) c.finish-result.result c.outcome_of.ensures
-    (ap outcome_of (c.decide-found.ensures.at_once is).0) c.finish-result.ensures.outcome
+    (ap outcome_of (c.decide-found.ensures.at_once
+    (ap (λ (r : Runner g.row.S.Denot). r.refuted) c.give_up_refusals.ensures.same ∙ is)).0) c.finish-result.ensures.outcome
 
 pub returns-clause-as_written : goal.returns-clause-as_written
 returns-clause-as_written g c is =
     let channel : g.row.S.Denot → Channel = g.S.Sink.channel in
     ap (λ (s : g.row.S.Denot). (channel s).written) c.close.ensures ∙ c.finish-result.ensures.written
     ∙ ap (λ (b : Book g.row.S.Denot). (channel b.sink).written) c.into_ledger-ledger.ensures
-    ∙ ap (λ (t : TableState g.row.S.Denot). (channel t.book.sink).written) (c.decide-found.ensures.at_once is).1
+    ∙ ap (λ (t : TableState g.row.S.Denot). (channel t.book.sink).written) (c.decide-found.ensures.at_once
+    (ap (λ (r : Runner g.row.S.Denot). r.refuted) c.give_up_refusals.ensures.same ∙ is)).1
+    ∙ ap (λ (r : Runner g.row.S.Denot). (channel r.terms.table.book.sink).written) c.give_up_refusals.ensures.same
 
 pub returns-clause-beside : goal.returns-clause-beside
 returns-clause-beside g c =
     ap g.S.Sink.beside c.close.ensures ∙ c.book_law-3.ensures.book.rest
     ∙ ap g.S.Sink.beside (c.finish-result.ensures.origin ∙ ap (λ (b : Book g.row.S.Denot). b.origin) c.into_ledger-ledger.ensures
-    ∙ origin_left c.args.self.terms.table c.decide-found.new.self.table (error_of c.decide-found.result) c.decide-found.ensures.decides.leaves)
+    ∙ origin_left c.give_up_refusals.new.self.terms.table c.decide-found.new.self.table (error_of c.decide-found.result)
+    c.decide-found.ensures.decides.leaves
+    ∙ ap (λ (r : Runner g.row.S.Denot). r.terms.table.book.origin) c.give_up_refusals.ensures.same)

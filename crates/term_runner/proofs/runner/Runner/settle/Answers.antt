@@ -1,5 +1,5 @@
 -- The clauses that a call retired are deleted behind it.
-use Rattle.std.proofs.Common.{◌≡◌, ℕ, Some, ap, subst, arith}
+use Rattle.std.proofs.Common.{◌≡◌, ℕ, Some, ap, subst, arith, inl, inr, refl}
 use Rattle.node_table.specs.declared.error.TableError.{TableError}
 use Rattle.node_table.specs.declared.error.TableError.TheVariants.{WriteFault}
 use Rattle.node_table.specs.HandedOn.{handed_on}
@@ -51,3 +51,19 @@ returns-in_err-settle-clause-adds g c most old few =
 pub returns-clause-adds : goal.returns-clause-adds
 returns-clause-adds g c most old few =
     adds_same old.terms.table c.args.self.now.terms.table c.settle.new.self most c.settle.ensures.nodes c.settle.ensures.top few
+
+pub returns-in_err-settle-clause-given : goal.returns-in_err-settle-clause-given
+returns-in_err-settle-clause-given g c =
+    inr (handed_on _ c.in_err-settle.field-0.0 WriteFault c.from_residual.ensures.1 c.in_err-settle.ensures.error)
+
+pub returns-in_err-settle-clause-nodes : goal.returns-in_err-settle-clause-nodes
+returns-in_err-settle-clause-nodes g c = c.settle.ensures.nodes
+
+pub returns-clause-nodes : goal.returns-clause-nodes
+returns-clause-nodes g c = c.settle.ensures.nodes
+
+pub returns-then-not-has_ended-clause-given : goal.returns-then-not-has_ended-clause-given
+returns-then-not-has_ended-clause-given g c = inl refl
+
+pub returns-clause-given : goal.returns-clause-given
+returns-clause-given g c = inl refl

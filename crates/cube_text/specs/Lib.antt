@@ -1,0 +1,2 @@
+pub mod CubeText
+pub mod CubeReader

@@ -1,0 +1,9 @@
+pub mod LiteralSet
+pub mod Equations
+pub mod Places
+pub mod Index
+pub mod Denied
+pub mod Walk
+pub mod Conflict
+pub mod Sums
+pub mod Laws

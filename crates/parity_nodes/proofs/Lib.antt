@@ -1,0 +1,2 @@
+pub mod SumNodes
+pub mod SumParts

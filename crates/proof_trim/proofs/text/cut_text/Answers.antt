@@ -1,0 +1,31 @@
+-- What is ahead of a new reader are the steps of the text.
+use Rattle.std.proofs.Common.{◌≡◌, ℕ, List, false, Option, sym, ◌∙◌, ap, subst}
+use Rattle.text_scan.specs.Decides.{Decides-map}
+use Rattle.lrat_text.specs.Reader.{steps_ahead, so_far}
+use Rattle.lrat_text.specs.Steps.{steps, steps_so_far}
+use Rattle.lrat_rules.specs.State.{State}
+use Rattle.lrat_checker.specs.declared.verdict.Verdict.{Verdict}
+use Rattle.lrat_checker.specs.TextVerdict.{max_bytes, steps_verdict, text_verdict, verdict_so_far, Answers}
+use Rattle.proof_trim.proofs.Ahead.{whole_cut}
+use Rattle.proof_trim.proofs.text.cut_text.Goals as goal
+
+pub returns-clause-decides : goal.returns-clause-decides
+returns-clause-decides g c =
+    let whole : (bytes : List ℕ) → steps_verdict c.in_ok-judge.judge false (steps_ahead c.new-reader.result bytes)
+    ≡ text_verdict c.args.formula.now.clauses bytes =
+    λ bytes. ap (steps_verdict c.in_ok-judge.judge false) (c.new-reader.ensures.steps bytes)
+    ∙ ap (λ (s : State). steps_verdict s false (steps max_bytes bytes)) c.in_ok-judge.ensures in
+    λ told. Decides-map _ (c.cut_proof.ensures.decides told)
+    (λ bytes more answers. subst (λ (verdict : Option Verdict). Answers c.cut_proof.result verdict) (whole bytes) answers)
+
+pub returns-clause-cut : goal.returns-clause-cut
+returns-clause-cut g c = λ told is. Decides-map _ (c.cut_proof.ensures.cut told is)
+    (λ bytes more cut_is. cut_is ∙ (λ i. whole_cut (c.in_ok-judge.ensures i) (c.new-reader.ensures.steps bytes i)))
+
+pub returns-clause-undecided : goal.returns-clause-undecided
+returns-clause-undecided g c =
+    let whole : (bytes : List ℕ) → steps_verdict c.in_ok-judge.judge false (so_far c.new-reader.result bytes)
+    ≡ verdict_so_far c.args.formula.now.clauses bytes =
+    λ bytes. ap (steps_verdict c.in_ok-judge.judge false) (c.new-reader.ensures.so_far bytes)
+    ∙ ap (λ (s : State). steps_verdict s false (steps_so_far bytes)) c.in_ok-judge.ensures in
+    λ told is. sym (whole _) ∙ c.cut_proof.ensures.undecided told is

@@ -1,0 +1,166 @@
+// Bytes as a stack, in chunks: what is taken off gives its memory back, and no growth copies more than a chunk.
+ghost use Rattle.std.specs.Prelude.{◌≡◌, [], ◌∷◌, ◌++◌, IfSome, IfNone, OnOk, length};
+ghost use Rattle.proof_trim.specs.Row.{stacked};
+
+use cnf_base::OutOfMemory;
+use std::alloc::Global;
+use std::marker::Model;
+use std::mem;
+
+// The most bytes of a chunk.
+const CHUNK: usize = 65536;
+
+/// Bytes in the order in which they came.
+#[derive(Debug, Drop)]
+pub struct Chunk {
+    bytes: Vec<u8>,
+}
+
+impl Model for Chunk {
+    ghost use Rattle.std.specs.Prelude.{List, ℕ};
+
+    ghost Value = { List ℕ };
+
+    ghost view = { λ chunk. chunk.bytes.items };
+}
+
+impl Chunk {
+    fn new(alloc: Global) -> Chunk
+        ensures { result ≡ [] }
+    {
+        Chunk {
+            bytes: Vec::new(alloc),
+        }
+    }
+
+    fn len(&self) -> usize
+        ensures { result ≡ length self.now }
+    {
+        self.bytes.len()
+    }
+
+    fn push(&mut self, byte: u8) -> Result<(), OutOfMemory>
+        ensures { OnOk result (self.new ≡ self.old ++ byte ∷ []) }
+    {
+        self.bytes.push(byte)?;
+        Ok(())
+    }
+
+    fn pop(&mut self) -> Option<u8>
+        ensures some { IfSome result (λ byte. self.old ≡ self.new ++ byte ∷ []) }
+        ensures none { IfNone result (self.old ≡ []) }
+        ensures left { IfNone result (self.new ≡ []) }
+    {
+        self.bytes.pop()
+    }
+}
+
+/// Bytes, of which the last that came is the first of the list, and comes off first.
+#[derive(Debug, Drop)]
+pub struct ByteStack {
+    alloc: Global,
+    full: Vec<Chunk>,
+    last: Chunk,
+}
+
+impl Model for ByteStack {
+    ghost use Rattle.std.specs.Prelude.{List, ℕ};
+    ghost use Rattle.proof_trim.specs.Row.{stacked};
+
+    ghost Value = { List ℕ };
+
+    ghost view = { λ stack. stacked stack.full.items stack.last };
+}
+
+impl ByteStack {
+    /// No bytes.
+    pub fn new(alloc: Global) -> ByteStack
+        ensures { result ≡ [] }
+    {
+        ByteStack {
+            alloc,
+            full: Vec::new(alloc),
+            last: Chunk::new(alloc),
+        }
+    }
+
+    /// One more byte.
+    pub fn push(&mut self, byte: u8) -> Result<(), OutOfMemory>
+        ensures { OnOk result (self.new ≡ byte ∷ self.old) }
+    {
+        push_byte(self.alloc, &mut self.full, &mut self.last, byte)
+    }
+
+    /// Takes the last byte.
+    pub fn pop(&mut self) -> Option<u8>
+        ensures some { IfSome result (λ byte. self.old ≡ byte ∷ self.new) }
+        ensures none { IfNone result (self.old ≡ []) }
+        ensures left { IfNone result (self.new ≡ []) }
+    {
+        pop_byte(&mut self.full, &mut self.last)
+    }
+}
+
+fn push_byte(
+    alloc: Global,
+    full: &mut Vec<Chunk>,
+    last: &mut Chunk,
+    byte: u8,
+) -> Result<(), OutOfMemory>
+    ensures { OnOk result (stacked full.new.items last.new ≡ byte ∷ stacked full.old.items last.old) }
+{
+    make_room(alloc, full, last)?;
+    last.push(byte)?;
+    Ok(())
+}
+
+// Begins a chunk where the last one is full.
+fn make_room(alloc: Global, full: &mut Vec<Chunk>, last: &mut Chunk) -> Result<(), OutOfMemory>
+    ensures { OnOk result (stacked full.new.items last.new ≡ stacked full.old.items last.old) }
+{
+    if last.len() < CHUNK {
+        return Ok(());
+    }
+    let chunk = mem::replace(last, Chunk::new(alloc));
+    full.push(chunk)?;
+    Ok(())
+}
+
+fn pop_byte(full: &mut Vec<Chunk>, last: &mut Chunk) -> Option<u8>
+    ensures some { IfSome result (λ byte. stacked full.old.items last.old ≡ byte ∷ stacked full.new.items last.new) }
+    ensures none { IfNone result (stacked full.old.items last.old ≡ []) }
+    ensures left { IfNone result (stacked full.new.items last.new ≡ []) }
+{
+    match last.pop() {
+        Some(byte) => Some(byte),
+        None => pop_full(full, last),
+    }
+}
+
+// Takes the last byte, where the last chunk is empty.
+fn pop_full(full: &mut Vec<Chunk>, last: &mut Chunk) -> Option<u8>
+    requires { last.old ≡ [] }
+    ensures some { IfSome result (λ byte. stacked full.old.items [] ≡ byte ∷ stacked full.new.items last.new) }
+    ensures none { IfNone result (stacked full.old.items [] ≡ []) }
+    ensures left { IfNone result (stacked full.new.items last.new ≡ []) }
+{
+    'chunks: loop {
+        match pop_chunk(full) {
+            Some(chunk) => {
+                *last = chunk;
+                if let Some(byte) = last.pop() {
+                    return Some(byte);
+                }
+            }
+            None => return None,
+        }
+    }
+}
+
+fn pop_chunk(full: &mut Vec<Chunk>) -> Option<Chunk>
+    ensures some { IfSome result (λ chunk. full.old.items ≡ full.new.items ++ chunk ∷ []) }
+    ensures none { IfNone result (full.old.items ≡ []) }
+    ensures left { IfNone result (full.new.items ≡ []) }
+{
+    full.pop()
+}
