@@ -1,4 +1,4 @@
-"""Other programs that judge proofs, and a run of one of them by its seconds of the processor."""
+"""Other programs that judge proofs, and a run of one of them by its CPU seconds."""
 import os
 import resource
 import shutil
@@ -13,7 +13,7 @@ PACKAGES = {
 
 
 class Run:
-    """The exit code (None at the end of the time), the output, the seconds of the processor, and the most memory in MiB."""
+    """The exit code (None at the end of the time), the output, the CPU seconds, and the most memory in MiB."""
 
     def __init__(self, words, seconds, text=""):
         limit = lambda: resource.setrlimit(resource.RLIMIT_CPU, (seconds, seconds))

@@ -110,3 +110,33 @@ class Tables:
 
     def values(self, assignment):
         return [x if assignment >> self.bit(x) & 1 else -x for x in range(1, self.variables + 1)]
+
+
+def parts(term, variables):
+    """The functions that are left of a term by values for its first variables, and that depend on the next one."""
+    found, now = set(), {term}
+    for level in range(variables):
+        half = 1 << variables - level - 1
+        sides = {part: (part >> half, part & (1 << half) - 1) for part in now}
+        found |= {(level, part) for part, (high, low) in sides.items() if high != low}
+        now = {side for both in sides.values() for side in both}
+    return found
+
+
+def width(variables, clauses, moves):
+    """The most parts in hand at a move, up to the one that makes a term false."""
+    tables, stack, trail, most = Tables(variables), [], [], 0
+    for move, which in moves:
+        before = [*stack, *trail]
+        if move == PUSH:
+            result = tables.clause(clauses[which])
+        elif move == AND:
+            result = stack.pop() & stack.pop()
+        else:
+            trail.append(stack.pop())
+            result = tables.exists(which, trail[-1])
+        stack.append(result)
+        most = max(most, len(set().union(*(parts(term, variables) for term in [*before, result]))))
+        if not result:
+            break
+    return most

@@ -4,7 +4,7 @@ use Rattle.std.proofs.Common.{append_assoc, drop-cons, rules}
 use Rattle.std.specs.Prelude.{decimal, codes}
 use Rattle.std.proofs.lemmas.List.{drop_all}
 use Rattle.answer_text.specs.Model.{literal, max_width, words_from, has_room, separator, width_behind, wrapped}
-use Rattle.answer_text.specs.Status.{unknown_line, not_verified_line, board_line, kept_line, last_line}
+use Rattle.answer_text.specs.Status.{unknown_line, not_verified_line, board_line, cube_line, kept_line, last_line}
 
 -- whether the line has room
 room : (width : ℕ) (word : List ℕ) → width + 1 + length word ≤ max_width → has_room width word ≡ true
@@ -62,3 +62,6 @@ kept_parts kept total = simp append_assoc
 
 pub last_parts : (id : ℕ) → last_line id ≡ count (codes "c last identifier ") id ++ codes "\n"
 last_parts id = simp append_assoc
+
+pub cube_parts : (number : ℕ) → cube_line number ≡ count (codes "c cube ") number ++ codes "\n"
+cube_parts number = simp append_assoc

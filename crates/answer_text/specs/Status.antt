@@ -64,6 +64,10 @@ board_line size variables clauses =
 abbrev pub last_line : ℕ → List ℕ
 last_line id = codes "c last identifier " ++ decimal id ++ codes "\n"
 
+-- which cube the next answer is of
+abbrev pub cube_line : ℕ → List ℕ
+cube_line number = codes "c cube " ++ decimal number ++ codes "\n"
+
 -- how many additions of a proof were kept, and of how many
 abbrev pub kept_line : ℕ → ℕ → List ℕ
 kept_line kept total = codes "c kept " ++ decimal kept ++ codes " of " ++ decimal total ++ codes "\n"

@@ -7,6 +7,6 @@ mod status;
 
 pub use model::write_model;
 pub use status::{
-    write_board, write_id_limit, write_last_identifier, write_node_limit, write_refused, write_sat,
-    write_trimmed, write_unsat, write_verified,
+    write_board, write_cube, write_id_limit, write_last_identifier, write_node_limit,
+    write_refused, write_sat, write_trimmed, write_unsat, write_verified,
 };

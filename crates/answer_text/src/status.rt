@@ -2,7 +2,7 @@
 ghost use Rattle.std.specs.Prelude.{◌≡◌, ◌++◌, decimal, codes};
 ghost use Rattle.host_io.specs.Channel.{WritesAll};
 ghost use Rattle.answer_text.specs.Status.{unsat_line, verified_line, sat_text, node_limit_text, id_limit_text, refused_text, reason_name};
-ghost use Rattle.answer_text.specs.Status.{board_line, kept_line, last_line, trimmed_text};
+ghost use Rattle.answer_text.specs.Status.{board_line, cube_line, kept_line, last_line, trimmed_text};
 
 use crate::model::write_model;
 use host_io::{Failed, Sink, write_all};
@@ -84,6 +84,15 @@ pub fn write_last_identifier<S: Sink>(sink: &mut S, id: u64) -> Result<(), Faile
     ensures beside { S.beside sink.new ≡ S.beside sink.old }
 {
     write_count(sink, b"c last identifier ", id)?;
+    write_all(sink, b"\n")
+}
+
+/// Writes which cube the next answer is of.
+pub fn write_cube<S: Sink>(sink: &mut S, number: u64) -> Result<(), Failed>
+    ensures writes { WritesAll S.tells (S.channel sink.old) (S.channel sink.new) (cube_line number) result }
+    ensures beside { S.beside sink.new ≡ S.beside sink.old }
+{
+    write_count(sink, b"c cube ", number)?;
     write_all(sink, b"\n")
 }
 

@@ -1,6 +1,7 @@
 -- From the clauses of the parser to the meaning of the words.
 use Rattle.std.proofs.Common.{◌≡◌, ℕ, Bool, true, List, [], ◌∷◌, Some, None, refl, sym, ap, ◌∙◌, subst, inl, inr, codes, map}
-use Rattle.std.specs.Prelude.{Option, Result, Ok, Err, IfOk, IfErr, MatchResult, ◌⊎◌}
+use Rattle.std.specs.Prelude.{Option, Result, Ok, Err, IfOk, IfErr, MatchResult, ◌⊎◌, ◌++◌, ◌&&◌, ◌||◌, false, not, if◌then◌else◌}
+use Rattle.std.specs.List.{list_any}
 use Rattle.std.specs.Result.{IsErrAnd}
 use Rattle.std.specs.Option.{option_and_then}
 use Rattle.clap.specs.Words.{App, FailsBy, HasMatchesOf, IsAmong, Row, kind_of, Text, fault_of, first_of, first_value, found_of, is_simple}
@@ -22,8 +23,8 @@ use Rattle.command_line.specs.Command.{Command, Meaning, Asks, AsksHelp, Misuse,
 use Rattle.command_line.specs.Command.{any_order_among, rewrite_among, format_given}
 use Rattle.command_line.specs.Command.{is_set, limits_among, make_means, means, meanings, method_named, mode_given, names_among}
 use Rattle.command_line.specs.Command.{only_command, order_means, part_named, plan_among, plan_given, progress_among, refusal_means}
-use Rattle.command_line.specs.Command.{size_among}
-use Rattle.command_line.specs.Command.{solve_means, taken_means, to_bench, to_check, to_rewrite, to_make, to_order, to_solve, two_names}
+use Rattle.command_line.specs.Command.{ask_means, both, names_differ, same_name, size_among, to_ask}
+use Rattle.command_line.specs.Command.{solve_means, taken_means, to_bench, to_check, to_rewrite, to_make, to_trim, trim_means, to_order, to_solve, two_names}
 
 -- the parser is one whose meaning is known
 simple : is_simple the_app ≡ true
@@ -145,29 +146,44 @@ check_values values file proof format lax any_order progress file_is proof_is fo
     read
     ∙ ap (λ (names : Option (Text × Text)). to_check names (format_given any_order format) (mode_given lax) progress) (two_alone file proof)
 
--- nor do they beside a third one
-three_alone : (file other third : Option Text) → two_names file other (third ∷ []) ≡ two_names file other (third ∷ None ∷ None ∷ [])
-three_alone None None None = refl
-three_alone None None (Some third) = refl
-three_alone None (Some other) None = refl
-three_alone None (Some other) (Some third) = refl
-three_alone (Some file) None None = refl
-three_alone (Some file) None (Some third) = refl
-three_alone (Some file) (Some other) None = refl
-three_alone (Some file) (Some other) (Some third) = refl
+-- a fifth file that isn't named changes nothing
+four_alone : (file other order cubes : Option Text) → two_names file other (order ∷ cubes ∷ []) ≡ two_names file other (order ∷ cubes
+    ∷ None ∷ [])
+four_alone file other order cubes =
+    ap (λ (b : Bool). if b then both file other else None) (differ (file ∷ other ∷ order ∷ cubes ∷ [])) where
+      same_none : (file : Option Text) → same_name file None ≡ false
+      same_none None = refl
+      same_none (Some text) = refl
 
-pub rewrite_values : (values : ArgMatches) (file proof out lax : Option Text)
+      among_none : (file : Option Text) (others : List (Option Text)) → list_any (same_name file) (others ++ None ∷ [])
+          ≡ list_any (same_name file) others
+      among_none file [] = ap (λ (b : Bool). b || false) (same_none file)
+      among_none file (other ∷ others) = ap (λ (b : Bool). same_name file other || b) (among_none file others)
+
+      differ : (files : List (Option Text)) → names_differ files ≡ names_differ (files ++ None ∷ [])
+      differ [] = refl
+      differ (file ∷ files) = λ i. not (sym (among_none file files) i) && differ files i
+
+pub rewrite_values : (values : ArgMatches) (file proof out further lax : Option Text)
     → file ≡ first_value (found_of values) (codes "FILE") → proof ≡ first_value (found_of values) (codes "PROOF") → out
     ≡ first_value (found_of values) (codes "out")
     → lax ≡ first_value (found_of values) (codes "lax")
-    → rewrite_among (rows_of (found_of values)) ≡ to_rewrite (two_names file proof (out ∷ None ∷ None ∷ [])) out (mode_given lax)
-rewrite_values values file proof out lax file_is proof_is out_is lax_is =
-    let read : rewrite_among (rows_of (found_of values)) ≡ to_rewrite (two_names file proof (out ∷ [])) out (mode_given lax) = λ i.
+    → rewrite_among further (rows_of (found_of values))
+    ≡ to_rewrite (two_names file proof (out ∷ further ∷ None ∷ [])) out (mode_given lax)
+rewrite_values values file proof out further lax file_is proof_is out_is lax_is =
+    let read : rewrite_among further (rows_of (found_of values))
+    ≡ to_rewrite (two_names file proof (out ∷ further ∷ [])) out (mode_given lax) = λ i.
     to_rewrite (two_names (of_row values (codes "FILE") file file_is i) (of_row values (codes "PROOF") proof proof_is i)
-    (of_row values (codes "out") out out_is i ∷ []))
+    (of_row values (codes "out") out out_is i ∷ further ∷ []))
     (of_row values (codes "out") out out_is i)
     (mode_given (of_row values (codes "lax") lax lax_is i)) in
-    read ∙ ap (λ (names : Option (Text × Text)). to_rewrite names out (mode_given lax)) (three_alone file proof out)
+    read ∙ ap (λ (names : Option (Text × Text)). to_rewrite names out (mode_given lax)) (four_alone file proof out further)
+
+pub trim_values : (values : ArgMatches) (core : Option Text) → core ≡ first_value (found_of values) (codes "core")
+    → trim_means (rows_of (found_of values)) ≡ to_trim (rewrite_among core (rows_of (found_of values))) core
+trim_values values core core_is = λ i.
+    to_trim (rewrite_among (of_row values (codes "core") core core_is i) (rows_of (found_of values)))
+    (of_row values (codes "core") core core_is i)
 
 pub order_values : (values : ArgMatches) (file out method lax : Option Text)
     → file ≡ first_value (found_of values) (codes "FILE") → out ≡ first_value (found_of values) (codes "out") → method
@@ -182,6 +198,19 @@ order_values values file out method lax file_is out_is method_is lax_is =
     (option_and_then method_named (of_row values (codes "by") method method_is i))
     (mode_given (of_row values (codes "lax") lax lax_is i)) in
     read ∙ ap (λ (names : Option (Text × Text)). to_order names found (mode_given lax)) (two_alone file out)
+
+pub ask_values : (values : ArgMatches) (file proof order cubes lax : Option Text) (limits : Option Limits)
+    → file ≡ first_value (found_of values) (codes "FILE") → proof ≡ first_value (found_of values) (codes "proof") → order
+    ≡ first_value (found_of values) (codes "order") → cubes ≡ first_value (found_of values) (codes "cubes")
+    → lax ≡ first_value (found_of values) (codes "lax") → limits ≡ limits_among (rows_of (found_of values))
+    → ask_means (rows_of (found_of values)) ≡ to_ask (two_names file proof (order ∷ cubes ∷ None ∷ [])) cubes (mode_given lax) order limits
+ask_values values file proof order cubes lax limits file_is proof_is order_is cubes_is lax_is limits_are =
+    let read : ask_means (rows_of (found_of values)) ≡ to_ask (two_names file proof (order ∷ cubes ∷ [])) cubes (mode_given lax) order limits
+    = λ i. to_ask (two_names (of_row values (codes "FILE") file file_is i) (of_row values (codes "proof") proof proof_is i)
+    (of_row values (codes "order") order order_is i ∷ of_row values (codes "cubes") cubes cubes_is i ∷ []))
+    (of_row values (codes "cubes") cubes cubes_is i) (mode_given (of_row values (codes "lax") lax lax_is i))
+    (of_row values (codes "order") order order_is i) (sym limits_are i) in
+    read ∙ ap (λ (names : Option (Text × Text)). to_ask names cubes (mode_given lax) order limits) (four_alone file proof order cubes)
 
 pub bench_values : (values : ArgMatches) (size : Option ℕ) (proof : Option Text) (limits : Option Limits) (progress : Bool)
     → size ≡ size_among (rows_of (found_of values)) → proof ≡ first_value (found_of values) (codes "proof") → limits

@@ -58,12 +58,38 @@ pub record ToRewrite : Type 0 where
   pub mode : Mode
   pub out : Text
 
+-- so for a trimmed proof, and to write its core to a further file, if one is named
+pub record ToTrim : Type 0 where
+  pub file : Text
+  pub proof : Text
+  pub mode : Mode
+  pub out : Text
+  pub core : Option Text
+
+-- so for a DRAT proof, in which extension variables may have fresh names
+pub record ToConvert : Type 0 where
+  pub file : Text
+  pub proof : Text
+  pub mode : Mode
+  pub out : Text
+  pub fresh : Bool
+
 -- to write an order of the variables of the formula in a file, read in a mode, found by a method, to another file
 pub record ToOrder : Type 0 where
   pub file : Text
   pub method : OrderMethod
   pub mode : Mode
   pub out : Text
+
+-- to answer the cubes in a file over the formula in another one, read in a mode, within limits, and to write the proof to a third one; the
+-- order of its variables stands in the file of that name, if one is named
+pub record ToAsk : Type 0 where
+  pub file : Text
+  pub cubes : Text
+  pub proof : Text
+  pub mode : Mode
+  pub order : Option Text
+  pub limits : Limits
 
 -- to decide the board of so many squares a side by its column order and schedule, within limits, and to write the proof to a file; and
 -- maybe to tell of the progress
@@ -85,8 +111,9 @@ pub data Command : Type 0 where
   Bench : ToBench → Command
   Make : ToMake → Command
   Arrange : ToOrder → Command
-  Convert : ToRewrite → Command
-  Trim : ToRewrite → Command
+  Ask : ToAsk → Command
+  Convert : ToConvert → Command
+  Trim : ToTrim → Command
 
 -- the formula's file, where one is named
 abbrev pub formula_file : Command → Option Text
@@ -95,6 +122,7 @@ formula_file (Check task) = Some task.file
 formula_file (Bench task) = None
 formula_file (Make task) = None
 formula_file (Arrange task) = Some task.file
+formula_file (Ask task) = Some task.file
 formula_file (Convert task) = Some task.file
 formula_file (Trim task) = Some task.file
 
@@ -105,6 +133,7 @@ mode_of (Check task) = task.mode
 mode_of (Bench task) = Strict
 mode_of (Make task) = Strict
 mode_of (Arrange task) = task.mode
+mode_of (Ask task) = task.mode
 mode_of (Convert task) = task.mode
 mode_of (Trim task) = task.mode
 
@@ -115,6 +144,7 @@ format_of (Check task) = task.format
 format_of (Bench task) = Lrat
 format_of (Make task) = Lrat
 format_of (Arrange task) = Lrat
+format_of (Ask task) = Lrat
 format_of (Convert task) = Lrat
 format_of (Trim task) = Lrat
 
@@ -129,6 +159,7 @@ limits_of (Check task) = default_limits
 limits_of (Bench task) = task.limits
 limits_of (Make task) = default_limits
 limits_of (Arrange task) = default_limits
+limits_of (Ask task) = task.limits
 limits_of (Convert task) = default_limits
 limits_of (Trim task) = default_limits
 
@@ -139,6 +170,7 @@ is_told (Check task) = task.progress
 is_told (Bench task) = task.progress
 is_told (Make task) = false
 is_told (Arrange task) = false
+is_told (Ask task) = false
 is_told (Convert task) = false
 is_told (Trim task) = false
 
@@ -153,6 +185,7 @@ size_of (Check task) = None
 size_of (Bench task) = Some task.size
 size_of (Make task) = Some task.size
 size_of (Arrange task) = None
+size_of (Ask task) = None
 size_of (Convert task) = None
 size_of (Trim task) = None
 
@@ -300,6 +333,18 @@ abbrev pub to_order : Option (Text × Text) → Option OrderMethod → Mode → 
 to_order (Some names) (Some method) mode = Asks (Arrange (record { file = names.0; method = method; mode = mode; out = names.1 }))
 to_order _ _ _ = Misuse
 
+-- a formula's file and a proof's, one of cubes, a mode, an order, and limits to answer the cubes within
+abbrev pub to_ask : Option (Text × Text) → Option Text → Mode → Option Text → Option Limits → Meaning
+to_ask (Some names) (Some cubes) mode order (Some limits) = Asks (Ask (record {
+  file = names.0;
+  cubes = cubes;
+  proof = names.1;
+  mode = mode;
+  order = order;
+  limits = limits;
+}))
+to_ask _ _ _ _ _ = Misuse
+
 -- a size, a proof's file, limits to decide the board of that size within, and whether progress is told
 abbrev pub to_bench : Option ℕ → Option Text → Option Limits → Bool → Meaning
 to_bench (Some size) (Some proof) (Some limits) progress =
@@ -331,6 +376,10 @@ names_among rows =
 abbrev pub progress_among : List Row → Bool
 progress_among rows = is_set (first_of (codes "progress") rows)
 
+-- whether extension variables get fresh names, among these values
+abbrev pub fresh_among : List Row → Bool
+fresh_among rows = is_set (first_of (codes "fresh") rows)
+
 -- whether deletions name sets of literals, among these values
 abbrev pub any_order_among : List Row → Bool
 any_order_among rows = is_set (first_of (codes "any-order") rows)
@@ -344,21 +393,40 @@ abbrev pub check_means : List Row → Meaning
 check_means rows = to_check (two_names (first_of (codes "FILE") rows) (first_of (codes "PROOF") rows) [])
     (format_given (any_order_among rows) (first_of (codes "format") rows)) (mode_given (first_of (codes "lax") rows)) (progress_among rows)
 
--- what is to be rewritten, among these values
-abbrev pub rewrite_among : List Row → Option ToRewrite
-rewrite_among rows =
-    to_rewrite (two_names (first_of (codes "FILE") rows) (first_of (codes "PROOF") rows) (first_of (codes "out") rows ∷ []))
+-- what is to be rewritten, among these values, beside a further file, if one is named
+abbrev pub rewrite_among : Option Text → List Row → Option ToRewrite
+rewrite_among further rows =
+    to_rewrite (two_names (first_of (codes "FILE") rows) (first_of (codes "PROOF") rows) (first_of (codes "out") rows ∷ further ∷ []))
     (first_of (codes "out") rows) (mode_given (first_of (codes "lax") rows))
 
--- a command, where its task is given
-abbrev pub asks_for : (ToRewrite → Command) → Option ToRewrite → Meaning
-asks_for command None = Misuse
-asks_for command (Some task) = Asks (command task)
+-- a proof to be written in DRAT, and whether by fresh names
+abbrev pub to_convert : Option ToRewrite → Bool → Meaning
+to_convert None fresh = Misuse
+to_convert (Some task) fresh =
+    Asks (Convert (record { file = task.file; proof = task.proof; mode = task.mode; out = task.out; fresh = fresh }))
+
+abbrev pub convert_means : List Row → Meaning
+convert_means rows = to_convert (rewrite_among None rows) (fresh_among rows)
+
+-- a proof to be trimmed, and a file for its core, if one is named
+abbrev pub to_trim : Option ToRewrite → Option Text → Meaning
+to_trim None core = Misuse
+to_trim (Some task) core =
+    Asks (Trim (record { file = task.file; proof = task.proof; mode = task.mode; out = task.out; core = core }))
+
+abbrev pub trim_means : List Row → Meaning
+trim_means rows = to_trim (rewrite_among (first_of (codes "core") rows) rows) (first_of (codes "core") rows)
 
 abbrev pub order_means : List Row → Meaning
 order_means rows =
     to_order (two_names (first_of (codes "FILE") rows) (first_of (codes "out") rows) [])
     (option_and_then method_named (first_of (codes "by") rows)) (mode_given (first_of (codes "lax") rows))
+
+abbrev pub ask_means : List Row → Meaning
+ask_means rows =
+    to_ask (two_names (first_of (codes "FILE") rows) (first_of (codes "proof") rows)
+    (first_of (codes "order") rows ∷ first_of (codes "cubes") rows ∷ [])) (first_of (codes "cubes") rows)
+    (mode_given (first_of (codes "lax") rows)) (first_of (codes "order") rows) (limits_among rows)
 
 -- the size of a board that is among these values
 abbrev pub size_among : List Row → Option ℕ
@@ -379,8 +447,8 @@ board_means name rows = if bytes_eq name (codes "bench") then bench_means rows e
 abbrev pub command_means : Text → List Row → Meaning
 command_means name rows =
     if bytes_eq name (codes "solve") then solve_means rows else if bytes_eq name (codes "check") then check_means rows else if bytes_eq name
-    (codes "order") then order_means rows else if bytes_eq name (codes "drat") then asks_for Convert (rewrite_among rows) else if bytes_eq name
-    (codes "trim") then asks_for Trim (rewrite_among rows) else board_means name rows
+    (codes "order") then order_means rows else if bytes_eq name (codes "ask") then ask_means rows else if bytes_eq name
+    (codes "drat") then convert_means rows else if bytes_eq name (codes "trim") then trim_means rows else board_means name rows
 
 -- what words mean that the parser takes; a command must be among them
 abbrev pub taken_means : Option (Text × List Row) → Meaning

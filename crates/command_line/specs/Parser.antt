@@ -63,14 +63,30 @@ abbrev pub check_app : App
 check_app = with_rules (new_app (codes "check"))
     (file_rule ∷ proof_file_rule ∷ option_rule (codes "format") ∷ flag_rule (codes "any-order") ∷ lax_rule ∷ progress_rule ∷ [])
 
--- `drat FILE PROOF --out P [--lax]`, and `trim` so
+-- `[--fresh]`
+abbrev pub fresh_rule : Rule
+fresh_rule = flag_rule (codes "fresh")
+
+-- `drat FILE PROOF --out P [--lax]`, behind which `[--fresh]` stands, and `trim` so, behind which `[--core C]` does
 abbrev pub rewrite_app : Text → App
 rewrite_app name = with_rules (new_app name) (file_rule ∷ proof_file_rule ∷ needed_rule (codes "out") ∷ lax_rule ∷ [])
+
+abbrev pub drat_app : App
+drat_app = with_rule (rewrite_app (codes "drat")) fresh_rule
+
+abbrev pub trim_app : App
+trim_app = with_rule (rewrite_app (codes "trim")) (option_rule (codes "core"))
 
 -- `order FILE --by METHOD --out F [--lax]`
 abbrev pub order_app : App
 order_app =
     with_rules (new_app (codes "order")) (file_rule ∷ needed_rule (codes "by") ∷ needed_rule (codes "out") ∷ lax_rule ∷ [])
+
+-- `ask FILE --cubes Q --proof P [--order F] [--lax]`, and then the options of limits
+abbrev pub ask_app : App
+ask_app =
+    with_rules (with_rules (new_app (codes "ask"))
+    (file_rule ∷ needed_rule (codes "cubes") ∷ proof_rule ∷ option_rule (codes "order") ∷ lax_rule ∷ [])) limit_rules
 
 -- a word that must be there, without an option in front of it; help shows it by another name
 abbrev pub word_rule : Text → Rule
@@ -102,12 +118,12 @@ first_commands = with_subcommand (with_subcommand program_app solve_app.top) che
 
 -- the commands about a proof's file, those and `drat` and `trim`
 abbrev pub proof_commands : App
-proof_commands = with_subcommand (with_subcommand first_commands (rewrite_app (codes "drat")).top) (rewrite_app (codes "trim")).top
+proof_commands = with_subcommand (with_subcommand first_commands drat_app.top) trim_app.top
 
--- those about a formula's file, with `order`
+-- those about a formula's file, with `order` and `ask`
 abbrev pub file_commands : App
-file_commands = with_subcommand proof_commands order_app.top
+file_commands = with_subcommand (with_subcommand proof_commands order_app.top) ask_app.top
 
--- the program: one of seven commands after its name
+-- the program: one of eight commands after its name
 abbrev pub the_app : App
 the_app = with_subcommand (with_subcommand file_commands bench_app.top) make_app.top

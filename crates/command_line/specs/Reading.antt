@@ -7,12 +7,14 @@ use Rattle.clap.specs.declared.error.ErrorKind.TheVariants as kind
 use Rattle.schedule_plan.specs.Limits.{AreLimits}
 use Rattle.command_line.specs.declared.plan.PlanSource.{PlanSource}
 use Rattle.command_line.specs.declared.plan.PlanSource.TheVariants as source
+use Rattle.command_line.specs.declared.rewrite.ConvertTask.{ConvertTask}
 use Rattle.command_line.specs.declared.rewrite.RewriteTask.{RewriteTask}
+use Rattle.command_line.specs.declared.rewrite.TrimTask.{TrimTask}
 use Rattle.command_line.specs.declared.words.Asked.{Asked}
 use Rattle.command_line.specs.declared.words.Asked.TheVariants as asked
 use Rattle.command_line.specs.declared.words.Refusal.{Refusal}
 use Rattle.command_line.specs.declared.words.Refusal.TheVariants as refusal
-use Rattle.command_line.specs.Command.{Command, Solve, Check, Bench, Make, Arrange, Convert, Trim, ToRewrite, Planned, ByName, ByFile, ByBuckets, Found}
+use Rattle.command_line.specs.Command.{Command, Solve, Check, Bench, Make, Arrange, Ask, Convert, Trim, ToConvert, ToRewrite, ToTrim, Planned, ByName, ByFile, ByBuckets, Found}
 use Rattle.command_line.specs.Command.{Asks, AsksHelp, Misuse, MayMean, IsSize, limits_of, refusal_means, size_of, taken_means}
 
 -- the text behind a reference that may be there
@@ -29,6 +31,26 @@ planned_of source.Search = Found
 -- what is to be rewritten
 abbrev pub rewrite_of : RewriteTask → ToRewrite
 rewrite_of task = record { file = task.files.formula.now; proof = task.files.proof.now; mode = task.mode; out = task.out.now }
+
+-- a proof that is to be written in DRAT
+abbrev pub convert_of : ConvertTask → ToConvert
+convert_of task = record {
+  file = task.files.formula.now;
+  proof = task.files.proof.now;
+  mode = task.mode;
+  out = task.out.now;
+  fresh = task.fresh;
+}
+
+-- a proof that is to be trimmed
+abbrev pub trim_of : TrimTask → ToTrim
+trim_of task = record {
+  file = task.files.formula.now;
+  proof = task.files.proof.now;
+  mode = task.mode;
+  out = task.out.now;
+  core = text_of task.core;
+}
 
 -- the command with its values
 abbrev pub command_of : Asked → Command
@@ -55,8 +77,17 @@ command_of (asked.Bench task) =
 command_of (asked.Make task) = Make (record { size = task.size; part = task.part; file = task.file.now })
 command_of (asked.Order task) =
     Arrange (record { file = task.formula.now; method = task.method; mode = task.mode; out = task.out.now })
-command_of (asked.Convert task) = Convert (rewrite_of task)
-command_of (asked.Trim task) = Trim (rewrite_of task)
+command_of (asked.Ask task) =
+    Ask (record {
+      file = task.files.formula.now;
+      cubes = task.cubes.now;
+      proof = task.files.proof.now;
+      mode = task.mode;
+      order = text_of task.order;
+      limits = task.limits;
+    })
+command_of (asked.Convert task) = Convert (convert_of task)
+command_of (asked.Trim task) = Trim (trim_of task)
 
 -- its limits are ones that a run may have, and the board that it is about has one of the sizes
 abbrev pub IsWithin : Command → Type 0

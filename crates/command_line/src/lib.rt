@@ -3,6 +3,8 @@
 #![tactic(auto)]
 
 mod args;
+mod ask;
+mod ask_parser;
 mod board;
 mod board_parser;
 mod format;
@@ -19,6 +21,7 @@ mod rewrite;
 mod rewrite_parser;
 mod words;
 
+pub use ask::AskTask;
 pub use board::{BenchTask, MakeTask};
 pub use format::ProofFormat;
 pub use method::OrderMethod;
@@ -26,5 +29,5 @@ pub use names::FileNames;
 pub use order::OrderTask;
 pub use part::BoardText;
 pub use plan::{PlanName, PlanSource};
-pub use rewrite::RewriteTask;
+pub use rewrite::{ConvertTask, RewriteTask, TrimTask};
 pub use words::{Asked, CheckTask, Refusal, SolveTask, gather, read_words};

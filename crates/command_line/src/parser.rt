@@ -9,6 +9,7 @@ use crate::args::{
     Texts, command, flag_arg, formula_arg, lax_arg, option_arg, proof_arg, proof_file_arg,
     with_limits, with_progress,
 };
+use crate::ask_parser::ask_parser;
 use crate::board_parser::{bench_parser, make_parser};
 use crate::order_parser::order_parser;
 use crate::rewrite_parser::{drat_parser, trim_parser};
@@ -25,9 +26,11 @@ bddsat solve FILE --proof P [--lax] [--order F]
                     [--search | --buckets F | --schedule F | --plan PLAN]
                     [--max-nodes N] [--max-ids N] [--cache N] [--progress]
        bddsat check FILE PROOF [--format FORMAT] [--any-order] [--lax] [--progress]
-       bddsat drat FILE PROOF --out P [--lax]
-       bddsat trim FILE PROOF --out P [--lax]
+       bddsat drat FILE PROOF --out P [--lax] [--fresh]
+       bddsat trim FILE PROOF --out P [--lax] [--core C]
        bddsat order FILE --by METHOD --out F [--lax]
+       bddsat ask FILE --cubes Q --proof P [--lax] [--order F]
+                    [--max-nodes N] [--max-ids N] [--cache N]
        bddsat bench board N --proof P [--max-nodes N] [--max-ids N] [--cache N]
                     [--progress]
        bddsat make board N --part PART --out F",
@@ -39,6 +42,7 @@ Exit codes:
    0  check, drat, trim: the proof is verified
    1  check, drat, trim: it isn't verified; standard output has the line and why
    0  make, order: the text is in F
+   0  ask: each cube is answered on standard output, or a limit was reached
    0  help or the version was shown
    2  a file's text is not of its format, or too large
    3  a file couldn't be opened or read
@@ -52,6 +56,7 @@ Example:
   bddsat drat formula.cnf formula.lrat --out formula.drat
   bddsat trim formula.cnf formula.lrat --out trimmed.lrat
   bddsat order formula.cnf --by degree --out formula.order
+  bddsat ask formula.cnf --cubes questions.cubes --proof formula.lrat
   bddsat bench board 8 --proof board.lrat
   bddsat make board 8 --part cnf --out board.cnf",
 };
@@ -92,12 +97,12 @@ const SCHEDULE_HELP: &str = "A file with the plan, as lines of commands c, a and
 
 const PLAN_HELP: &str = "bucket quantifies early, conjoin never [default: bucket]";
 
-/// The parser: one of seven commands after the program's name.
+/// The parser: one of eight commands after the program's name.
 pub fn parser<'a>(alloc: Global) -> Result<Command<'a>, AllocError>
     ensures { IfOk result (λ command. app_of command ≡ the_app) }
 {
-    let order = file_commands(alloc)?;
-    let bench = with_command(order, bench_parser(alloc))?;
+    let files = file_commands(alloc)?;
+    let bench = with_command(files, bench_parser(alloc))?;
     with_command(bench, make_parser(alloc))
 }
 
@@ -106,7 +111,8 @@ fn file_commands<'a>(alloc: Global) -> Result<Command<'a>, AllocError>
     ensures { IfOk result (λ command. app_of command ≡ file_commands) }
 {
     let trim = proof_commands(alloc)?;
-    with_command(trim, order_parser(alloc))
+    let order = with_command(trim, order_parser(alloc))?;
+    with_command(order, ask_parser(alloc))
 }
 
 // The program's name with those of them that are about a proof's file too.

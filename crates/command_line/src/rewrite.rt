@@ -1,11 +1,12 @@
 // The commands that make another proof of an LRAT proof: `drat` and `trim`.
-ghost use Rattle.std.specs.Prelude.{◌≡◌, None, Some, MatchOption};
+ghost use Rattle.std.specs.Prelude.{◌≡◌, None, Some, IfSome, MatchOption};
 ghost use Rattle.clap.specs.Words.{found_of, rows_of};
-ghost use Rattle.command_line.specs.Command.{rewrite_among};
-ghost use Rattle.command_line.specs.Reading.{rewrite_of};
+ghost use Rattle.command_line.specs.Command.{Asks, Misuse, convert_means, rewrite_among, trim_means};
+ghost use Rattle.command_line.specs.Reading.{IsWithin, command_of, rewrite_of, text_of};
 
-use crate::mode::mode_given;
+use crate::mode::{fresh_among, mode_given};
 use crate::names::{FileNames, two_names};
+use crate::words::Asked;
 use clap::ArgMatches;
 use dimacs_reader::Mode;
 
@@ -20,15 +21,73 @@ pub struct RewriteTask<'a> {
     pub out: &'a str,
 }
 
-/// What is to be rewritten, among these values.
-pub fn rewrite_among<'a>(values: &ArgMatches<'a>) -> Option<RewriteTask<'a>>
-    ensures { MatchOption result (rewrite_among (rows_of (found_of values.now)) ≡ None)
-        (λ task. rewrite_among (rows_of (found_of values.now)) ≡ Some (rewrite_of task)) }
+/// What is to be judged and written as a DRAT proof, where that goes, and how its variables are named.
+#[derive(Drop)]
+pub struct ConvertTask<'a> {
+    /// The files that are read.
+    pub files: FileNames<'a>,
+    /// How the formula is read.
+    pub mode: Mode,
+    /// The file that the DRAT proof is written to.
+    pub out: &'a str,
+    /// Whether extension variables get names that no other one has.
+    pub fresh: bool,
+}
+
+pub fn convert_asked<'a>(values: &ArgMatches<'a>) -> Option<Asked<'a>>
+    ensures meant { MatchOption result (convert_means (rows_of (found_of values.now)) ≡ Misuse)
+        (λ asked. convert_means (rows_of (found_of values.now)) ≡ Asks (command_of asked)) }
+    ensures within { IfSome result (λ asked. IsWithin (command_of asked)) }
+{
+    let task = rewrite_among(values, None)?;
+    let fresh = fresh_among(values);
+    let RewriteTask { files, mode, out } = task;
+    Some(Asked::Convert(ConvertTask {
+        files,
+        mode,
+        out,
+        fresh,
+    }))
+}
+
+/// What is to be judged and trimmed, and where the trimmed proof and its core go.
+#[derive(Drop)]
+pub struct TrimTask<'a> {
+    /// The files that are read.
+    pub files: FileNames<'a>,
+    /// How the formula is read.
+    pub mode: Mode,
+    /// The file that the trimmed proof is written to.
+    pub out: &'a str,
+    /// The file that its core is written to, if one is named.
+    pub core: Option<&'a str>,
+}
+
+pub fn trim_asked<'a>(values: &ArgMatches<'a>) -> Option<Asked<'a>>
+    ensures meant { MatchOption result (trim_means (rows_of (found_of values.now)) ≡ Misuse)
+        (λ asked. trim_means (rows_of (found_of values.now)) ≡ Asks (command_of asked)) }
+    ensures within { IfSome result (λ asked. IsWithin (command_of asked)) }
+{
+    let core = values.get_str("core");
+    let task = rewrite_among(values, core)?;
+    let RewriteTask { files, mode, out } = task;
+    Some(Asked::Trim(TrimTask {
+        files,
+        mode,
+        out,
+        core,
+    }))
+}
+
+// What is to be rewritten, among these values, beside a further file, if one is named.
+fn rewrite_among<'a>(values: &ArgMatches<'a>, further: Option<&str>) -> Option<RewriteTask<'a>>
+    ensures { MatchOption result (rewrite_among (text_of further.entry) (rows_of (found_of values.now)) ≡ None)
+        (λ task. rewrite_among (text_of further.entry) (rows_of (found_of values.now)) ≡ Some (rewrite_of task)) }
 {
     let file = values.get_str("FILE");
     let proof = values.get_str("PROOF");
     let out = values.get_str("out");
-    let (formula, proof) = two_names(file, proof, out, None, None)?;
+    let (formula, proof) = two_names(file, proof, out, further, None)?;
     let out = out?;
     let mode = mode_given(values.get_str("lax"));
     let files = FileNames { formula, proof };

@@ -2,15 +2,17 @@
 ghost use Rattle.std.specs.Prelude.{◌≡◌, IfOk, codes, false};
 ghost use Rattle.clap.specs.Words.{app_of};
 ghost use Rattle.clap.specs.declared.Command.TheViews.{out-Command};
-ghost use Rattle.command_line.specs.Parser.{rewrite_app};
+ghost use Rattle.command_line.specs.Parser.{drat_app, rewrite_app, trim_app};
 
-use crate::args::{Texts, command, formula_arg, lax_arg, needed_arg, proof_file_arg};
+use crate::args::{
+    Texts, command, flag_arg, formula_arg, lax_arg, needed_arg, option_arg, proof_file_arg,
+};
 use clap::Command;
 use std::alloc::{AllocError, Global};
 
 const DRAT: Texts<'static> = Texts {
     about: "Judges PROOF as check does, and writes it as a DRAT proof to P",
-    usage: "bddsat drat FILE PROOF --out P [--lax]",
+    usage: "bddsat drat FILE PROOF --out P [--lax] [--fresh]",
     after: "\
 Example:
   bddsat drat formula.cnf formula.lrat --out formula.drat",
@@ -18,7 +20,7 @@ Example:
 
 const TRIM: Texts<'static> = Texts {
     about: "Judges PROOF as check does, and writes what it needs to P",
-    usage: "bddsat trim FILE PROOF --out P [--lax]",
+    usage: "bddsat trim FILE PROOF --out P [--lax] [--core C]",
     after: "\
 Example:
   bddsat trim formula.cnf formula.lrat --out trimmed.lrat",
@@ -28,20 +30,26 @@ const PROOF_HELP: &str = "The proof, in LRAT";
 
 const DRAT_HELP: &str = "The DRAT proof. PROOF itself by another name would be emptied";
 
+const FRESH_HELP: &str = "Gives each extension variable a name of its own";
+
+const CORE_HELP: &str = "The numbers of FILE's clauses that P names, one a line";
+
 const TRIM_HELP: &str = "The trimmed proof, made once PROOF is verified";
 
 pub fn drat_parser<'a>(alloc: Global) -> Result<Command<'a>, AllocError>
-    ensures app { IfOk result (λ command. app_of command ≡ rewrite_app (codes "drat")) }
+    ensures app { IfOk result (λ command. app_of command ≡ drat_app) }
     ensures local { IfOk result (λ command. (out-Command command).has_globals ≡ false) }
 {
-    rewrite_parser(alloc, "drat", DRAT, DRAT_HELP)
+    let command = rewrite_parser(alloc, "drat", DRAT, DRAT_HELP)?;
+    command.arg(flag_arg(alloc, "fresh", FRESH_HELP))
 }
 
 pub fn trim_parser<'a>(alloc: Global) -> Result<Command<'a>, AllocError>
-    ensures app { IfOk result (λ command. app_of command ≡ rewrite_app (codes "trim")) }
+    ensures app { IfOk result (λ command. app_of command ≡ trim_app) }
     ensures local { IfOk result (λ command. (out-Command command).has_globals ≡ false) }
 {
-    rewrite_parser(alloc, "trim", TRIM, TRIM_HELP)
+    let command = rewrite_parser(alloc, "trim", TRIM, TRIM_HELP)?;
+    command.arg(option_arg(alloc, "core", "C", CORE_HELP))
 }
 
 fn rewrite_parser<'a>(

@@ -7,9 +7,10 @@ ghost use Rattle.std.specs.Iterator.Runs.{WholeRun};
 ghost use Rattle.clap.specs.Words.{found_of, kind_of, rows_of, subcommand_rows_of};
 ghost use Rattle.schedule_plan.specs.Limits.{AreLimits};
 ghost use Rattle.command_line.specs.Command.{Asks, IsSize, Misuse, board_means, check_means, command, command_means, limits_of, size_of};
-ghost use Rattle.command_line.specs.Command.{Convert, Trim, asks_for, rewrite_among, solve_means, taken_means};
+ghost use Rattle.command_line.specs.Command.{solve_means, taken_means};
 ghost use Rattle.command_line.specs.Reading.{IsRefusal, IsRefusalOf, IsTaken, IsWithin, command_of};
 
+use crate::ask::{AskTask, ask_asked};
 use crate::board::{BenchTask, MakeTask, bench_asked, make_asked};
 use crate::format::{ProofFormat, format_given};
 use crate::limits::limits_among;
@@ -18,7 +19,7 @@ use crate::names::{FileNames, names_among, two_names};
 use crate::order::{OrderTask, order_asked};
 use crate::parser::parser;
 use crate::plan::{PlanSource, plan_among};
-use crate::rewrite::{RewriteTask, rewrite_among};
+use crate::rewrite::{ConvertTask, TrimTask, convert_asked, trim_asked};
 use clap::ArgMatches;
 use clap::error::ErrorKind;
 use cnf_base::OutOfMemory;
@@ -39,10 +40,12 @@ pub enum Asked<'a> {
     Make(MakeTask<'a>),
     /// To write an order of a formula's variables.
     Order(OrderTask<'a>),
+    /// To answer cubes over a formula, and to write one proof.
+    Ask(AskTask<'a>),
     /// To judge the proof over the formula, and to write it as a DRAT proof.
-    Convert(RewriteTask<'a>),
-    /// To judge the proof over the formula, and to write what its refutation needs.
-    Trim(RewriteTask<'a>),
+    Convert(ConvertTask<'a>),
+    /// To judge the proof over the formula, and to write what its refutation needs, and maybe its core.
+    Trim(TrimTask<'a>),
 }
 
 /// What is to be decided, by what and how far.
@@ -143,34 +146,14 @@ fn command_named<'a>(name: &str, values: &ArgMatches<'a>) -> Option<Asked<'a>>
         check_asked(values)
     } else if name == "order" {
         order_asked(values)
+    } else if name == "ask" {
+        ask_asked(values)
     } else if name == "drat" {
         convert_asked(values)
     } else if name == "trim" {
         trim_asked(values)
     } else {
         board_command(name, values)
-    }
-}
-
-fn convert_asked<'a>(values: &ArgMatches<'a>) -> Option<Asked<'a>>
-    ensures meant { MatchOption result (asks_for Convert (rewrite_among (rows_of (found_of values.now))) ≡ Misuse)
-        (λ asked. asks_for Convert (rewrite_among (rows_of (found_of values.now))) ≡ Asks (command_of asked)) }
-    ensures within { IfSome result (λ asked. IsWithin (command_of asked)) }
-{
-    match rewrite_among(values) {
-        Some(task) => Some(Asked::Convert(task)),
-        None => None,
-    }
-}
-
-fn trim_asked<'a>(values: &ArgMatches<'a>) -> Option<Asked<'a>>
-    ensures meant { MatchOption result (asks_for Trim (rewrite_among (rows_of (found_of values.now))) ≡ Misuse)
-        (λ asked. asks_for Trim (rewrite_among (rows_of (found_of values.now))) ≡ Asks (command_of asked)) }
-    ensures within { IfSome result (λ asked. IsWithin (command_of asked)) }
-{
-    match rewrite_among(values) {
-        Some(task) => Some(Asked::Trim(task)),
-        None => None,
     }
 }
 

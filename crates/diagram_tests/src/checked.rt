@@ -17,10 +17,21 @@ pub fn expect_good_lines(
     deletes: bool,
 ) -> Result<(), Fail> {
     let proof = table.into_ledger().close();
+    let count = expect_lines(rt, alloc, &proof, deletes)?;
+    expect_end(rt, alloc, proof.bytes(), count)
+}
+
+// How many lines there are, and one more.
+fn expect_lines(
+    rt: &impl Abort,
+    alloc: Global,
+    proof: &ProofText,
+    deletes: bool,
+) -> Result<usize, Fail> {
     let mut lines = String::new(alloc);
     proof.push_to(&mut lines)?;
     assert!(rt; lines.contains(" d ") == deletes);
-    expect_end(rt, alloc, proof.bytes(), lines.split('/').count())
+    Ok(lines.split('/').count())
 }
 
 // The checker finds nothing bad before this line, where it finds the end.

@@ -7,8 +7,6 @@ mod cache;
 #[cfg(test)]
 mod checked;
 #[cfg(test)]
-mod depth;
-#[cfg(test)]
 mod functions;
 #[cfg(test)]
 mod lines;

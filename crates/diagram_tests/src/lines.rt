@@ -2,13 +2,11 @@
 ghost use Rattle.node_table.specs.Table.{IsSound};
 ghost use Rattle.diagram_tests.specs.Plain.{IsPlain};
 
-use crate::asked::{ask_cubes, sum_and_weaken};
 use crate::retired::delete;
-use crate::runner::{give_and_release, give_and_run};
 use crate::script::{play, push_left};
 use crate::support::{ProofText, expect_same, halves, opened, part};
 use crate::swept::{purge, sweep};
-use crate::trials::run_and_try;
+use crate::trials::tell_over_clauses;
 use node_table::{Table, TableError};
 use std::alloc::Global;
 use std::process::Abort;
@@ -18,11 +16,7 @@ use std::test::Fail;
 fn tell(rt: &impl Abort, alloc: Global, script: &str, text: &mut String) -> Result<(), Fail> {
     match part(script, '|', 0) {
         "retire" => delete(alloc, script, text),
-        "trial" => run_and_try(alloc, script, text),
-        "runner" => give_and_release(alloc, script, text),
-        "behind" => give_and_run(alloc, script, text),
-        "sum" => sum_and_weaken(alloc, script, text),
-        "cubes" => ask_cubes(alloc, script, text),
+        "trial" | "runner" | "behind" | "sum" | "cubes" => tell_over_clauses(alloc, script, text),
         _ => tell_table(rt, alloc, script, text),
     }
 }
@@ -252,7 +246,8 @@ fn trials(rt: HostRuntime) -> Result<(), Fail> {
 // The terms of two clauses of one literal each, and both together: the node is made once, each term has a unit of its own, and the
 // third one's follows from the first one's. The two are released, and nothing goes but their units; then the third one and the node.
 const TERMS: &str = "\
-    runner|1,1;0 1 7;3 3 -1 0 0/4 -3 1 0 -3 0/5 3 0 3 1 0/6 3 0 3 2 0/7 3 0 5 0/7 d 5 6 0/7 d 7 0/7 d 3 4 0/";
+    runner|1,1|9 99;0 1 7 Refused { line: 9, reason: NoEmptyClause };3 3 -1 0 0/4 -3 1 0 -3 0/5 3 0 3 1 0/6 3 0 3 2 0/7 3 0 5 0/\
+    7 d 5 6 0/7 d 7 0/7 d 3 4 0/";
 
 #[test]
 fn terms(rt: HostRuntime) -> Result<(), Fail> {
@@ -264,14 +259,14 @@ fn terms(rt: HostRuntime) -> Result<(), Fail> {
 // refute the formula, and the plan adds nothing; in the third one its first clause is empty. Then too few numbers are left, and all
 // clauses are tautologies.
 const BEHIND: &str = "\
-    behind|1,1|99;Sat 11 Refused { line: 13, reason: NoEmptyClause };3 3 -1 0 0/4 -3 1 0 -3 0/5 3 0 3 1 0/6 3 0 3 2 0/7 3 \
+    behind|1,1|2 99;Sat 11 Refused { line: 13, reason: NoEmptyClause };3 3 -1 0 0/4 -3 1 0 -3 0/5 3 0 3 1 0/6 3 0 3 2 0/7 3 \
     0 5 0/7 d 5 6 7 0/7 d 3 4 0/8 3 -1 0 0/9 -3 1 0 -8 0/10 3 0 8 1 0/11 3 0 8 2 0/11 d 11 0/\n\
-    behind|1,-1|99;Unsat 11 Verified;3 3 -1 0 0/4 -3 1 0 -3 0/5 3 0 3 1 0/6 4 1 0 0/7 -4 -1 0 -6 0/8 4 0 6 2 0/9 -1 -3 \
+    behind|1,-1|2 99;Unsat 11 Verified;3 3 -1 0 0/4 -3 1 0 -3 0/5 3 0 3 1 0/6 4 1 0 0/7 -4 -1 0 -6 0/8 4 0 6 2 0/9 -1 -3 \
     -4 0 7 0/10 -3 -4 0 9 4 0/11 0 5 8 10 0/11 d 9 0/\n\
-    behind|,1|99;Unsat 7 Verified;3 0 1 0/4 3 -1 0 0/5 -3 1 0 -4 0/6 3 0 4 2 0/7 0 3 0/\n\
-    behind|1,1|9;IdLimit 9 Refused { line: 10, reason: NoEmptyClause };3 3 -1 0 0/4 -3 1 0 -3 0/5 3 0 3 1 0/6 3 0 3 2 0/7 3 \
+    behind|,1|2 99;Unsat 7 Verified;3 0 1 0/4 3 -1 0 0/5 -3 1 0 -4 0/6 3 0 4 2 0/7 0 3 0/\n\
+    behind|1,1|2 9;IdLimit 9 Refused { line: 10, reason: NoEmptyClause };3 3 -1 0 0/4 -3 1 0 -3 0/5 3 0 3 1 0/6 3 0 3 2 0/7 3 \
     0 5 0/7 d 5 6 7 0/7 d 3 4 0/8 3 -1 0 0/9 -3 1 0 -8 0/\n\
-    behind|1 -1,2 -2|99;Sat 2 Refused { line: 1, reason: NoEmptyClause };";
+    behind|1 -1,2 -2|2 99;Sat 2 Refused { line: 1, reason: NoEmptyClause };";
 
 #[test]
 fn behind_terms(rt: HostRuntime) -> Result<(), Fail> {
@@ -282,15 +277,15 @@ fn behind_terms(rt: HostRuntime) -> Result<(), Fail> {
 // both together are that sum, whose unit is added again; in the second one they imply it, with two clauses; in the third one they are
 // False, and the unit follows from the empty clause. The first term never implies it.
 const SUMS: &str = "\
-    sum|1 2,-1 -2;true true false 22 Refused { line: 22, reason: NoEmptyClause };3 3 -2 0 0/4 -3 2 0 -3 0/5 4 -1 0 0/6 4 1 -3 0 0/\
+    sum|1 2,-1 -2|9 99;true false true 22 Refused { line: 22, reason: NoEmptyClause };3 3 -2 0 0/4 -3 2 0 -3 0/5 4 -1 0 0/6 4 1 -3 0 0/\
     7 -4 1 3 0 -5 -6 0/8 4 0 5 6 3 1 0/9 5 2 0 0/10 -5 -2 0 -9 0/11 6 -1 -5 0 0/12 6 1 0 0/13 -6 -1 5 0 -11 -12 0/14 6 0 12 11 9 2 \
     0/15 7 -1 -5 0 0/16 7 1 -3 0 0/17 -7 -1 5 0 -15 -16 0/18 -7 1 3 0 -15 -16 0/19 -1 -4 -6 7 0 15 13 0/20 -4 -6 7 0 19 16 7 0/21 7 \
     0 8 14 20 0/21 d 19 0/22 7 0 21 0/\n\
-    sum|1,-2;false true false 23 Refused { line: 24, reason: NoEmptyClause };3 3 -1 0 0/4 -3 1 0 -3 0/5 3 0 3 1 0/6 4 2 0 0/7 -4 -2 \
+    sum|1,-2|9 99;false false true 23 Refused { line: 24, reason: NoEmptyClause };3 3 -1 0 0/4 -3 1 0 -3 0/5 3 0 3 1 0/6 4 2 0 0/7 -4 -2 \
     0 -6 0/8 4 0 6 2 0/9 5 -1 -4 0 0/10 -5 -1 4 0 -9 0/11 -5 1 0 -9 0/12 -1 -3 -4 5 0 9 0/13 -3 -4 5 0 12 4 0/14 5 0 5 8 13 0/14 d \
     12 0/15 6 -2 0 0/16 -6 2 0 -15 0/17 7 -1 -4 0 0/18 7 1 -6 0 0/19 -7 -1 4 0 -17 -18 0/20 -7 1 6 0 -17 -18 0/21 -1 -5 7 0 10 17 \
     0/22 -5 7 0 21 11 0/23 7 0 14 22 0/23 d 21 0/\n\
-    sum|1,-1;false true false 20 Verified;3 3 -1 0 0/4 -3 1 0 -3 0/5 3 0 3 1 0/6 4 1 0 0/7 -4 -1 0 -6 0/8 4 0 6 2 0/9 -1 -3 -4 0 7 \
+    sum|1,-1|9 99;false false true 20 Verified;3 3 -1 0 0/4 -3 1 0 -3 0/5 3 0 3 1 0/6 4 1 0 0/7 -4 -1 0 -6 0/8 4 0 6 2 0/9 -1 -3 -4 0 7 \
     0/10 -3 -4 0 9 4 0/11 0 5 8 10 0/11 d 9 0/12 5 -2 0 0/13 -5 2 0 -12 0/14 6 2 0 0/15 -6 -2 0 -14 0/16 7 -1 -6 0 0/17 7 1 -5 0 0/\
     18 -7 -1 6 0 -16 -17 0/19 -7 1 5 0 -16 -17 0/20 7 0 11 0/";
 
@@ -304,12 +299,12 @@ fn sums(rt: HostRuntime) -> Result<(), Fail> {
 // deleted once the cache of one entry keeps the next conjunction in the place of this one. In the second row they are False, and each
 // cube's clause follows from the empty clause.
 const CUBES: &str = "\
-    cubes|1 2,-1 2|1 -2|-1 2;10 01 none 01 28 Refused { line: 30, reason: NoEmptyClause };3 3 -2 0 0/4 -3 2 0 -3 0/5 4 -1 0 0/6 4 1 \
+    cubes|1 2,-1 2|9 99|1 -2|-1 2;10 01 none 01 28 Refused { line: 30, reason: NoEmptyClause };3 3 -2 0 0/4 -3 2 0 -3 0/5 4 -1 0 0/6 4 1 \
     -3 0 0/7 -4 1 3 0 -5 -6 0/8 4 0 5 6 3 1 0/9 5 -1 -3 0 0/10 5 1 0 0/11 -5 -1 3 0 -9 -10 0/12 5 0 10 9 3 2 0/13 -1 -4 -5 3 0 11 0/\
     14 -4 -5 3 0 13 7 0/15 3 0 8 12 14 0/15 d 13 0/16 6 2 0 0/17 -6 -2 0 -16 0/18 7 -1 -6 0 0/19 -7 -1 6 0 -18 0/20 -7 1 0 -18 0/21 \
     8 1 -3 0 0/22 -8 -1 0 -21 0/23 -8 1 3 0 -21 0/24 -2 -6 -3 0 17 0/25 -6 -3 0 24 4 0/26 -1 -7 -3 0 19 25 0/27 -7 -3 0 26 20 0/28 \
     -1 2 0 16 18 15 27 0/28 d 24 14 26 25 0/28 d 27 0/\n\
-    cubes|1,-1|1 2|-1 -2;11 00 none none 23 Verified;3 3 -1 0 0/4 -3 1 0 -3 0/5 3 0 3 1 0/6 4 1 0 0/7 -4 -1 0 -6 0/8 4 0 6 2 0/9 -1 \
+    cubes|1,-1|9 99|1 2|-1 -2;11 00 none none 23 Verified;3 3 -1 0 0/4 -3 1 0 -3 0/5 3 0 3 1 0/6 4 1 0 0/7 -4 -1 0 -6 0/8 4 0 6 2 0/9 -1 \
     -3 -4 0 7 0/10 -3 -4 0 9 4 0/11 0 5 8 10 0/11 d 9 0/12 5 -2 0 0/13 -5 2 0 -12 0/14 6 -1 -5 0 0/15 -6 -1 5 0 -14 0/16 -6 1 0 -14 \
     0/17 7 2 0 0/18 -7 -2 0 -17 0/19 8 1 -7 0 0/20 -8 -1 0 -19 0/21 -8 1 7 0 -19 0/22 -1 -2 0 11 0/23 1 2 0 11 0/";
 

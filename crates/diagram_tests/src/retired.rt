@@ -34,20 +34,38 @@ pub fn delete(alloc: Global, script: &str, text: &mut String) -> Result<(), Fail
     let mut builder = CnfBuilder::new(alloc, 3);
     builder.end_clause()?;
     let formula = builder.finish();
-    let mut table = open(alloc, &formula, &order_of("123"), part(script, '|', 1))?;
+    let table = open(alloc, &formula, &order_of("123"), part(script, '|', 1))?;
+    delete_in(alloc, table, text)
+}
+
+// (Each exit that lets a table go is dear for the prover.)
+fn delete_in(alloc: Global, table: Table<ProofText>, text: &mut String) -> Result<(), Fail>
+    requires sound { IsSound table }
+    requires empty { clause_at table.book.state.live 1 ≡ Some [] }
+{
+    let mut table = table;
     let ended = add_and_delete(&mut table);
-    push_end(alloc, text, &ended)?;
-    push_live(alloc, text, table.ledger())?;
+    push_deleted(alloc, text, &ended, table.ledger())?;
     push_left(alloc, text, table)
 }
 
-fn push_live(alloc: Global, text: &mut String, ledger: &Ledger<ProofText>) -> Result<(), Fail> {
+fn push_deleted(
+    alloc: Global,
+    text: &mut String,
+    ended: &Result<(), TableError>,
+    ledger: &Ledger<ProofText>,
+) -> Result<(), Fail> {
+    push_end(alloc, text, ended)?;
+    push_live(text, ledger)
+}
+
+fn push_live(text: &mut String, ledger: &Ledger<ProofText>) -> Result<(), Fail> {
     if !ledger.keeps_clauses() {
         return Err(Fail::from("no clauses are kept"));
     }
-    let input = ledger.clause(Id(1)).is_some();
-    let first = ledger.clause(Id(2)).is_some();
-    let second = ledger.clause(Id(3)).is_some();
-    text.push_str(format!(in alloc; " {input} {first} {second}")?.as_str())?;
+    for number in 1..=3_u64 {
+        let is_live = ledger.clause(Id(number)).is_some();
+        text.push_str(if is_live { " true" } else { " false" })?;
+    }
     Ok(())
 }

@@ -1,160 +1,109 @@
-// A runner that is asked for terms, and the very bytes that it writes.
-ghost use Rattle.std.specs.Prelude.{◌≡◌, ◌≤◌, length, IfOk, OnOk, IsTrue};
-ghost use Rattle.term_runner.specs.Runner.{IsRunner, IsSameRun};
+// Runners, from their opening to the end of the proof, and the very bytes that they write.
+ghost use Rattle.std.specs.Prelude.{◌≡◌, [], length};
+ghost use Rattle.schedule_plan.specs.Limits.{AreLimits};
+ghost use Rattle.schedule_plan.specs.Plan.{IsAdmissible};
+ghost use Rattle.term_runner.specs.Runner.{IsRunner};
 
-use crate::support::{ProofText, number_at, part};
-use crate::trials::formula_of;
+use crate::asked::ask;
+use crate::support::{ProofText, part};
+use cnf_base::Cnf;
 use host_io::SliceSource;
 use lrat_checker::check;
-use node_table::Justification;
 use schedule_plan::{Order, Plan};
 use std::alloc::Global;
 use std::test::Fail;
-use term_runner::{Limits, Outcome, Runner, Term};
+use term_runner::{Limits, Outcome, Run, Runner};
 
-/// Takes the terms of two clauses and both together, releases the two, and then the third one; behind each it reclaims. Tells how
-/// many nodes went each time, and the proof.
-pub fn give_and_release(alloc: Global, script: &str, text: &mut String) -> Result<(), Fail> {
-    let formula = formula_of(alloc, part(script, '|', 1))?;
-    let order = Order::natural(alloc, formula.vars())?;
-    if order.as_slice().len() != formula.vars() as usize || formula.len() < 2 {
-        return Err(Fail::from("no order, or no clauses"));
-    }
-    let limits = Limits {
-        cache: 1,
-        max_nodes: 9,
-        max_ids: 99,
-    };
+/// Opens a runner, asks it what the script says, and closes it, or runs the plan where the script says 'behind'. Tells what came of it, the
+/// last number, what the checker says of the proof, and the proof.
+pub fn tell_runner(
+    alloc: Global,
+    formula: &Cnf,
+    order: &Order,
+    plan: &Plan,
+    limits: Limits,
+    script: &str,
+    text: &mut String,
+) -> Result<(), Fail>
+    requires vars { formula.now.vars ≡ 2 }
+    requires two { length formula.now.clauses ≡ 2 }
+    requires order { length order.now ≡ 2 }
+    requires plan { IsAdmissible formula.now plan.now }
+    requires limits { AreLimits limits }
+{
     let sink = ProofText::new(alloc, 99, 999);
-    let Ok(mut runner) = Runner::open(alloc, &formula, &order, limits, sink) else {
+    let Ok(runner) = Runner::open(alloc, formula, order, limits, sink) else {
         return Err(Fail::from("no memory for a runner"));
     };
-    let counts = give_both(&mut runner)?;
-    if runner.terms_out() != 0 {
-        return Err(Fail::from("a term is out"));
-    }
-    let (sink, last) = runner.close();
-    let told = format!(in alloc; "{} {} {};", counts.0, counts.1, last?)?;
-    text.push_str(told.as_str())?;
-    sink.push_to(text)
+    let proof = play(alloc, runner, plan, script, text)?;
+    tell_proof(alloc, formula, &proof, text)
 }
 
-fn give_both(runner: &mut Runner<ProofText>) -> Result<(u32, u32), Fail>
-    requires runner { IsRunner runner.old }
-    requires two { 2 ≤ length runner.old.formula.now.clauses }
-    ensures { OnOk result (IsRunner runner.new) }
+fn play(
+    alloc: Global,
+    runner: Runner<ProofText>,
+    plan: &Plan,
+    script: &str,
+    text: &mut String,
+) -> Result<ProofText, Fail>
+    requires runner { IsRunner runner }
+    requires vars { runner.formula.now.vars ≡ 2 }
+    requires two { length runner.formula.now.clauses ≡ 2 }
+    requires plan { IsAdmissible runner.formula.now plan.now }
+    requires fresh { runner.terms.table.book.origin.bytes.items ≡ [] }
 {
-    // (the prover has to see the type of what a term holds)
-    let _unit = Justification::Trivial;
-    let first = give(runner, 1)?;
-    let second = give(runner, 2)?;
-    let both = meet(runner, &first, &second)?;
-    take_back(runner, first);
-    take_back(runner, second);
-    let none = reclaim(runner)?;
-    take_back(runner, both);
-    let all = reclaim(runner)?;
-    Ok((none, all))
+    let mut runner = runner;
+    ask(alloc, &mut runner, script, text)?;
+    if part(script, '|', 0) == "behind" {
+        return run(alloc, runner, plan, text);
+    }
+    close(alloc, runner, text)
 }
 
-pub fn give(runner: &mut Runner<ProofText>, number: u32) -> Result<Term, Fail>
-    requires runner { IsRunner runner.old }
-    requires from_one { 1 ≤ number }
-    requires to_len { number ≤ length runner.old.formula.now.clauses }
-    ensures runner { OnOk result (IsRunner runner.new) }
-    ensures same { OnOk result (IsSameRun runner.old runner.new) }
+fn close(alloc: Global, runner: Runner<ProofText>, text: &mut String) -> Result<ProofText, Fail>
+    requires runner { IsRunner runner }
+    requires none_out { length runner.terms.out.items ≡ 0 }
 {
-    Ok(runner.term(number)?)
+    let (proof, last) = runner.close();
+    text.push_str(format!(in alloc; "{}", last?)?.as_str())?;
+    Ok(proof)
 }
 
-pub fn meet(runner: &mut Runner<ProofText>, u: &Term, v: &Term) -> Result<Term, Fail>
-    requires { IsRunner runner.old }
-    ensures runner { OnOk result (IsRunner runner.new) }
-    ensures same { OnOk result (IsSameRun runner.old runner.new) }
+fn run(
+    alloc: Global,
+    runner: Runner<ProofText>,
+    plan: &Plan,
+    text: &mut String,
+) -> Result<ProofText, Fail>
+    requires runner { IsRunner runner }
+    requires none_out { length runner.terms.out.items ≡ 0 }
+    requires plan { IsAdmissible runner.formula.now plan.now }
+    requires fresh { runner.terms.table.book.origin.bytes.items ≡ [] }
 {
-    if !runner.has(u) {
-        return Err(Fail::from("the first term isn't out"));
-    }
-    if !runner.has(v) {
-        return Err(Fail::from("the second term isn't out"));
-    }
-    Ok(runner.meet(u, v)?)
+    let (proof, run) = runner.run(plan);
+    tell_end(alloc, &run?, text)?;
+    Ok(proof)
 }
 
-/// Releases a term that is out.
-pub fn take_back(runner: &mut Runner<ProofText>, term: Term)
-    requires { IsRunner runner.old }
-    ensures runner { IsRunner runner.new }
-    ensures formula { runner.new.formula ≡ runner.old.formula }
-    ensures origin { runner.new.terms.table.book.origin ≡ runner.old.terms.table.book.origin }
-{
-    if runner.has(&term) {
-        runner.release(term);
-    }
-}
-
-fn reclaim(runner: &mut Runner<ProofText>) -> Result<u32, Fail>
-    requires { IsRunner runner.old }
-    ensures { OnOk result (IsRunner runner.new) }
-{
-    Ok(runner.reclaim()?)
-}
-
-/// Takes the terms of two clauses and both together, releases them, and then runs the plan that conjoins the clauses one by one. Tells
-/// how it ends and with which number, what the checker says of the proof, and the proof.
-pub fn give_and_run(alloc: Global, script: &str, text: &mut String) -> Result<(), Fail> {
-    let formula = formula_of(alloc, part(script, '|', 1))?;
-    let order = Order::natural(alloc, formula.vars())?;
-    let plan = Plan::conjoin(alloc, &formula)?;
-    let ids = number_at(part(script, '|', 2), 0);
-    if order.as_slice().len() != formula.vars() as usize || formula.len() < 2 || ids > 99 {
-        return Err(Fail::from("no order, or no clauses, or too many numbers"));
-    }
-    let limits = Limits {
-        cache: 1,
-        max_nodes: 2,
-        max_ids: u64::from(ids),
-    };
-    let sink = ProofText::new(alloc, 99, 999);
-    let Ok(mut runner) = Runner::open(alloc, &formula, &order, limits, sink) else {
-        return Err(Fail::from("no memory for a runner"));
-    };
-    give_and_take_back(&mut runner)?;
-    if runner.terms_out() != 0 {
-        return Err(Fail::from("a term is out"));
-    }
-    let (sink, run) = runner.run(&plan);
-    let run = run?;
-    let mut source = SliceSource::new(sink.bytes(), usize::MAX);
-    let verdict = check(alloc, &formula, &mut source)?;
-    let (outcome, last) = (name_of(&run.outcome), run.last_id);
-    let told = format!(in alloc; "{outcome} {last} {verdict:?};")?;
-    text.push_str(told.as_str())?;
-    sink.push_to(text)
-}
-
-fn name_of(outcome: &Outcome) -> &'static str {
-    match outcome {
+fn tell_end(alloc: Global, run: &Run, text: &mut String) -> Result<(), Fail> {
+    let end = match &run.outcome {
         Outcome::Unsat => "Unsat",
         Outcome::Sat(_) => "Sat",
         Outcome::NodeLimit => "NodeLimit",
         Outcome::IdLimit => "IdLimit",
-    }
+    };
+    text.push_str(format!(in alloc; "{end} {}", run.last_id)?.as_str())?;
+    Ok(())
 }
 
-fn give_and_take_back(runner: &mut Runner<ProofText>) -> Result<(), Fail>
-    requires runner { IsRunner runner.old }
-    requires two { 2 ≤ length runner.old.formula.now.clauses }
-    ensures runner { OnOk result (IsRunner runner.new) }
-    ensures formula { OnOk result (runner.new.formula ≡ runner.old.formula) }
-    ensures origin { OnOk result (runner.new.terms.table.book.origin ≡ runner.old.terms.table.book.origin) }
-{
-    let _unit = Justification::Trivial;
-    let first = give(runner, 1)?;
-    let second = give(runner, 2)?;
-    let both = meet(runner, &first, &second)?;
-    take_back(runner, first);
-    take_back(runner, second);
-    take_back(runner, both);
-    Ok(())
+fn tell_proof(
+    alloc: Global,
+    formula: &Cnf,
+    proof: &ProofText,
+    text: &mut String,
+) -> Result<(), Fail> {
+    let mut source = SliceSource::new(proof.bytes(), usize::MAX);
+    let verdict = check(alloc, formula, &mut source)?;
+    text.push_str(format!(in alloc; " {verdict:?};")?.as_str())?;
+    proof.push_to(text)
 }

@@ -1,17 +1,34 @@
-// Trials of a plan, beside runs of the same plan that write a proof: how they end, the last number, and of the trial the moves
-// until half of the numbers were used, and all. The proofs of such runs are cases of `tests/solve`.
+// Scripts over a formula of two variables and two clauses, with the plan that conjoins these one by one: trials of the plan, beside
+// runs of it that write a proof, tell how they end, the last number, and of the trial the moves until half of the numbers were used, and
+// all. (The proofs of such runs are cases of `tests/solve`.) Other scripts are of runners.
 ghost use Rattle.std.specs.Prelude.{◌≡◌, ◌≤◌, ◌+◌, [], length, nat_abs, IfOk, IfSome, OnOk};
+ghost use Rattle.schedule_plan.specs.Limits.{AreLimits};
+ghost use Rattle.schedule_plan.specs.Plan.{IsAdmissible};
 
+use crate::runner::tell_runner;
 use crate::support::{ProofText, number_at, part};
 use cnf_base::{Cnf, CnfBuilder, Lit};
 use schedule_plan::{Order, Plan};
 use std::alloc::Global;
 use std::test::Fail;
-use term_runner::{Limits, Outcome, Run, Trial, run_plan, try_plan};
+use term_runner::{Limits, Outcome, run_plan, try_plan};
 
-/// A formula of two variables and two clauses, with a comma between.
-pub(crate) fn formula_of(alloc: Global, clauses: &str) -> Result<Cnf, Fail>
-    ensures { IfOk result (λ formula. formula.vars ≡ 2) }
+/// Tells what comes of a script, whose parts are what is done, the clauses with a comma between, and the limits of nodes and of numbers.
+pub fn tell_over_clauses(alloc: Global, script: &str, text: &mut String) -> Result<(), Fail> {
+    let formula = formula_of(alloc, part(script, '|', 1))?;
+    let order = order_of_two(alloc)?;
+    let plan = Plan::conjoin(alloc, &formula)?;
+    let limits = limits_of(part(script, '|', 2));
+    if part(script, '|', 0) == "trial" {
+        tell_run(alloc, &formula, &order, &plan, limits, text)?;
+        return tell_trial(alloc, &formula, &order, &plan, limits, text);
+    }
+    tell_runner(alloc, &formula, &order, &plan, limits, script, text)
+}
+
+fn formula_of(alloc: Global, clauses: &str) -> Result<Cnf, Fail>
+    ensures vars { IfOk result (λ formula. formula.vars ≡ 2) }
+    ensures two { IfOk result (λ formula. length formula.clauses ≡ 2) }
 {
     let mut builder = CnfBuilder::new(alloc, 2);
     add_clause(&mut builder, part(clauses, ',', 0))?;
@@ -47,32 +64,43 @@ fn literal_of(word: &str) -> Option<Lit>
     }
 }
 
-// A run and a trial of the plan that conjoins the clauses one by one, with a cache of one entry.
-fn ended(alloc: Global, formula: &Cnf, nodes: u32, ids: u32) -> Result<String, Fail> {
-    let order = Order::natural(alloc, formula.vars())?;
-    let plan = Plan::conjoin(alloc, formula)?;
-    if order.as_slice().len() != formula.vars() as usize || nodes > 100 || ids > 100 {
-        return Err(Fail::from("no order, or too much room"));
+fn order_of_two(alloc: Global) -> Result<Order, Fail>
+    ensures { IfOk result (λ order. length order ≡ 2) }
+{
+    let order = Order::natural(alloc, 2)?;
+    if order.as_slice().len() != 2 {
+        return Err(Fail::from("no order"));
     }
-    let limits = Limits {
-        cache: 1,
-        max_nodes: nodes,
-        max_ids: u64::from(ids),
-    };
-    let sink = ProofText::new(alloc, 99, 999);
-    let (_, ran) = run_plan(alloc, formula, &order, &plan, limits, sink);
-    told(
-        alloc,
-        &ran?,
-        &try_plan(alloc, formula, &order, &plan, limits)?,
-    )
+    Ok(order)
 }
 
-fn told(alloc: Global, run: &Run, trial: &Trial) -> Result<String, Fail> {
-    let (end, last) = (word_of(&run.outcome), run.last_id);
-    let (trial_end, trial_last) = (trial.end, trial.last_id);
-    let (moves, half) = (trial.moves, trial.moves_at_half);
-    Ok(format!(in alloc; "{end} {last}/{trial_end:?} {trial_last}, {half} of {moves}")?)
+fn limits_of(words: &str) -> Limits
+    ensures { AreLimits result }
+{
+    Limits {
+        cache: 1,
+        max_nodes: number_at(words, 0).min(100),
+        max_ids: u64::from(number_at(words, 1).min(100)),
+    }
+}
+
+fn tell_run(
+    alloc: Global,
+    formula: &Cnf,
+    order: &Order,
+    plan: &Plan,
+    limits: Limits,
+    text: &mut String,
+) -> Result<(), Fail>
+    requires order { length order.now ≡ formula.now.vars }
+    requires plan { IsAdmissible formula.now plan.now }
+    requires limits { AreLimits limits }
+{
+    let sink = ProofText::new(alloc, 99, 999);
+    let (_, ran) = run_plan(alloc, formula, order, plan, limits, sink);
+    let run = ran?;
+    text.push_str(format!(in alloc; "{} {}/", word_of(&run.outcome), run.last_id)?.as_str())?;
+    Ok(())
 }
 
 fn word_of(outcome: &Outcome) -> &'static str {
@@ -83,11 +111,21 @@ fn word_of(outcome: &Outcome) -> &'static str {
     }
 }
 
-/// Tells how both end by clauses and the limits of nodes and of numbers.
-pub fn run_and_try(alloc: Global, script: &str, text: &mut String) -> Result<(), Fail> {
-    let formula = formula_of(alloc, part(script, '|', 1))?;
-    let limits = part(script, '|', 2);
-    let own = ended(alloc, &formula, number_at(limits, 0), number_at(limits, 1))?;
-    text.push_str(own.as_str())?;
+fn tell_trial(
+    alloc: Global,
+    formula: &Cnf,
+    order: &Order,
+    plan: &Plan,
+    limits: Limits,
+    text: &mut String,
+) -> Result<(), Fail>
+    requires order { length order.now ≡ formula.now.vars }
+    requires plan { IsAdmissible formula.now plan.now }
+    requires limits { AreLimits limits }
+{
+    let trial = try_plan(alloc, formula, order, plan, limits)?;
+    let (end, last) = (trial.end, trial.last_id);
+    let (moves, half) = (trial.moves, trial.moves_at_half);
+    text.push_str(format!(in alloc; "{end:?} {last}, {half} of {moves}")?.as_str())?;
     Ok(())
 }

@@ -18,9 +18,11 @@ use Rattle.lrat_checker.specs.TextVerdict.{max_bytes, end_verdict, judged, steps
 use Rattle.drat_text.specs.declared.step.DratStep.{DratStep}
 use Rattle.drat_text.specs.declared.step.DratStep.TheVariants.{Add as adds, Delete as deletes}
 use Rattle.drat_proof.specs.Drat.{deletion_of, deletions, drat_of_step, unless_fault, drat_of, drat_steps}
+use Rattle.drat_rules.specs.Clauses.{is_among}
 use Rattle.drat_rules.specs.Addition.{drat_fault}
 use Rattle.drat_rules.specs.Run.{after, drat_step_fault, after_all, fault_or, first_fault, adds_empty, DratRefutes}
 use Rattle.drat_rules.specs.FromLrat.{HaveSame, IsListOf}
+use Rattle.fresh_names.specs.Hits.{DeletesStanding}
 
 -- good steps behind good steps
 first_fault-append : (place : ℕ) (clauses : List (List ℤ)) (front rest : List DratStep) → first_fault place clauses front ≡ None
@@ -137,6 +139,47 @@ module _
             }
         | Some reason ↦ λ bad stops. cc
       ] refl h
+
+  -- each deletion names a clause that stands
+  module _ (listed : (live : Live) (clauses : List (List ℤ)) (id : ℕ) (clause : List ℤ) → HaveSame live clauses
+      → clause_at live id ≡ Some clause → is_among clauses clause ≡ true) where
+    deletions_stand : (state : State) (clauses : List (List ℤ)) (ids : List ℕ) (rest : List DratStep) → IsListOf state clauses
+        → DeletesStanding (after_all clauses (deletions state.live ids)) rest
+        → DeletesStanding clauses (deletions state.live ids ++ rest)
+    deletions_stand state clauses [] rest l h = h
+    deletions_stand state clauses (id ∷ ids) rest l h =
+        elim (clause_at state.live id)
+        as (λ o. clause_at state.live id ≡ o
+        → DeletesStanding (after_all clauses (deletion_of o ++ deletions (finmap.remove state.live id) ids)) rest
+        → DeletesStanding clauses ((deletion_of o ++ deletions (finmap.remove state.live id) ids) ++ rest)) [
+          | None ↦ λ none behind. deletions_stand record { live = finmap.remove state.live id; top = state.top } clauses ids rest
+              (passed_over state clauses id l none) behind
+          | Some clause ↦ λ at behind. (
+            listed state.live clauses id clause l.same at,
+            deletions_stand record { live = finmap.remove state.live id; top = state.top } (after clauses (deletes clause)) ids rest
+                (deleted state clauses id clause l at) behind,
+          )
+        ] refl h
+
+    step_stands : (state : State) (clauses : List (List ℤ)) (step : Step) (rest : List DratStep) → IsListOf state clauses
+        → DeletesStanding (after_all clauses (drat_of_step state step)) rest → DeletesStanding clauses (drat_of_step state step ++ rest)
+    step_stands state clauses (Add id clause hints groups) rest l h = h
+    step_stands state clauses (Delete id ids) rest l h = deletions_stand state clauses ids rest l h
+
+    pub steps_stand : (state : State) (clauses : List (List ℤ)) (steps : Steps) → IsListOf state clauses
+        → DeletesStanding clauses (drat_of state steps)
+    steps_stand state clauses (no_more line) l = tt
+    steps_stand state clauses overlong l = tt
+    steps_stand state clauses (no_step line) l = tt
+    steps_stand state clauses (next_step step line steps) l =
+        elim (step_fault state step)
+        as (λ o. step_fault state step ≡ o
+        → DeletesStanding clauses (unless_fault o (drat_of_step state step ++ drat_of (after_step state step) steps))) [
+          | None ↦ λ none. step_stands state clauses step (drat_of (after_step state step) steps) l
+              (steps_stand (after_step state step) (after_all clauses (drat_of_step state step)) steps (step_follows state clauses step l
+              none))
+          | Some reason ↦ λ bad. tt
+        ] refl
 
   pub DratRefutes-verified : ((clauses : List (List ℤ)) → IsListOf (start clauses) clauses) → (clauses : List (List ℤ)) (bytes : List ℕ)
       → text_verdict clauses bytes ≡ Some Verified → DratRefutes clauses (drat_steps clauses bytes)

@@ -1,13 +1,16 @@
 // What an LRAT proof becomes keeps its verdict, as clauses of a function without work.
 ghost use Rattle.std.specs.Prelude.{◌≡◌, ◌≤◌, ℕ, ℤ, List, length, Some};
+ghost use Rattle.cnf_base.specs.Limits.{max_vars};
 ghost use Rattle.cnf_base.specs.ProofText.{max_literal};
 ghost use Rattle.cnf_base.specs.Truth.{AreClausesOf};
 ghost use Rattle.lrat_rules.specs.Run.{Refutes};
 ghost use Rattle.lrat_checker.specs.declared.verdict.Verdict.TheVariants.{Verified};
 ghost use Rattle.lrat_checker.specs.TextVerdict.{max_bytes, text_verdict};
+ghost use Rattle.drat_text.specs.DratText.{drat_text};
 ghost use Rattle.drat_proof.specs.Drat.{drat, drat_steps};
 ghost use Rattle.drat_rules.specs.Run.{DratRefutes};
 ghost use Rattle.drat_checker.specs.DratVerdict.{drat_text_verdict};
+ghost use Rattle.fresh_names.specs.Fresh.{fresh};
 
 /// The steps of DRAT that a verified LRAT proof becomes refute the same clauses, without hints.
 pub fn drat_law()
@@ -28,4 +31,23 @@ pub fn drat_law()
     cnf_base::step_range_law();
     lrat_text::whole_text_law();
     lrat_text::long_text_law();
+}
+
+/// They refute the same clauses where each variable above the formula's has a new name each time that it comes into use.
+pub fn fresh_drat_law()
+    ensures refutes { (vars : ℕ) (clauses : List (List ℤ)) (bytes : List ℕ) → AreClausesOf vars clauses
+        → text_verdict clauses bytes ≡ Some Verified → DratRefutes clauses (fresh vars (drat_steps clauses bytes)) }
+    // Their text is verified too, unless it is longer than is looked at; within that, no name is beyond the format's literals.
+    ensures written { (vars : ℕ) (clauses : List (List ℤ)) (bytes : List ℕ) → vars ≤ max_vars → AreClausesOf vars clauses
+        → text_verdict clauses bytes ≡ Some Verified → length (drat_text (fresh vars (drat_steps clauses bytes))) ≤ max_bytes
+        → drat_text_verdict clauses (drat_text (fresh vars (drat_steps clauses bytes))) ≡ Some Verified }
+{
+    drat_rules::from_lrat_law();
+    drat_rules::same_clauses_law();
+    drat_checker::check_drat_law();
+    lrat_rules::start_law();
+    cnf_base::step_range_law();
+    lrat_text::whole_text_law();
+    lrat_text::long_text_law();
+    fresh_names::fresh_law();
 }

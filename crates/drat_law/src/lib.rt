@@ -5,4 +5,4 @@
 
 mod laws;
 
-pub use laws::drat_law;
+pub use laws::{drat_law, fresh_drat_law};

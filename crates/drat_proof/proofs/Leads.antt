@@ -19,16 +19,19 @@ use Rattle.lrat_checker.proofs.Wanted.{behind_wants}
 use Rattle.drat_text.specs.declared.step.DratStep.{DratStep}
 use Rattle.drat_text.specs.DratText.{drat_text}
 use Rattle.drat_proof.specs.Drat.{drat_of_step, drat_of}
+use Rattle.drat_proof.specs.Naming.{NamesAhead, named_by, behind_all}
 use Rattle.drat_proof.specs.TwoRoles.{OnlyWrites}
 use Rattle.drat_proof.specs.Conversion.{ReadsStep}
 use Rattle.drat_proof.proofs.Roles.{reads_none, writes_none, OnlyWrites-then, only_writes}
 use Rattle.drat_proof.proofs.Added.{one_more}
+use Rattle.drat_proof.proofs.Named.{no_steps, named-append, behind-append}
 use Rattle.drat_proof.proofs.DratTurns.{some_at_good_step}
 
-pub record LeadsTo (tells : Bool) (in_old in_new out_old out_new : Channel) (from : State) (first : Reader)
-    (state : State) (has_empty : Bool) (reader : Reader) : Type 0 where
+pub record LeadsTo (tells : Bool) (in_old in_new out_old out_new : Channel) (from : State) (given_names : NamesAhead) (first : Reader)
+    (state : State) (names : NamesAhead) (has_empty : Bool) (reader : Reader) : Type 0 where
   pub front : List DratStep
-  pub written : IsTrue tells → out_new.written ≡ out_old.written ++ drat_text front
+  pub written : IsTrue tells → out_new.written ≡ out_old.written ++ drat_text (named_by given_names front)
+  pub named : names ≡ behind_all given_names front
   pub text : IsTrue tells → Decides in_old in_new
       (λ bytes more. drat_of from (steps_ahead first bytes) ≡ front ++ drat_of state (steps_ahead reader more))
   pub verdict : IsTrue tells → Decides in_old in_new
@@ -45,11 +48,12 @@ pub record LeadsTo (tells : Bool) (in_old in_new out_old out_new : Channel) (fro
   pub unfailed : out_new.faults ≡ out_old.faults
 
 -- at the start
-pub leads_start : (tells : Bool) (source sink : Channel) (state : State) (reader : Reader) → reader.status ≡ Reading
-    → LeadsTo tells source source sink sink state reader state false reader
-leads_start tells source sink state reader reading = record {
+pub leads_start : (tells : Bool) (source sink : Channel) (state : State) (names : NamesAhead) (reader : Reader) → reader.status ≡ Reading
+    → LeadsTo tells source source sink sink state names reader state names false reader
+leads_start tells source sink state names reader reading = record {
   front = [];
-  written = λ t. sym (append-nil sink.written);
+  written = λ t. sym (append-nil sink.written) ∙ ap (λ (l : List DratStep). sink.written ++ drat_text l) (sym (no_steps names));
+  named = refl;
   text = λ t. Decides-none source _ (λ more. refl);
   verdict = λ t. Decides-none source _ (λ more. refl);
   wants = λ t. Decides-none source _ (λ more n w. w);
@@ -62,21 +66,30 @@ leads_start tells source sink state reader reading = record {
 }
 
 -- behind a good step that was read and written
-pub leads_on : {tells : Bool} {in_old in_mid in_new out_old out_mid out_new : Channel} {from state next : State} {has_empty behind : Bool}
-    {first reader reader' : Reader} {answer : Result (Option (Step × ℕ)) StepError}
-    → LeadsTo tells in_old in_mid out_old out_mid from first state has_empty reader
+pub leads_on : {tells : Bool} {in_old in_mid in_new out_old out_mid out_new : Channel} {from state next : State}
+    {given_names names names' : NamesAhead} {has_empty behind : Bool} {first reader reader' : Reader}
+    {answer : Result (Option (Step × ℕ)) StepError}
+    → LeadsTo tells in_old in_mid out_old out_mid from given_names first state names has_empty reader
     → ReadsStep tells in_mid in_new reader reader' answer
     → (step : Step) (at : ℕ) → answer ≡ Ok (Some (step, at)) → step_fault state step ≡ None → next ≡ after_step state step
     → behind ≡ (has_empty || step_adds_empty step)
-    → WritesAll {T = Unit {0}} tells out_mid out_new (drat_text (drat_of_step state step)) (Ok tt)
+    → WritesAll {T = Unit {0}} tells out_mid out_new (drat_text (named_by names (drat_of_step state step))) (Ok tt)
+    → names' ≡ behind_all names (drat_of_step state step)
     → GaveStep at reader reader'
-    → LeadsTo tells in_old in_new out_old out_new from first next behind reader'
+    → LeadsTo tells in_old in_new out_old out_new from given_names first next names' behind reader'
 leads_on {in_old = in_old} {in_mid = in_mid} {in_new = in_new} {out_old = out_old} {out_mid = out_mid} {out_new = out_new} {from = from}
-    {state = state} {next = next} {has_empty = has_empty} {behind = behind} {first = first} {reader = reader} {reader' = reader'}
-    {answer = answer} leads read step at is good moved told writes gave = record {
+    {state = state} {next = next} {given_names = given_names} {names = names} {has_empty = has_empty} {behind = behind}
+    {first = first} {reader = reader} {reader' = reader'} {answer = answer} leads read step at is good moved told writes later gave =
+    let piece : List DratStep = drat_of_step state step in
+    let by_names : drat_text (named_by names piece) ≡ drat_text (named_by (behind_all given_names leads.front) piece) =
+    ap (λ (n : NamesAhead). drat_text (named_by n piece)) leads.named in
+    record {
       front = leads.front ++ drat_of_step state step;
-      written = λ t. one_more out_old.written out_mid.written out_new.written leads.front (drat_of_step state step) (leads.written t)
-          (writes.done t refl);
+      written = λ t. one_more out_old.written out_mid.written out_new.written (named_by given_names leads.front)
+          (named_by (behind_all given_names leads.front) piece) (leads.written t)
+          (writes.done t refl ∙ ap (λ (l : List ℕ). out_mid.written ++ l) by_names)
+          ∙ ap (λ (l : List DratStep). out_old.written ++ drat_text l) (sym (named-append given_names leads.front piece));
+      named = later ∙ ap (λ (n : NamesAhead). behind_all n piece) leads.named ∙ sym (behind-append given_names leads.front piece);
       text = λ t. Decides-then _ (leads.text t) (read.gives t)
           (λ bytes middle more before gives. before
           ∙ ap (λ (l : List DratStep). leads.front ++ l) (some_at_good_step state _ _ _ _ gives step at next is good moved)

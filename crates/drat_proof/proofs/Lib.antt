@@ -1,5 +1,6 @@
 pub mod Roles
 pub mod Added
+pub mod Named
 pub mod DratTurns
 pub mod Leads
 pub mod Exits

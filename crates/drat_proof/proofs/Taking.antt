@@ -1,5 +1,5 @@
--- How deletions are written, one after another.
-use Rattle.std.proofs.Common.{◌≡◌, ℕ, Bool, List, [], ◌∷◌, ◌++◌, Ok, Err, refl, sym, ap, subst}
+-- How a step is written by its names, and deletions one after another.
+use Rattle.std.proofs.Common.{◌≡◌, ℕ, Bool, ℤ, List, [], ◌∷◌, ◌++◌, Ok, Err, refl, sym, ap, subst}
 use Rattle.std.proofs.Common.{◌∙◌, ◌<◌, ◌+◌, suc, length, drop, get_or, append_assoc, arith}
 use Rattle.std.proofs.Math.Seq.{drop-cons}
 use Rattle.std.specs.Prelude.{Result, IsErr}
@@ -10,15 +10,26 @@ use Rattle.host_io.specs.Channel.{Channel, WritesAll}
 use Rattle.host_io.proofs.Emitting.{in_turn, fails_within, alone, written_out, cut_before}
 use Rattle.lrat_rules.specs.State.{Live, clause_at, without_clauses}
 use Rattle.drat_text.specs.declared.step.DratStep.{DratStep}
+use Rattle.drat_text.specs.declared.step.DratStep.TheVariants.{Add as adds}
 use Rattle.drat_text.specs.DratText.{line_of_drat, drat_text}
 use Rattle.drat_proof.specs.Drat.{deletion_of, deletions}
-use Rattle.drat_proof.proofs.Added.{text-append}
+use Rattle.drat_proof.specs.Naming.{NamesAhead, named_by, behind, behind_all, step_by}
+use Rattle.drat_proof.specs.Conversion.{WritesAddition, step_answer}
+use Rattle.drat_proof.proofs.Named.{no_steps, one_step, behind-append, named_text-append}
 
 -- the line of one step is its text
 pub one_line : {tells : Bool} {old new : Channel} {written : Result (Unit {0}) Failed} (step : DratStep)
     → WritesAll tells old new (line_of_drat step) written → WritesAll tells old new (drat_text (step ∷ [])) written
 one_line {tells} {old} {new} {written} step w =
     subst (λ (l : List ℕ). WritesAll tells old new l written) (sym (append-nil (line_of_drat step))) w
+
+-- the same by names, of which the later ones are those behind the step
+pub one_line_by : {tells : Bool} {old new : Channel} {written : Result (Unit {0}) Failed} (names next : NamesAhead) (step : DratStep)
+    → next ≡ behind names step → WritesAll tells old new (line_of_drat (step_by next step)) written
+    → WritesAll tells old new (drat_text (named_by names (step ∷ []))) written
+one_line_by {tells} {old} {new} {written} names next step is w =
+    subst (λ (l : List DratStep). WritesAll tells old new (drat_text l) written)
+    (ap (λ (n : NamesAhead). step_by n step ∷ []) is ∙ sym (one_step names step)) (one_line (step_by next step) w)
 
 -- Writes in turn.
 pub nothing_written : {tells : Bool} (channel : Channel) → WritesAll {T = Unit {0}} tells channel channel [] (Ok tt)
@@ -46,63 +57,90 @@ writes_short failed text more whole writes err =
     cut_before {result = Err failed} (fails_within (alone writes) refl refl text more [] whole) refl err
 
 -- The first of the numbers had their turn: these are live now, and the rest are to come.
-pub record Deletes (tells : Bool) (old new : Channel) (live : Live) (ids : List ℕ) (now : Live) (rest : List ℕ) : Type 0 where
+pub record Deletes (tells : Bool) (old new : Channel) (live : Live) (names : NamesAhead) (ids : List ℕ) (now : Live) (next : NamesAhead)
+    (rest : List ℕ) : Type 0 where
   pub front : List DratStep
   pub parts : deletions live ids ≡ front ++ deletions now rest
-  pub written : WritesAll {T = Unit {0}} tells old new (drat_text front) (Ok tt)
+  pub written : WritesAll {T = Unit {0}} tells old new (drat_text (named_by names front)) (Ok tt)
+  pub named : next ≡ behind_all names front
   pub left : without_clauses now rest ≡ without_clauses live ids
 
-pub deletes_none : (tells : Bool) (channel : Channel) (live : Live) (ids : List ℕ) → Deletes tells channel channel live ids live ids
-deletes_none tells channel live ids = record { front = []; parts = refl; written = nothing_written channel; left = refl }
+pub deletes_none : (tells : Bool) (channel : Channel) (live : Live) (names : NamesAhead) (ids : List ℕ)
+    → Deletes tells channel channel live names ids live names ids
+deletes_none tells channel live names ids = record {
+  front = [];
+  parts = refl;
+  written = subst (λ (l : List DratStep). WritesAll {T = Unit {0}} tells channel channel (drat_text l) (Ok tt)) (sym (no_steps names))
+      (nothing_written channel);
+  named = refl;
+  left = refl;
+}
 
--- one number more
-pub deletes_on : {tells : Bool} {old mid new : Channel} {live now next : Live} {ids rest : List ℕ} (id : ℕ) (more : List ℕ)
-    → Deletes tells old mid live ids now rest → rest ≡ id ∷ more
-    → WritesAll {T = Unit {0}} tells mid new (drat_text (deletion_of (clause_at now id))) (Ok tt) → next ≡ map.remove now id
-    → Deletes tells old new live ids next more
-deletes_on {tells} {old} {mid} {new} {live} {now} {next} {ids} {rest} id more so_far turn writes removed =
-    let piece : List DratStep = deletion_of (clause_at now id) in
-    record {
-      front = so_far.front ++ piece;
-      parts = so_far.parts ∙ ap (λ (l : List ℕ). so_far.front ++ deletions now l) turn
-          ∙ sym (append_assoc so_far.front piece (deletions (map.remove now id) more))
-          ∙ ap (λ (l : Live). (so_far.front ++ piece) ++ deletions l more) (sym removed);
-      written = subst (λ (l : List ℕ). WritesAll {T = Unit {0}} tells old new l (Ok tt)) (sym (text-append so_far.front piece))
-          (writes_then (Ok tt) so_far.written writes);
-      left = ap (λ (l : Live). without_clauses l more) removed ∙ sym (ap (without_clauses now) turn) ∙ so_far.left;
-    }
+module _ {tells : Bool} {old mid new : Channel} {live now : Live} {names next : NamesAhead} {ids rest : List ℕ} where
+  -- one number more
+  pub deletes_on : {live' : Live} {next' : NamesAhead} (id : ℕ) (more : List ℕ) → Deletes tells old mid live names ids now next rest
+      → rest ≡ id ∷ more → WritesAll {T = Unit {0}} tells mid new (drat_text (named_by next (deletion_of (clause_at now id)))) (Ok tt)
+      → next' ≡ behind_all next (deletion_of (clause_at now id)) → live' ≡ map.remove now id
+      → Deletes tells old new live names ids live' next' more
+  deletes_on {live'} {next'} id more so_far turn writes later removed =
+      let piece : List DratStep = deletion_of (clause_at now id) in
+      let by_names : drat_text (named_by next piece) ≡ drat_text (named_by (behind_all names so_far.front) piece) =
+      ap (λ (n : NamesAhead). drat_text (named_by n piece)) so_far.named in
+      record {
+        front = so_far.front ++ piece;
+        parts = so_far.parts ∙ ap (λ (l : List ℕ). so_far.front ++ deletions now l) turn
+            ∙ sym (append_assoc so_far.front piece (deletions (map.remove now id) more))
+            ∙ ap (λ (l : Live). (so_far.front ++ piece) ++ deletions l more) (sym removed);
+        written = subst (λ (l : List ℕ). WritesAll {T = Unit {0}} tells old new l (Ok tt))
+            (ap (λ (l : List ℕ). drat_text (named_by names so_far.front) ++ l) by_names ∙ sym (named_text-append names so_far.front piece))
+            (writes_then (Ok tt) so_far.written writes);
+        named = later ∙ ap (λ (n : NamesAhead). behind_all n piece) so_far.named ∙ sym (behind-append names so_far.front piece);
+        left = ap (λ (l : Live). without_clauses l more) removed ∙ sym (ap (without_clauses now) turn) ∙ so_far.left;
+      }
 
--- a write failed at its turn
-pub deletes_fail : {tells : Bool} {old mid new : Channel} {live now : Live} {ids rest : List ℕ} {answer : Result (Unit {0}) Failed}
-    (id : ℕ) (more : List ℕ) (failed : Failed)
-    → Deletes tells old mid live ids now rest → rest ≡ id ∷ more
-    → WritesAll {T = Unit {0}} tells mid new (drat_text (deletion_of (clause_at now id))) (Err failed) → IsErr answer
-    → WritesAll tells old new (drat_text (deletions live ids)) answer
-deletes_fail {now = now} id more failed so_far turn writes err =
-    let piece : List DratStep = deletion_of (clause_at now id) in
-    let behind : List DratStep = deletions (map.remove now id) more in
-    writes_short failed _ (drat_text behind)
-    (ap drat_text (so_far.parts ∙ ap (λ (l : List ℕ). so_far.front ++ deletions now l) turn)
-    ∙ text-append so_far.front (piece ++ behind) ∙ ap (λ (l : List ℕ). drat_text so_far.front ++ l) (text-append piece behind)
-    ∙ sym (append_assoc (drat_text so_far.front) (drat_text piece) (drat_text behind)))
-    (writes_then (Err failed) so_far.written writes) err
+  -- a write failed at its turn
+  pub deletes_fail : {answer : Result (Unit {0}) Failed} (id : ℕ) (more : List ℕ) (failed : Failed)
+      → Deletes tells old mid live names ids now next rest → rest ≡ id ∷ more
+      → WritesAll {T = Unit {0}} tells mid new (drat_text (named_by next (deletion_of (clause_at now id)))) (Err failed) → IsErr answer
+      → WritesAll tells old new (drat_text (named_by names (deletions live ids))) answer
+  deletes_fail id more failed so_far turn writes err =
+      let piece : List DratStep = deletion_of (clause_at now id) in
+      let rest_of : List DratStep = deletions (map.remove now id) more in
+      let later : NamesAhead = behind_all next piece in
+      writes_short failed _ (drat_text (named_by later rest_of))
+      (ap (λ (l : List DratStep). drat_text (named_by names l)) (so_far.parts ∙ ap (λ (l : List ℕ). so_far.front ++ deletions now l) turn)
+      ∙ named_text-append names so_far.front (piece ++ rest_of)
+      ∙ ap (λ (n : NamesAhead). drat_text (named_by names so_far.front) ++ drat_text (named_by n (piece ++ rest_of))) (sym so_far.named)
+      ∙ ap (λ (l : List ℕ). drat_text (named_by names so_far.front) ++ l) (named_text-append next piece rest_of)
+      ∙ sym (append_assoc (drat_text (named_by names so_far.front)) (drat_text (named_by next piece)) (drat_text (named_by later rest_of))))
+      (writes_then (Err failed) so_far.written writes) err
 
--- all of them had their turn
-pub deletes_all : {tells : Bool} {old new : Channel} {live now : Live} {ids : List ℕ} (rest : List ℕ)
-    → Deletes tells old new live ids now rest → rest ≡ []
-    → WritesAll {T = Unit {0}} tells old new (drat_text (deletions live ids)) (Ok tt)
-deletes_all {tells} {old} {new} {live} {now} {ids} rest so_far none =
-    let same : so_far.front ≡ deletions live ids =
-    sym (so_far.parts ∙ ap (λ (l : List ℕ). so_far.front ++ deletions now l) none ∙ append-nil so_far.front) in
-    subst (λ (l : List DratStep). WritesAll {T = Unit {0}} tells old new (drat_text l) (Ok tt)) same so_far.written
+module _ {tells : Bool} {old new : Channel} {live now : Live} {names next : NamesAhead} {ids : List ℕ} (rest : List ℕ)
+    (so_far : Deletes tells old new live names ids now next rest) (none : rest ≡ []) where
+  all_parts : so_far.front ≡ deletions live ids
+  all_parts = sym (so_far.parts ∙ ap (λ (l : List ℕ). so_far.front ++ deletions now l) none ∙ append-nil so_far.front)
 
-pub all_removed : {tells : Bool} {old new : Channel} {live now : Live} {ids : List ℕ} (rest : List ℕ)
-    → Deletes tells old new live ids now rest → rest ≡ []
-    → now ≡ without_clauses live ids
-all_removed {now = now} rest so_far none = sym (ap (without_clauses now) none) ∙ so_far.left
+  -- all of them had their turn
+  pub deletes_all : WritesAll {T = Unit {0}} tells old new (drat_text (named_by names (deletions live ids))) (Ok tt)
+  deletes_all = subst (λ (l : List DratStep). WritesAll {T = Unit {0}} tells old new (drat_text (named_by names l)) (Ok tt)) all_parts
+      so_far.written
+
+  pub all_removed : now ≡ without_clauses live ids
+  all_removed = sym (ap (without_clauses now) none) ∙ so_far.left
+
+  pub all_named : next ≡ behind_all names (deletions live ids)
+  all_named = so_far.named ∙ ap (behind_all names) all_parts
 
 -- the number at a place, and those behind it
 pub turn_of : (ids : List ℕ) (place id : ℕ) → place < length ids → id ≡ get_or ids place id → drop place ids ≡ id ∷ drop (place + 1) ids
 turn_of ids place id within is =
     let next : suc place ≡ place + 1 = omega arith in
     drop-cons ids place id within ∙ ap (λ (x : ℕ). x ∷ drop (suc place) ids) (sym is) ∙ ap (λ (n : ℕ). id ∷ drop n ids) next
+
+-- an addition is written by the names behind it
+pub writes_addition : {tells : Bool} {old new : Channel} {next : NamesAhead} (names : NamesAhead) (clause : List ℤ)
+    (written : Result (Unit {0}) Failed) → next ≡ behind names (adds clause)
+    → WritesAll tells old new (line_of_drat (step_by next (adds clause))) written
+    → WritesAddition tells old new names next clause (step_answer written)
+writes_addition {next = next} names clause (Ok u) is w = (one_line_by names next (adds clause) is w, is)
+writes_addition {next = next} names clause (Err failed) is w = (failed, one_line_by names next (adds clause) is w)

@@ -1,6 +1,6 @@
 -- What the answer of a conversion says of the text that was read, and of the bytes that were written. What comes of a step is told
 -- by one definition over answers (`Takes`, `ConvertsSteps`), so that each end of the loop is one lemma over plain variables.
-use Rattle.std.specs.Prelude.{◌≡◌, ◌≢◌, ℕ, Bool, false, List, ◌++◌, length, Option, None, Some, Result, Ok, Err, IsTrue, ⊤}
+use Rattle.std.specs.Prelude.{◌≡◌, ◌≢◌, ℕ, Bool, false, ℤ, List, [], ◌∷◌, ◌++◌, length, Option, None, Some, Result, Ok, Err, IsTrue, ⊤}
 use Rattle.cnf_base.specs.declared.step.Step.{Step}
 use Rattle.host_io.specs.Channel.{Channel, Rose, WritesAll}
 use Rattle.host_io.specs.declared.source.Failed.{Failed}
@@ -18,10 +18,12 @@ use Rattle.lrat_checker.specs.declared.verdict.CheckError.TheVariants.{ReadFault
 use Rattle.lrat_checker.specs.Memory.{may_want_memory, reading_may_want_memory}
 use Rattle.lrat_checker.specs.TextVerdict.{steps_verdict}
 use Rattle.drat_text.specs.declared.step.DratStep.{DratStep}
+use Rattle.drat_text.specs.declared.step.DratStep.TheVariants.{Add as adds}
 use Rattle.drat_text.specs.DratText.{drat_text}
 use Rattle.drat_proof.specs.declared.error.ConvertError.{ConvertError}
 use Rattle.drat_proof.specs.declared.error.ConvertError.TheVariants.{ReadFault, TooLong, OutOfMemory, WriteFault}
 use Rattle.drat_proof.specs.Drat.{drat_of_step, drat_of}
+use Rattle.drat_proof.specs.Naming.{NamesAhead, named_by, behind, behind_all}
 use Rattle.drat_proof.specs.TwoRoles.{OnlyWrites, added}
 
 -- why a check comes to no verdict, neither does a conversion
@@ -69,29 +71,42 @@ pub record ReadsStep (tells : Bool) (old new : Channel) (before after : Reader) 
   pub unfailed : answer ≢ Err FailedRead → new.faults ≡ old.faults
   pub reads : OnlyReads old new
 
--- A step was judged, and where it is good taken and written, of which a front may be written where a write failed.
-abbrev pub Takes : Bool → Channel → Channel → State → State → Step → Result (Option Reason) ConvertError → Type 0
-Takes tells old new before after step (Ok None) = (step_fault before step ≡ None) × (after ≡ after_step before step)
-    × WritesAll {T = Unit {0}} tells old new (drat_text (drat_of_step before step)) (Ok tt)
-Takes tells old new before after step (Ok (Some reason)) = (step_fault before step ≡ Some reason) × (new ≡ old)
-Takes tells old new before after step (Err OutOfMemory) = IsTrue (may_want_memory before step) × (new ≡ old)
-Takes tells old new before after step (Err WriteFault) = (step_fault before step ≡ None)
-    × ((failed : Failed) × WritesAll {T = Unit {0}} tells old new (drat_text (drat_of_step before step)) (Err failed))
-Takes tells old new before after step (Err ReadFault) = ⊥
-Takes tells old new before after step (Err TooLong) = ⊥
+-- A step was judged, and where it is good taken and written by its names, of which a front may be written where a write failed.
+abbrev pub Takes : Bool → Channel → Channel → State → State → NamesAhead → NamesAhead → Step → Result (Option Reason) ConvertError → Type 0
+Takes tells old new before after names next step (Ok None) = (step_fault before step ≡ None) × (after ≡ after_step before step)
+    × WritesAll {T = Unit {0}} tells old new (drat_text (named_by names (drat_of_step before step))) (Ok tt)
+    × (next ≡ behind_all names (drat_of_step before step))
+Takes tells old new before after names next step (Ok (Some reason)) = (step_fault before step ≡ Some reason) × (new ≡ old)
+Takes tells old new before after names next step (Err OutOfMemory) = IsTrue (may_want_memory before step) × (new ≡ old)
+Takes tells old new before after names next step (Err WriteFault) = (step_fault before step ≡ None)
+    × ((failed : Failed) × WritesAll {T = Unit {0}} tells old new (drat_text (named_by names (drat_of_step before step))) (Err failed))
+Takes tells old new before after names next step (Err ReadFault) = ⊥
+Takes tells old new before after names next step (Err TooLong) = ⊥
+
+-- The clause of a good addition was written by its names, of which a front may be written where a write failed.
+abbrev pub WritesAddition : Bool → Channel → Channel → NamesAhead → NamesAhead → List ℤ → Result (Option Reason) ConvertError → Type 0
+WritesAddition tells old new names next clause (Ok None) =
+    WritesAll {T = Unit {0}} tells old new (drat_text (named_by names (adds clause ∷ []))) (Ok tt)
+    × (next ≡ behind names (adds clause))
+WritesAddition tells old new names next clause (Err OutOfMemory) = new ≡ old
+WritesAddition tells old new names next clause (Err WriteFault) =
+    (failed : Failed) × WritesAll {T = Unit {0}} tells old new (drat_text (named_by names (adds clause ∷ []))) (Err failed)
+WritesAddition tells old new names next clause (Ok (Some reason)) = ⊥
+WritesAddition tells old new names next clause (Err ReadFault) = ⊥
+WritesAddition tells old new names next clause (Err TooLong) = ⊥
 
 -- the answer for a good step, by how its write ended
 abbrev pub step_answer : Result (Unit {0}) Failed → Result (Option Reason) ConvertError
 step_answer (Ok u) = Ok None
 step_answer (Err e) = Err WriteFault
 
--- The steps ahead of a judge and a reader were converted, reading one role and writing another.
-pub record ConvertsSteps (tells : Bool) (in_old in_new out_old out_new : Channel) (state : State) (reader : Reader)
+-- The steps ahead of a judge and a reader were converted by these names, reading one role and writing another.
+pub record ConvertsSteps (tells : Bool) (in_old in_new out_old out_new : Channel) (state : State) (names : NamesAhead) (reader : Reader)
     (result : Result Verdict ConvertError) : Type 0 where
   pub decides : IsTrue tells → Decides in_old in_new
       (λ bytes more. HasVerdict result (steps_verdict state false (steps_ahead reader bytes)))
   pub written : IsTrue tells → Decides in_old in_new
-      (λ bytes more. HasWritten result (added out_old out_new) (drat_of state (steps_ahead reader bytes)))
+      (λ bytes more. HasWritten result (added out_old out_new) (named_by names (drat_of state (steps_ahead reader bytes))))
   pub appended : IsTrue tells → out_new.written ≡ out_old.written ++ added out_old out_new
   pub undecided : IsTrue tells → result ≡ Err ReadFault → steps_verdict state false (so_far reader (gained in_old in_new)) ≡ None
   pub wants : IsTrue tells → result ≡ Err OutOfMemory → Decides in_old in_new

@@ -1,3 +1,4 @@
 pub mod Drat
+pub mod Naming
 pub mod Conversion
 pub mod TwoRoles

@@ -9,11 +9,13 @@ ghost use Rattle.lrat_text.specs.Reader.{given};
 ghost use Rattle.lrat_checker.specs.Memory.{check_may_want_memory};
 ghost use Rattle.lrat_checker.specs.TextVerdict.{error_answer, text_verdict, verdict_so_far};
 ghost use Rattle.drat_proof.specs.declared.error.ConvertError.TheVariants.{ReadFault, OutOfMemory, WriteFault};
-ghost use Rattle.drat_proof.specs.Drat.{drat_steps};
+ghost use Rattle.drat_proof.specs.Drat.{named_drat_steps};
+ghost use Rattle.drat_proof.specs.Naming.{names_ahead};
 ghost use Rattle.drat_proof.specs.Conversion.{HasVerdict, HasWritten, ConvertsSteps, ReadsStep, converted};
 ghost use Rattle.drat_proof.specs.TwoRoles.{KeptButTwo, OnlyWrites, added};
 
 use crate::error::ConvertError;
+use crate::naming::Naming;
 use crate::take::take_step;
 use cnf_base::{Cnf, Id, IdList, Step};
 use host_io::{Host, HostSource, Role, beside_kept};
@@ -23,8 +25,14 @@ use std::alloc::Global;
 use text_scan::MAX_BYTES;
 
 /// Judges the LRAT proof that was opened in the role `ProofIn`, as `check` does, and writes the DRAT proof that it becomes
-/// in the role `ProofOut`, which was created. What was written is not flushed.
-pub fn convert<H: Host>(alloc: Global, formula: &Cnf, host: &mut H) -> Result<Verdict, ConvertError>
+/// in the role `ProofOut`, which was created; where this is asked for, with fresh names for the variables above the formula's. What
+/// was written is not flushed.
+pub fn convert<H: Host>(
+    alloc: Global,
+    formula: &Cnf,
+    fresh: bool,
+    host: &mut H,
+) -> Result<Verdict, ConvertError>
     requires opened { (H.channel host.old ProofIn).name ≢ None }
     requires created { (H.channel host.old ProofOut).name ≢ None }
     // The answer is that of the bytes that were taken and whatever may follow them, so of the whole text, and so is what was
@@ -33,7 +41,7 @@ pub fn convert<H: Host>(alloc: Global, formula: &Cnf, host: &mut H) -> Result<Ve
         (λ bytes more. HasVerdict result (text_verdict formula.now.clauses bytes)) }
     ensures written { IsTrue H.tells → Decides (H.channel host.old ProofIn) (H.channel host.new ProofIn)
         (λ bytes more. HasWritten result (added (H.channel host.old ProofOut) (H.channel host.new ProofOut))
-        (drat_steps formula.now.clauses bytes)) }
+        (named_drat_steps fresh formula.now bytes)) }
     ensures appended { IsTrue H.tells → (H.channel host.new ProofOut).written
         ≡ (H.channel host.old ProofOut).written ++ added (H.channel host.old ProofOut) (H.channel host.new ProofOut) }
     // a read fails only where the bytes taken decide nothing yet
@@ -53,18 +61,21 @@ pub fn convert<H: Host>(alloc: Global, formula: &Cnf, host: &mut H) -> Result<Ve
     ensures kept { KeptButTwo ProofIn ProofOut (H.channel host.old ProofOut).name (H.channel host.old) (H.channel host.new)
         (H.files host.old) (H.files host.new) }
 {
+    formula.formula_law();
     let mut judge = Judge::open(alloc, formula)?;
+    let mut naming = Naming::new(alloc, formula.vars(), fresh);
     let mut reader = StepReader::new(alloc, MAX_BYTES);
     let mut step = Step::Delete {
         id: Id(0),
         ids: IdList::new(alloc),
     };
-    convert_steps(&mut judge, &mut reader, &mut step, host)
+    convert_steps(&mut judge, &mut naming, &mut reader, &mut step, host)
 }
 
 // Converts the steps that the reader still gives, each in the same place.
 fn convert_steps<H: Host>(
     judge: &mut Judge,
+    naming: &mut Naming,
     reader: &mut StepReader,
     step: &mut Step,
     host: &mut H,
@@ -73,7 +84,7 @@ fn convert_steps<H: Host>(
     requires created { (H.channel host.old ProofOut).name ≢ None }
     requires reading { reader.old.status ≡ Reading }
     ensures converts { ConvertsSteps H.tells (H.channel host.old ProofIn) (H.channel host.new ProofIn) (H.channel host.old ProofOut)
-        (H.channel host.new ProofOut) judge.old reader.old result }
+        (H.channel host.new ProofOut) judge.old (names_ahead naming.old) reader.old result }
     ensures kept { KeptButTwo ProofIn ProofOut (H.channel host.old ProofOut).name (H.channel host.old) (H.channel host.new)
         (H.files host.old) (H.files host.new) }
 {
@@ -82,7 +93,7 @@ fn convert_steps<H: Host>(
         match read_step(reader, host, step) {
             Ok(Some(line)) => {
                 reader.near_law();
-                match take_step(judge, step, host) {
+                match take_step(judge, naming, step, host) {
                     Ok(None) => has_empty = or_adds_empty(has_empty, step),
                     Ok(Some(reason)) => return Ok(Verdict::Refused { line, reason }),
                     Err(error) => return Err(error),

@@ -3,7 +3,7 @@ use Rattle.std.specs.Prelude.{◌≡◌, ◌≢◌, ◌⊎◌, ℕ, Bool, List, 
 use Rattle.std.specs.Coded.{Unit-prop}
 use Rattle.host_io.specs.declared.source.Failed.{Failed}
 use Rattle.host_io.specs.declared.role.Role.{Role}
-use Rattle.host_io.specs.declared.role.Role.TheVariants.{Cnf, Order, Buckets, Schedule, ProofIn, ProofOut, Made, Out, Err}
+use Rattle.host_io.specs.declared.role.Role.TheVariants.{Cnf, Order, Buckets, Schedule, ProofIn, Cubes, ProofOut, Made, Out, Err}
 use Rattle.host_io.specs.Channel.{Channel, Counts}
 
 -- the number of a role, by which two roles are told apart
@@ -13,21 +13,23 @@ code_of Order = 1
 code_of Buckets = 2
 code_of Schedule = 3
 code_of ProofIn = 4
-code_of ProofOut = 5
-code_of Made = 6
-code_of Out = 7
-code_of Err = 8
+code_of Cubes = 5
+code_of ProofOut = 6
+code_of Made = 7
+code_of Out = 8
+code_of Err = 9
 
 abbrev pub same_role : Role → Role → Bool
 same_role a b = code_of a == code_of b
 
--- Cnf, Order, Buckets, Schedule and ProofIn are opened and read.
+-- Cnf, Order, Buckets, Schedule, ProofIn and Cubes are opened and read.
 abbrev pub IsInput : Role → Type 0
 IsInput Cnf = ⊤
 IsInput Order = ⊤
 IsInput Buckets = ⊤
 IsInput Schedule = ⊤
 IsInput ProofIn = ⊤
+IsInput Cubes = ⊤
 IsInput ProofOut = ⊥
 IsInput Made = ⊥
 IsInput Out = ⊥
@@ -40,6 +42,7 @@ IsCreated Order = ⊥
 IsCreated Buckets = ⊥
 IsCreated Schedule = ⊥
 IsCreated ProofIn = ⊥
+IsCreated Cubes = ⊥
 IsCreated ProofOut = ⊤
 IsCreated Made = ⊤
 IsCreated Out = ⊥
@@ -56,6 +59,7 @@ IsWritable Order name = ⊥
 IsWritable Buckets name = ⊥
 IsWritable Schedule name = ⊥
 IsWritable ProofIn name = ⊥
+IsWritable Cubes name = ⊥
 IsWritable ProofOut name = name ≢ None
 IsWritable Made name = name ≢ None
 IsWritable Out name = ⊤
@@ -74,6 +78,7 @@ IsInput-prop Order = Unit-prop
 IsInput-prop Buckets = Unit-prop
 IsInput-prop Schedule = Unit-prop
 IsInput-prop ProofIn = Unit-prop
+IsInput-prop Cubes = Unit-prop
 IsInput-prop ProofOut = ⊥-prop
 IsInput-prop Made = ⊥-prop
 IsInput-prop Out = ⊥-prop
@@ -86,6 +91,7 @@ IsWritable-prop Order name = ⊥-prop
 IsWritable-prop Buckets name = ⊥-prop
 IsWritable-prop Schedule name = ⊥-prop
 IsWritable-prop ProofIn name = ⊥-prop
+IsWritable-prop Cubes name = ⊥-prop
 IsWritable-prop ProofOut name = ¬-prop
 IsWritable-prop Made name = ¬-prop
 IsWritable-prop Out name = Unit-prop

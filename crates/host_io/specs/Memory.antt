@@ -24,7 +24,7 @@ channel_of memory role = slice_index_or memory.streams (code_of role) fresh
 
 -- There is a channel for each role, and one that wants a name and has none has not been used.
 pub record IsSettled (streams : List Channel) : Type 0 where
-  pub all : length streams ≡ 9
+  pub all : length streams ≡ 10
   pub idle : (role : Role) → IsNamedFirst role → (slice_index_or streams (code_of role) fresh).name ≡ None
       → IsIdle (slice_index_or streams (code_of role) fresh)
 

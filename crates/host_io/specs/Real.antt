@@ -4,7 +4,7 @@ use Rattle.std.specs.Prelude.{◌≡◌, ℕ, ◌+◌, ◌-◌, ◌^◌, ◌==�
 use Rattle.std.specs.Prelude.{Option, None, Some, Result, IsFalse, IsOk, IsErr, IfSome, MatchResult, slice_index_or, ⊤}
 use Rattle.host_io.specs.declared.source.Failed.{Failed}
 use Rattle.host_io.specs.declared.role.Role.{Role}
-use Rattle.host_io.specs.declared.role.Role.TheVariants.{Cnf, Order, Buckets, Schedule, ProofIn, ProofOut, Made, Out, Err}
+use Rattle.host_io.specs.declared.role.Role.TheVariants.{Cnf, Order, Buckets, Schedule, ProofIn, Cubes, ProofOut, Made, Out, Err}
 use Rattle.host_io.specs.Channel.{Channel}
 use Rattle.host_io.specs.Files.{Files, code_of, same_role, IsInput, IsCreated}
 
@@ -111,7 +111,7 @@ Reaches role (Some target) = MayReach role target
 
 -- There is a device for each role. It reaches nothing that the role may not, and no byte passed before it reached something.
 pub record IsConnected (roles : List Counted) : Type 0 where
-  pub all : length roles ≡ 9
+  pub all : length roles ≡ 10
   pub fits : (role : Role) → IfSome (device_of roles role).target (MayReach role)
   pub idle : (role : Role) → (device_of roles role).target ≡ None → traffic_of roles role ≡ no_traffic
 
@@ -138,6 +138,7 @@ standard Order = None
 standard Buckets = None
 standard Schedule = None
 standard ProofIn = None
+standard Cubes = None
 standard ProofOut = None
 standard Made = None
 standard Out = Some StandardOutput

@@ -19,7 +19,7 @@ pub struct FailingHost {
     base: MemoryHost,
     fails: Vec<(Role, u64)>,
     piece: usize,
-    calls: [u64; 9],
+    calls: [u64; 10],
 }
 
 impl Model for FailingHost {
@@ -30,7 +30,7 @@ impl Model for FailingHost {
 
     ghost view = { λ h. record { base = h.base; fails = h.fails.items; piece = h.piece; calls = h.calls } };
 
-    ghost invariant = { λ h. (0 < h.piece) × (length h.calls ≡ 9) };
+    ghost invariant = { λ h. (0 < h.piece) × (length h.calls ≡ 10) };
 }
 
 // Whether the call of this role and number is listed.
@@ -59,7 +59,7 @@ impl FailingHost {
             base,
             fails,
             piece,
-            calls: [0; 9],
+            calls: [0; 10],
         }
     }
 

@@ -51,7 +51,7 @@ impl Model for StoredFile {
 #[derive(Drop)]
 pub struct MemoryHost {
     alloc: Global,
-    streams: [Stream; 9],
+    streams: [Stream; 10],
     files: Vec<StoredFile>,
 }
 
@@ -74,6 +74,7 @@ impl MemoryHost {
         MemoryHost {
             alloc,
             streams: [
+                Stream::new(alloc),
                 Stream::new(alloc),
                 Stream::new(alloc),
                 Stream::new(alloc),

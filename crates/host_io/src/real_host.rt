@@ -19,7 +19,7 @@ use std::marker::Model;
 #[derive(Drop)]
 pub struct RealHost {
     system: System,
-    roles: [RealRole; 9],
+    roles: [RealRole; 10],
 }
 
 impl Model for RealHost {
@@ -43,6 +43,7 @@ impl RealHost {
         RealHost {
             system: System::new(rt),
             roles: [
+                RealRole::new(),
                 RealRole::new(),
                 RealRole::new(),
                 RealRole::new(),

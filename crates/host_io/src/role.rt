@@ -2,8 +2,9 @@
 ghost use Rattle.std.specs.Prelude.{◌≡◌, ◌<◌};
 ghost use Rattle.host_io.specs.Files.{code_of};
 
-/// What a file or a stream is to the program. `Cnf`, `Order`, `Buckets` (the order by which buckets are formed), `Schedule` and
-/// `ProofIn` are opened and read, `ProofOut` and `Made` are created and written, `Out` and `Err` are the standard streams.
+/// What a file or a stream is to the program. `Cnf`, `Order`, `Buckets` (the order by which buckets are formed), `Schedule`,
+/// `ProofIn` and `Cubes` (the questions about a formula) are opened and read, `ProofOut` and `Made` are created and written, `Out`
+/// and `Err` are the standard streams.
 #[derive(Clone, Copy, Debug, PartialEq, Eq)]
 pub enum Role {
     Cnf,
@@ -11,6 +12,7 @@ pub enum Role {
     Buckets,
     Schedule,
     ProofIn,
+    Cubes,
     ProofOut,
     Made,
     Out,
@@ -20,7 +22,7 @@ pub enum Role {
 // The place of a role in a list of all.
 pub(crate) fn place(role: Role) -> usize
     ensures place { result ≡ code_of role }
-    ensures below { result < 9 }
+    ensures below { result < 10 }
 {
     match role {
         Role::Cnf => 0,
@@ -28,9 +30,10 @@ pub(crate) fn place(role: Role) -> usize
         Role::Buckets => 2,
         Role::Schedule => 3,
         Role::ProofIn => 4,
-        Role::ProofOut => 5,
-        Role::Made => 6,
-        Role::Out => 7,
-        Role::Err => 8,
+        Role::Cubes => 5,
+        Role::ProofOut => 6,
+        Role::Made => 7,
+        Role::Out => 8,
+        Role::Err => 9,
     }
 }

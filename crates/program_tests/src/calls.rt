@@ -34,6 +34,10 @@ const CALLS: &str = "\
     Out 17;bddsat solve both --proof out.lrat;WriteFault*|3 2 -1 0 0/4 -2 1 0 -3 0/5 2 0 3 1 0/6 3 1 0 0/7 -3 -1 0 -6 0/\
     8 3 0 6 2 0/9 -1 -2 -3 0 7 0/10 -2 -3 0 9 4 0/11 0 5 8 10 0/|error: write failed/;|s UNSATISFIABLE/;Unsat|s \
     UNSATISFIABLE/|\n\
+    Cubes 11;bddsat ask chain --cubes cubes --proof out.lrat --order natural;ReadFault*|none|error: read failed/;|;\
+    Answered|c cube 1/s UNSATISFIABLE/c cube 2/s SATISFIABLE/v 1 2 3 0/|\n\
+    Out 28;bddsat ask none --cubes hollow --proof out.lrat;WriteFault*||error: write failed/;|c cube 1/s SATISFIABLE/v 0/\
+    ;Answered|c cube 1/s SATISFIABLE/v 0/||\n\
     ProofIn 12;bddsat check both good;ReadFault*|none|error: read failed/;|;Verified|s VERIFIED/|none|\n\
     ProofIn 8;bddsat check both hintless --format drat;ReadFault*|none|error: read failed/;|;Verified|s VERIFIED/|none|\n\
     ProofIn 12;bddsat drat both good --out out.lrat;ReadFault|*|error: read failed/;|0/;Verified|s VERIFIED/|0/|\n\
@@ -150,6 +154,10 @@ const PIECES: &str = "\
     bddsat solve chain --proof out.lrat --plan conjoin;Sat|s SATISFIABLE/v 1 2 3 0/|\n\
     bddsat solve chain --proof out.lrat --order turned;Sat|s SATISFIABLE/v 1 2 3 0/|\n\
     bddsat solve chain --proof out.lrat --max-nodes 5;Sat|s SATISFIABLE/v 1 2 3 0/|\n\
+    bddsat ask chain --cubes cubes --proof out.lrat;Answered|c cube 1/s UNSATISFIABLE/c cube 2/s SATISFIABLE/v 1 2 3 0/|\n\
+    bddsat ask both --cubes hollow --proof out.lrat;Answered|c cube 1/s UNSATISFIABLE/|3 2 -1 0 0/\n\
+    bddsat ask both --cubes hollow --proof out.lrat --max-nodes 0;Unknown(NodeLimit)|c node limit 0 reached/s UNKNOWN/||\n\
+    bddsat ask chain --cubes split --proof out.lrat;CubeRefused(BothSigns, 1)||none|error: cubes line 1: BothSigns/\n\
     bddsat make board 2 --part cnf --out out.lrat;Done||p cnf 0 2/0/0/|";
 
 fn expect_pieces(rt: &impl Abort, alloc: Global, row: &str) -> Result<(), Fail> {

@@ -89,6 +89,11 @@ ProofIn 4;ReadFault||none|error: read failed/
 ProofOut 1;WriteFault||none|error: write failed/
 ProofOut 2;WriteFault|||error: write failed/
 Out 1;WriteFault||3 0 1 2 0/|error: write failed/
+bddsat trim both good --out out.lrat --core core
+ProofOut 1;WriteFault||none|error: write failed/
+Made 1;WriteFault||3 0 1 2 0/|error: write failed/
+Made 2;WriteFault||3 0 1 2 0/|error: write failed/
+Out 1;WriteFault||3 0 1 2 0/|error: write failed/
 bddsat trim both worse --out out.lrat
 ProofIn 5;ReadFault||none|error: read failed/
 ProofIn 6;NotVerified(2, HintNotLive)|c line 2 HintNotLive/s NOT VERIFIED/|none|

@@ -16,6 +16,9 @@ chain=p cnf 3 3/1 -2 0/2 -3 0/3 0/
 empty=p cnf 0 1/0/
 none=p cnf 0 0/
 tautology=p cnf 2 1/1 -1 0/
+cubes=-1 0/3 0/
+hollow=0/
+split=1 -1 0/
 good=3 0 1 2 0/
 bad=3 0 1 0/
 worse=3 0 1 2 0/4 1 0 9 0/
@@ -87,6 +90,7 @@ pub fn role_of(call: &str) -> Role {
         "Schedule" => Role::Schedule,
         "ProofIn" => Role::ProofIn,
         "ProofOut" => Role::ProofOut,
+        "Cubes" => Role::Cubes,
         "Made" => Role::Made,
         "Out" => Role::Out,
         _ => Role::Err,

@@ -1,12 +1,16 @@
-//! Tests of the layers of proofs: `lrat_rules`, `lrat_checker`, `hint_chain`, `clause_ledger`, `proof_trim`.
+//! Tests of the layers of proofs: `lrat_rules`, `lrat_checker`, `hint_chain`, `clause_ledger`, `proof_trim`, `drat_checker`.
 #![tactic(auto)]
 
 #[cfg(test)]
 mod checker;
 #[cfg(test)]
+mod drat;
+#[cfg(test)]
 mod hints;
 #[cfg(test)]
 mod ledger;
+#[cfg(test)]
+mod plain_drat;
 #[cfg(test)]
 mod support;
 #[cfg(test)]

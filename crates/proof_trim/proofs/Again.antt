@@ -6,6 +6,7 @@ use Rattle.std.proofs.lemmas.Bool.{and_parts, and_from, or_cases, or_left, or_ri
 use Rattle.cnf_base.specs.declared.step.Step.{Step}
 use Rattle.cnf_base.specs.declared.step.Step.TheVariants.{Add, Delete}
 use Rattle.cnf_base.specs.ProofText.{is_empty}
+use Rattle.proof_trim.specs.Core.{are_naming}
 use Rattle.proof_trim.specs.Trimmed.{names, is_kept, needed, kept, deletion_of, is_there, trimmed_steps, trimmed_of, is_named, each_named}
 
 filter_twice : (test : ℕ → Bool) (ids : List ℕ) → filter test (filter test ids) ≡ filter test ids
@@ -68,6 +69,23 @@ module _ (count : ℕ) (needs : ℕ → Bool) where
       ] refl
   needed-rest (Delete id ids ∷ steps) x =
       needed-deletion id (filter (is_there count needs) ids) (rest steps) x ∙ needed-rest steps x
+
+  -- What its additions name is what all needed.
+  named-deletion_none : (id : ℕ) (ids : List ℕ) (steps : List Step) (x : ℕ) → are_naming (deletion_of id ids ++ steps) x
+      ≡ are_naming steps x
+  named-deletion_none id [] steps x = refl
+  named-deletion_none id (first ∷ ids) steps x = refl
+
+  pub named-rest : (steps : List Step) (x : ℕ) → are_naming (rest steps) x ≡ needed steps x
+  named-rest [] x = refl
+  named-rest (Add id clause hints groups ∷ steps) x =
+      let step : Step = Add id clause hints groups in
+      elim (is_kept (needed steps) step) as (λ b. is_kept (needed steps) step ≡ b
+      → are_naming (trimmed_steps count needs (if b then step ∷ kept steps else kept steps)) x ≡ ((b && names step x) || needed steps x)) [
+        | true ↦ λ is. ap (λ (b : Bool). names step x || b) (named-rest steps x)
+        | false ↦ λ is. named-rest steps x
+      ] refl
+  named-rest (Delete id ids ∷ steps) x = named-deletion_none id (filter (is_there count needs) ids) (rest steps) x ∙ named-rest steps x
 
   -- Each of its steps is kept.
   kept-rest : (steps : List Step) → kept (rest steps) ≡ rest steps

@@ -15,6 +15,7 @@ use Rattle.proof_trim.specs.declared.cutting.CutProof.{CutProof}
 use Rattle.proof_trim.specs.Sweep.{pile_of}
 use Rattle.proof_trim.specs.Trimmed.{trimmed_of}
 use Rattle.proof_trim.specs.Answer.{Trims, AnswersBy}
+use Rattle.proof_trim.specs.Core.{core_of}
 
 -- one thing that the bytes taken decide, and another where something else holds
 pub decided_with : {A : Type 0} {old new : Channel} {P Q : List ℕ → List ℕ → Type 0} (R : List ℕ → List ℕ → Type 0) → Decides old new P
@@ -26,23 +27,25 @@ decided_with {A} {old} {new} R first second joins = record {
 }
 
 -- an error of the check
-pub trims_error : (error : CheckError) (text : Option Verdict) (steps : List Step) (count : ℕ) → Answers (Err error) text
-    → Trims (Err error) text steps count
-trims_error ReadFault text steps count answers = tt
-trims_error TooLong text steps count answers = answers
-trims_error OutOfMemory text steps count answers = tt
+pub trims_error : (error : CheckError) (text : Option Verdict) (steps : List Step) (numbers : List ℕ) (count : ℕ) → Answers (Err error) text
+    → Trims (Err error) text steps numbers count
+trims_error ReadFault text steps numbers count answers = tt
+trims_error TooLong text steps numbers count answers = answers
+trims_error OutOfMemory text steps numbers count answers = tt
 
 -- a verdict
 pub trims_by : (result : Result Trimmed CheckError) (verdict : Verdict) (clauses : ℕ) (cut : CutProof) (text : Option Verdict)
     (steps : List Step) (count : ℕ) → text ≡ Some verdict
     → (verdict ≡ Verified → cut ≡ record { steps = pile_of (reverse steps); total = count })
-    → AnswersBy clauses cut verdict result → Trims result text (trimmed_of clauses steps) count
-trims_by (Ok (Steps kept_text kept total)) verdict clauses cut text steps count is cut_is answers =
+    → AnswersBy clauses cut verdict result
+    → Trims result text (trimmed_of clauses steps) (core_of clauses (trimmed_of clauses steps)) count
+trims_by (Ok (Steps kept_text core kept total)) verdict clauses cut text steps count is cut_is answers =
     let whole = cut_is answers.0 in
     let same = answers.1 steps (ap (λ (c : CutProof). c.steps) whole) in (
       is ∙ ap Some answers.0,
       same.0,
       same.1,
+      same.2,
       answers.2 ∙ ap (λ (c : CutProof). c.total) whole,
     )
 trims_by (Ok (IsRefused line reason)) verdict clauses cut text steps count is cut_is answers = is ∙ ap Some answers

@@ -19,4 +19,6 @@ pub mod Replay
 pub mod Again
 pub mod Printed
 pub mod Least
+pub mod Listed
+pub mod Alone
 pub mod Theorems

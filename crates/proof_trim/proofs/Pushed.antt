@@ -1,9 +1,12 @@
 -- Items that are pushed in turn: the last of them is on top.
-use Rattle.std.proofs.Common.{◌≡◌, ℕ, ◌+◌, ◌<◌, ◌≤◌, List, [], ◌∷◌, ◌++◌, take, length, sym, ap, ◌∙◌, append_assoc}
+use Rattle.std.proofs.Common.{◌≡◌, ℕ, ◌+◌, ◌<◌, ◌≤◌, List, [], ◌∷◌, ◌++◌, take, drop, length, refl, sym, ap, ◌∙◌, append_assoc, inl, inr}
 use Rattle.std.specs.Prelude.{map, reverse, get_or}
 use Rattle.std.specs.List.{flat_map}
-use Rattle.std.proofs.lemmas.List.{append-nil, map-append, reverse-append, take_all, take_more}
-use Rattle.std.proofs.lemmas.Grind.{flat_map-append}
+use Rattle.std.proofs.lemmas.Bool.{cases_lt}
+use Rattle.std.proofs.lemmas.List.{drop_all, map-append, reverse-append, take_all, take_more}
+use Rattle.cnf_base.specs.declared.list.Group.{Group}
+use Rattle.lrat_checker.specs.Cuts.{groups_by}
+use Rattle.proof_trim.specs.Packed.{group_codes}
 
 -- one more item that gives one number
 pub one_pushed : {X : Type 0} (f : X → ℕ) (xs : List X) (i : ℕ) (x : X) (below row now : List ℕ) → i < length xs
@@ -21,21 +24,34 @@ pub all_pushed : {X : Type 0} (f : X → ℕ) (xs : List X) (i : ℕ) (below row
     → length xs ≤ i → row ≡ reverse (map f xs) ++ below
 all_pushed {X = X} f xs i below row so_far end = so_far ∙ ap (λ (l : List X). reverse (map f l) ++ below) (take_all i xs end)
 
--- one more item that gives several
-pub several_pushed : {X : Type 0} (f : X → List ℕ) (xs : List X) (i : ℕ) (x : X) (below row now : List ℕ) → i < length xs
-    → row ≡ reverse (flat_map f (take i xs)) ++ below → get_or xs i x ≡ x → now ≡ reverse (f x) ++ row
-    → now ≡ reverse (flat_map f (take (i + 1) xs)) ++ below
-several_pushed {X = X} f xs i x below row now inside so_far at put =
-    put ∙ ap (λ (l : List ℕ). reverse (f x) ++ l) so_far
-    ∙ sym (append_assoc (reverse (f x)) (reverse (flat_map f (take i xs))) below)
-    ∙ sym (ap (λ (l : List ℕ). reverse l ++ below) (ap (flat_map f) (take_more xs i x inside)
-    ∙ flat_map-append f (take i xs) (get_or xs i x ∷ [])
-    ∙ ap (λ (l : List ℕ). flat_map f (take i xs) ++ l) (append-nil (f (get_or xs i x)) ∙ ap f at))
-    ∙ ap (λ (l : List ℕ). l ++ below) (reverse-append (flat_map f (take i xs)) (f x)))
+-- one more group, with so many of its hints
+pub one_group : (group : Group) (groups rest : List Group) (count : ℕ) (counts more row now whole : List ℕ)
+    → reverse (flat_map group_codes (groups_by groups counts)) ++ row ≡ whole → groups ≡ group ∷ rest → counts ≡ count ∷ more
+    → now ≡ reverse (group_codes (record { id = group.id; hints = take count group.hints })) ++ row
+    → reverse (flat_map group_codes (groups_by rest more)) ++ now ≡ whole
+one_group group groups rest count counts more row now whole so_far turn counted put =
+    let first : List ℕ = group_codes (record { id = group.id; hints = take count group.hints }) in
+    let later : List ℕ = flat_map group_codes (groups_by rest more) in
+    ap (λ (l : List ℕ). reverse later ++ l) put
+    ∙ sym (append_assoc (reverse later) (reverse first) row)
+    ∙ ap (λ (l : List ℕ). l ++ row) (sym (reverse-append first later))
+    ∙ sym (λ i. reverse (flat_map group_codes (groups_by (turn i) (counted i))) ++ row) ∙ so_far
 
-pub all_of_several : {X : Type 0} (f : X → List ℕ) (xs : List X) (i : ℕ) (below row : List ℕ)
-    → row ≡ reverse (flat_map f (take i xs)) ++ below → length xs ≤ i → row ≡ reverse (flat_map f xs) ++ below
-all_of_several {X = X} f xs i below row so_far end = so_far ∙ ap (λ (l : List X). reverse (flat_map f l) ++ below) (take_all i xs end)
+without_counts : (groups : List Group) → groups_by groups [] ≡ []
+without_counts [] = refl
+without_counts (group ∷ groups) = refl
+
+-- where the groups or the counts end, all were pushed
+pub all_groups : (groups : List Group) (counts : List ℕ) (i : ℕ) (row whole : List ℕ)
+    → reverse (flat_map group_codes (groups_by (drop i groups) (drop i counts))) ++ row ≡ whole → (i < length groups → length counts ≤ i)
+    → row ≡ whole
+all_groups groups counts i row whole so_far ends =
+    elim (cases_lt i (length groups)) [
+      | inl short ↦ sym (ap (λ (l : List Group). reverse (flat_map group_codes l) ++ row)
+          (ap (groups_by (drop i groups)) (drop_all i counts (ends short)) ∙ without_counts (drop i groups))) ∙ so_far
+      | inr end ↦ sym (ap (λ (l : List Group). reverse (flat_map group_codes (groups_by l (drop i counts))) ++ row) (drop_all i groups
+          end)) ∙ so_far
+    ]
 
 -- an own code, and those of a list behind it
 pub led_pushed : (code : ℕ) (codes below row now : List ℕ) → row ≡ code ∷ below → now ≡ reverse codes ++ row

@@ -1,7 +1,7 @@
 -- The trimmed form of a verified proof, step by step beside the proof: each step is good at its turn, and trimming cuts it no more.
 use Rattle.std.proofs.Common.{◌≡◌, ℕ, ◌+◌, ◌<◌, ◌≤◌, Bool, true, false, ◌||◌, ◌&&◌, ℤ, List, [], ◌∷◌, ◌++◌, Option, Some, None, is_some}
 use Rattle.std.proofs.Common.{nat_eq, refl, sym, ap, ◌∙◌, inl, inr, arith, eqb-true, nat_le}
-use Rattle.std.specs.Prelude.{if◌then◌else◌}
+use Rattle.std.specs.Prelude.{⊤, if◌then◌else◌}
 use Rattle.std.specs.List.{list_any}
 use Rattle.std.proofs.lemmas.Bool.{cases_Bool, or_left, or_right, leb-false, lt-leb}
 use Rattle.cnf_base.specs.declared.list.Group.{Group}
@@ -32,12 +32,18 @@ abbrev pub as_steps : Steps → ℕ → List Step → Steps
 as_steps behind line [] = behind
 as_steps behind line (step ∷ steps) = next_step step line (as_steps behind (line + 1) steps)
 
+-- each of the steps is good at its turn, and cut no more
+abbrev pub AreGood : State → List Step → Type 0
+AreGood state [] = ⊤
+AreGood state (step ∷ steps) = (step_fault state step ≡ None) × (cut_step state step ≡ step) × AreGood (after_step state step) steps
+
 -- Steps that are good from a state on, the last of which adds the empty clause, and which are cut no more.
 pub record Replays (state : State) (steps : List Step) : Type 0 where
   pub end : State
   pub reached : (line : ℕ) → run state (lines_from line steps) ≡ Reached end
   pub empty : list_any step_adds_empty steps ≡ true
   pub again : (behind : Steps) (line : ℕ) → cut_steps state (as_steps behind line steps) ≡ steps
+  pub each : AreGood state steps
 
 replays_end : (state : State) (step : Step) → step_fault state step ≡ None → cut_step state step ≡ step → step_adds_empty step ≡ true
     → Replays state (step ∷ [])
@@ -46,6 +52,7 @@ replays_end state step good same ends = record {
   reached = λ line. ap (judge_step state line (λ s. Reached s) step) good;
   empty = ap (λ (b : Bool). b || false) ends;
   again = λ behind line. λ i. same i ∷ none_if (ends i) (cut_steps (after_step state step) behind);
+  each = (good, same, tt);
 }
 
 replays_on : (state : State) (step : Step) (steps : List Step) → step_fault state step ≡ None → cut_step state step ≡ step
@@ -56,10 +63,12 @@ replays_on state step steps good same ends rest = record {
   empty = ap (λ (b : Bool). b || list_any step_adds_empty steps) ends ∙ rest.empty;
   again = λ behind line. (λ i. same i ∷ none_if (ends i) (cut_steps (after_step state step) (as_steps behind (line + 1) steps)))
       ∙ ap (λ (l : List Step). step ∷ l) (rest.again behind (line + 1));
+  each = (good, same, rest.each);
 }
 
 -- a good addition has a greater number, and its hints and groups are good
-good_parts : (state : State) (id : ℕ) (clause : List ℤ) (hints : List ℕ) (groups : List Group) → fault state id clause hints groups ≡ None
+pub good_parts : (state : State) (id : ℕ) (clause : List ℤ) (hints : List ℕ) (groups : List Group)
+    → fault state id clause hints groups ≡ None
     → (state.top < id) × (fault_after_hints state.live clause groups (chain state.live (literals_of clause) hints) ≡ None)
 good_parts state id clause hints groups none =
     elim (nat_le id state.top) as (λ b. nat_le id state.top ≡ b → (if b then Some IdNotGreater

@@ -1,19 +1,26 @@
--- The laws of trimming: what is left of a verified proof refutes the formula, and is trimmed no more.
+-- The laws of trimming: what is left of a verified proof refutes the formula, is trimmed no more, and refutes its core alone.
 use Rattle.std.proofs.Common.{◌≡◌, ℕ, ◌+◌, ◌<◌, ◌≤◌, true, ℤ, List, [], ◌∷◌, length, None, Some, is_some, refl, sym}
 use Rattle.std.proofs.Common.{ap, ◌∙◌, inl, inr, arith, nat_le}
 use Rattle.std.specs.Prelude.{map}
+use Rattle.std.specs.Prelude.{slice_index_or}
 use Rattle.std.specs.List.{list_all, list_any}
 use Rattle.std.proofs.lemmas.Bool.{and_from, cases_lt, or_parts, leb-false, both_ways}
 use Rattle.cnf_base.specs.declared.step.Step.{Step}
 use Rattle.cnf_base.specs.Text.{Row, rows, end_line}
 use Rattle.cnf_base.specs.ProofText.{is_printable, step_of, line_of_row, proof_lines}
 use Rattle.lrat_text.specs.Steps.{Steps, no_more, step_then, lines_then, lines_within, steps}
-use Rattle.lrat_rules.specs.State.{State, clause_at, start}
+use Rattle.cnf_base.specs.declared.list.Group.{Group}
+use Rattle.cnf_base.specs.Truth.{Assignment, Satisfies}
+use Rattle.lrat_rules.specs.State.{State, Live, SatisfiesLive, clause_at, start, with_clause, without_clauses}
+use Rattle.lrat_rules.specs.Addition.{fault}
+use Rattle.lrat_rules.specs.Soundness.{LiveHasNoZero, SatisfiesUpToPivot, lines_have_no_zero, step_has_no_zero}
 use Rattle.lrat_rules.specs.Derivation.{lines_from, text_of}
-use Rattle.lrat_rules.specs.Run.{Judged, Reached, Stopped, run, step_adds_empty, Refutes}
+use Rattle.lrat_rules.specs.Run.{Judged, Reached, Stopped, run, after_step, step_adds_empty, Refutes}
 use Rattle.lrat_checker.specs.declared.verdict.Verdict.TheVariants.{Verified}
 use Rattle.lrat_checker.specs.TextVerdict.{max_bytes, text_verdict, verdict_within}
 use Rattle.proof_trim.specs.Trimmed.{cut_steps, needed, is_there, each_named, trimmed_of, trimmed, trim}
+use Rattle.proof_trim.specs.Core.{RefutesFrom, clauses_at, core, core_start}
+use Rattle.proof_trim.proofs.Alone.{alone_runs, begins_alone, holds_alone, of_core, refuted_from, there, there-above, there-named}
 use Rattle.proof_trim.proofs.Replay.{as_steps, Replays, Beside, replays}
 use Rattle.proof_trim.proofs.Again.{each_named-rest, trimmed_again}
 use Rattle.proof_trim.proofs.Printed.{are_printable, printable-cut_steps, printable-trimmed_of}
@@ -32,7 +39,8 @@ as_lines : (behind : Steps) (line : ℕ) (steps : List Step) → lines_then (lin
 as_lines behind line [] = refl
 as_lines behind line (step ∷ steps) = ap (step_then (Some step) line) (as_lines behind (line + 1) steps)
 
-module _ (none_above : (clauses : List (List ℤ)) (id : ℕ) → length clauses < id → clause_at (start clauses).live id ≡ None)
+module _ (none_at_zero : (clauses : List (List ℤ)) → clause_at (start clauses).live 0 ≡ None)
+    (none_above : (clauses : List (List ℤ)) (id : ℕ) → length clauses < id → clause_at (start clauses).live id ≡ None)
     (printable : (words : List (List ℕ)) (step : Step) → step_of words ≡ Some step → is_printable step ≡ true)
     (whole : (limit : ℕ) (bytes : List ℕ) → length bytes ≤ limit → steps limit bytes ≡ lines_then (proof_lines bytes) (no_more (end_line
     bytes)))
@@ -96,3 +104,31 @@ module _ (none_above : (clauses : List (List ℤ)) (id : ℕ) → length clauses
         whole max_bytes (trim clauses bytes) short ∙ ap (λ ls. lines_then ls end) (lines again can_be_read) ∙ as_lines end 1 again in
         ap text_of (ap (λ (s : Steps). trimmed_of (length clauses) (cut_steps (start clauses) s)) read
         ∙ ap (trimmed_of (length clauses)) (replayed.again end 1) ∙ trimmed_again (length clauses) all)
+
+    pub core-refutes : RefutesFrom (core_start clauses (core clauses bytes)) (trimmed clauses bytes)
+    core-refutes =
+        let again : List Step = trimmed clauses bytes in
+        let runs = alone_runs (length clauses) (there clauses again (none_at_zero clauses) (none_above clauses))
+        (there-above clauses again (none_at_zero clauses) (none_above clauses)) again (start clauses)
+        (core_start clauses (core clauses bytes)) replayed.each
+        (there-named clauses again (none_at_zero clauses) (none_above clauses))
+        (begins_alone clauses again (none_at_zero clauses) (none_above clauses)) in
+        record { end = runs.0; reached = runs.1 1; empty = replayed.empty }
+
+    -- no assignment satisfies it
+    pub core-unsatisfiable : ((i : ℕ) → i < length clauses → clause_at (start clauses).live (i + 1) ≡ Some (slice_index_or clauses i []))
+        → ((a : Assignment) (state : State) (id : ℕ) (clause : List ℤ) (hints : List ℕ) (groups : List Group)
+        → LiveHasNoZero state.live → SatisfiesLive a state.live → fault state id clause hints groups ≡ None
+        → SatisfiesUpToPivot a clause (with_clause state.live id clause))
+        → ((a : Assignment) (live : Live) (ids : List ℕ) → SatisfiesLive a live → SatisfiesLive a (without_clauses live ids))
+        → ((state : State) (step : Step) → LiveHasNoZero state.live → step_has_no_zero step ≡ true
+        → LiveHasNoZero (after_step state step).live)
+        → ((text : List ℕ) → lines_have_no_zero (proof_lines text) ≡ true) → LiveHasNoZero (start clauses).live
+        → (a : Assignment) → Satisfies a (clauses_at clauses (core clauses bytes)) → ⊥
+    core-unsatisfiable at addition deletion nonzero nonzero_text clean a satisfied =
+        let again : List Step = trimmed clauses bytes in
+        refuted_from addition deletion nonzero again (core_start clauses (core clauses bytes)) core-refutes.end 1 a core-refutes.reached
+        core-refutes.empty
+        (λ id clause stands. clean id clause (of_core clauses again (none_at_zero clauses) (none_above clauses) id clause stands).1)
+        (sym (ap lines_have_no_zero (lines again can_be_read)) ∙ nonzero_text (trim clauses bytes))
+        (holds_alone clauses again (none_at_zero clauses) (none_above clauses) at a satisfied)

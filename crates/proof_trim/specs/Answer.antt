@@ -15,19 +15,20 @@ use Rattle.proof_trim.specs.declared.text.Trimmed.{Trimmed}
 use Rattle.proof_trim.specs.declared.text.Trimmed.TheVariants.{Steps, Refused as IsRefused}
 use Rattle.proof_trim.specs.declared.cutting.CutProof.{CutProof}
 use Rattle.lrat_rules.specs.Derivation.{text_of}
+use Rattle.proof_trim.specs.Core.{core_of, core_text}
 use Rattle.proof_trim.specs.Packed.{packed_if}
 use Rattle.proof_trim.specs.Sweep.{pile_of}
 use Rattle.proof_trim.specs.Trimmed.{additions, additions_of_text, cut_addition, cut_step, cut_steps, one_if_addition, trimmed_of}
 
--- The answer, where the text has this verdict, and these steps as its trimmed form, and so many additions. A failed read and want of
--- memory say nothing of it.
-abbrev pub Trims : Result Trimmed CheckError → Option Verdict → List Step → ℕ → Type 0
-Trims (Ok (Steps steps kept total)) verdict trimmed count =
-    (verdict ≡ Some Verified) × (steps ≡ text_of trimmed) × (kept ≡ additions trimmed) × (total ≡ count)
-Trims (Ok (IsRefused line reason)) verdict trimmed count = verdict ≡ Some (Refused line reason)
-Trims (Err TooLong) verdict trimmed count = verdict ≡ None
-Trims (Err ReadFault) verdict trimmed count = ⊤
-Trims (Err OutOfMemory) verdict trimmed count = ⊤
+-- The answer, where the text has this verdict, and these steps as its trimmed form, whose core these numbers are, and so many additions.
+-- A failed read and want of memory say nothing of it.
+abbrev pub Trims : Result Trimmed CheckError → Option Verdict → List Step → List ℕ → ℕ → Type 0
+Trims (Ok (Steps steps core kept total)) verdict trimmed numbers count =
+    (verdict ≡ Some Verified) × (steps ≡ text_of trimmed) × (core ≡ core_text numbers) × (kept ≡ additions trimmed) × (total ≡ count)
+Trims (Ok (IsRefused line reason)) verdict trimmed numbers count = verdict ≡ Some (Refused line reason)
+Trims (Err TooLong) verdict trimmed numbers count = verdict ≡ None
+Trims (Err ReadFault) verdict trimmed numbers count = ⊤
+Trims (Err OutOfMemory) verdict trimmed numbers count = ⊤
 
 -- what was cut so far, with one good step more; behind the end it is only counted
 abbrev pub with_step : Bool → State → Step → CutProof → CutProof
@@ -48,15 +49,16 @@ abbrev pub cut_addition_by : Uses → Step → Step
 cut_addition_by uses (Add id clause hints groups) = cut_addition id clause (cut_by uses hints groups)
 cut_addition_by uses (Delete id ids) = Delete id []
 
--- the text of the trimmed form of the steps that were cut, and how many additions it has
-abbrev pub IsOfSteps : ℕ → CutProof → List ℕ → ℕ → Type 0
-IsOfSteps count cut text kept = (steps : List Step) → cut.steps ≡ pile_of (reverse steps)
-    → (text ≡ text_of (trimmed_of count steps)) × (kept ≡ additions (trimmed_of count steps))
+-- the text of the trimmed form of the steps that were cut, that of its core, and how many additions it has
+abbrev pub IsOfSteps : ℕ → CutProof → List ℕ → List ℕ → ℕ → Type 0
+IsOfSteps count cut text core kept = (steps : List Step) → cut.steps ≡ pile_of (reverse steps)
+    → (text ≡ text_of (trimmed_of count steps)) × (core ≡ core_text (core_of count (trimmed_of count steps)))
+    × (kept ≡ additions (trimmed_of count steps))
 
 -- The answer for a proof that was read to its end, by the verdict on it and what was cut of it.
 abbrev pub AnswersBy : ℕ → CutProof → Verdict → Result Trimmed CheckError → Type 0
-AnswersBy count cut verdict (Ok (Steps steps kept total)) =
-    (verdict ≡ Verified) × IsOfSteps count cut steps kept × (total ≡ cut.total)
+AnswersBy count cut verdict (Ok (Steps steps core kept total)) =
+    (verdict ≡ Verified) × IsOfSteps count cut steps core kept × (total ≡ cut.total)
 AnswersBy count cut verdict (Ok (IsRefused line reason)) = verdict ≡ Refused line reason
 AnswersBy count cut verdict (Err OutOfMemory) = ⊤
 AnswersBy count cut verdict (Err ReadFault) = ⊥

@@ -5,4 +5,5 @@ pub mod Row
 pub mod Packed
 pub mod Lines
 pub mod Sweep
+pub mod Core
 pub mod Answer

@@ -5,12 +5,12 @@ ghost use Rattle.std.specs.Option.{option_copied};
 ghost use Rattle.lrat_rules.specs.State.{clause_at, without_clauses};
 ghost use Rattle.lrat_rules.specs.Run.{step_fault, after_step};
 ghost use Rattle.proof_trim.specs.Trimmed.{id_if_live, live_ids, one_if_addition};
-ghost use Rattle.proof_trim.specs.Answer.{cut_addition_by, with_step};
+ghost use Rattle.proof_trim.specs.Answer.{with_step};
 
-use crate::packed::push_step;
+use crate::packed::{push_cut, push_deletion};
 use crate::row::Row;
-use cnf_base::{Id, IdList, Lit, LitList, OutOfMemory, Step};
-use lrat_checker::{Cut, Judge, Uses, cut_law};
+use cnf_base::{Id, IdList, Lit, OutOfMemory, Step};
+use lrat_checker::{Judge, Uses, cut_law};
 use lrat_rules::Reason;
 use std::alloc::Global;
 
@@ -96,14 +96,13 @@ fn cut_step(
             if let Some(reason) = judge.step_with(step, uses)? {
                 return Ok(Some(reason));
             }
-            let needed = cut_addition(alloc, step, uses)?;
-            push_step(&mut cut.steps, &needed)?;
+            push_cut(&mut cut.steps, step, uses)?;
             count(&mut cut.total, id.get());
             Ok(None)
         }
         Step::Delete { id, ids } => {
             let ids = take_live(alloc, judge, ids.as_slice())?;
-            push_step(&mut cut.steps, &Step::Delete { id: *id, ids })?;
+            push_deletion(&mut cut.steps, *id, ids.as_slice())?;
             Ok(None)
         }
     }
@@ -115,42 +114,6 @@ fn count(total: &mut u64, number: u64)
     ensures { total.new ≡ total.old + 1 }
 {
     *total += 1;
-}
-
-// The step with what it needs. (A deletion, which is cut by another, would stay without numbers.)
-fn cut_addition(alloc: Global, step: &Step, uses: &Uses) -> Result<Step, OutOfMemory>
-    ensures { IfOk result (λ cut. cut ≡ cut_addition_by uses.now step.now) }
-{
-    match step {
-        Step::Add {
-            id,
-            lits,
-            pos,
-            groups,
-        } => {
-            let cut = Cut::by(alloc, uses, pos.as_slice(), groups.as_slice())?;
-            Ok(Step::Add {
-                id: *id,
-                lits: copied(alloc, lits.as_slice())?,
-                pos: cut.pos,
-                groups: cut.groups,
-            })
-        }
-        Step::Delete { id, .. } => Ok(Step::Delete {
-            id: *id,
-            ids: IdList::new(alloc),
-        }),
-    }
-}
-
-fn copied(alloc: Global, literals: &[Lit]) -> Result<LitList, OutOfMemory>
-    ensures { IfOk result (λ list. list ≡ literals.now) }
-{
-    let mut list = LitList::new(alloc);
-    for literal in literals {
-        list.push(*literal)?;
-    }
-    Ok(list)
 }
 
 // Takes out the clauses of these numbers, each at its turn, and answers the numbers that were live then. So a number that is

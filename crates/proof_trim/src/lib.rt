@@ -4,6 +4,7 @@
 #![tactic(auto)]
 
 mod bytes;
+mod core_numbers;
 mod cutting;
 mod laws;
 mod lines;
@@ -14,6 +15,7 @@ mod row;
 mod sweep;
 mod text;
 
+pub use core_numbers::Core;
 pub use laws::trim_law;
 pub use lines::KeptSteps;
 pub use text::{Trimmed, trim};

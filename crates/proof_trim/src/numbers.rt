@@ -1,9 +1,9 @@
-// The numbers of clauses that the steps behind a place of a proof need, a bit for each in a map of words. Most numbers of a proof are near
-// one another, so a number takes less than a byte; and a far one takes a word.
-ghost use Rattle.std.specs.Prelude.{◌≡◌, ◌<◌, ◌/◌, ◌^◌, ℕ, ◌||◌, false, nat_eq, OnOk};
+// The numbers of clauses that the steps behind a place of a proof need, a bit for each. Numbers below 2^27 stand in a list of words, which
+// reaches to the greatest of them, and are found without a search; a greater one takes a word of a map.
+ghost use Rattle.std.specs.Prelude.{◌≡◌, ◌<◌, ◌/◌, ◌^◌, ℕ, ◌||◌, false, length, nat_eq, OnOk};
 ghost use Rattle.std.specs.Int.Bits.{bit_or};
 ghost use Rattle.proof_trim.specs.Bits.{is_set};
-ghost use Rattle.proof_trim.specs.Numbers.{has, word_at};
+ghost use Rattle.proof_trim.specs.Numbers.{has, near_word, word_at};
 ghost use Rattle.proof_trim.specs.Trimmed.{is_there};
 
 use cnf_base::{Id, OutOfMemory};
@@ -11,10 +11,14 @@ use std::alloc::Global;
 use std::collections::HashMap;
 use std::fmt;
 
+// The words below this one stand in the list.
+const NEAR_WORDS: u64 = 2_097_152;
+
 /// A set of clause numbers.
 #[derive(Drop)]
 pub struct Numbers {
-    words: HashMap<u64, u64>,
+    near: Vec<u64>,
+    far: HashMap<u64, u64>,
 }
 
 impl Numbers {
@@ -23,7 +27,8 @@ impl Numbers {
         ensures { (id : ℕ) → has result id ≡ false }
     {
         Numbers {
-            words: HashMap::new(alloc),
+            near: Vec::new(alloc),
+            far: HashMap::new(alloc),
         }
     }
 
@@ -46,9 +51,10 @@ impl Numbers {
     fn word(&self, page: u64) -> u64
         ensures { result ≡ word_at self.now page }
     {
-        match self.words.get(&page) {
-            Some(word) => *word,
-            None => 0,
+        if page < NEAR_WORDS {
+            self.near.get(page as usize).copied().unwrap_or(0)
+        } else {
+            self.far.get(&page).copied().unwrap_or(0)
         }
     }
 
@@ -57,10 +63,37 @@ impl Numbers {
         ensures others { OnOk result ((other : ℕ) → nat_eq other page ≡ false → word_at self.new other ≡ word_at self.old other) }
         ensures word { OnOk result (word_at self.new page ≡ bit_or (word_at self.old page) (2 ^ place)) }
     {
-        let word = self.words.entry(page)?.or_insert(0);
+        if page < NEAR_WORDS {
+            return enter_near(&mut self.near, page as usize, place);
+        }
+        let word = self.far.entry(page)?.or_insert(0);
         *word = with_bit(*word, place);
         Ok(())
     }
+}
+
+fn enter_near(near: &mut Vec<u64>, page: usize, place: u64) -> Result<(), OutOfMemory>
+    requires fits { place < 64 }
+    requires near { page < 2097152 }
+    ensures others { OnOk result ((other : ℕ) → nat_eq other page ≡ false → near_word near.new.items other
+        ≡ near_word near.old.items other) }
+    ensures word { OnOk result (near_word near.new.items page ≡ bit_or (near_word near.old.items page) (2 ^ place)) }
+{
+    reach(near, page)?;
+    near[page] = with_bit(near[page], place);
+    Ok(())
+}
+
+// Has the list reach to the word, in blocks of 1024.
+fn reach(near: &mut Vec<u64>, page: usize) -> Result<(), OutOfMemory>
+    requires near { page < 2097152 }
+    ensures same { (other : ℕ) → near_word near.new.items other ≡ near_word near.old.items other }
+    ensures reaches { OnOk result (page < length near.new.items) }
+{
+    if near.len() <= page {
+        near.resize((page / 1024 + 1) * 1024, 0)?;
+    }
+    Ok(())
 }
 
 fn is_set(word: u64, place: u64) -> bool
@@ -89,7 +122,8 @@ impl Numbers {
 impl fmt::Debug for Numbers {
     fn fmt<W: fmt::Write>(&self, f: &mut fmt::Formatter<W>) -> fmt::Result {
         f.debug_struct("Numbers")
-            .field("words", &self.words.len())
+            .field("near", &self.near.len())
+            .field("far", &self.far.len())
             .finish()
     }
 }

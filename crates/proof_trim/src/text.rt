@@ -10,8 +10,10 @@ ghost use Rattle.lrat_checker.specs.declared.verdict.CheckError.TheVariants.{Rea
 ghost use Rattle.lrat_checker.specs.TextVerdict.{steps_verdict, text_verdict, verdict_so_far, Answers};
 ghost use Rattle.proof_trim.specs.Trimmed.{additions_ahead, additions_of_text, cut_steps, trimmed};
 ghost use Rattle.proof_trim.specs.Answer.{AnswersBy, Trims, cut_of_text};
+ghost use Rattle.proof_trim.specs.Core.{core};
 ghost use Rattle.proof_trim.specs.Sweep.{pile_of};
 
+use crate::core_numbers::Core;
 use crate::cutting::{CutProof, take_step};
 use crate::lines::KeptSteps;
 use crate::numbers::Numbers;
@@ -27,9 +29,11 @@ use text_scan::MAX_BYTES;
 /// What becomes of a proof.
 #[derive(Debug, Drop)]
 pub enum Trimmed {
-    /// The proof is verified: its trimmed form, how many additions that has, and how many the proof has.
+    /// The proof is verified: its trimmed form, the formula's clauses that this needs, how many additions it has, and how many the proof
+    /// has.
     Steps {
         steps: KeptSteps,
+        core: Core,
         kept: u64,
         total: u64,
     },
@@ -46,7 +50,7 @@ pub fn trim<S: Source>(alloc: Global, formula: &Cnf, source: &mut S) -> Result<T
     // The answer is that of the bytes that were taken and whatever may follow them, so of the whole text.
     ensures decides { IsTrue S.tells → Decides (S.channel source.old) (S.channel source.new)
         (λ bytes more. Trims result (text_verdict formula.now.clauses bytes) (trimmed formula.now.clauses bytes)
-        (additions_of_text bytes)) }
+        (core formula.now.clauses bytes) (additions_of_text bytes)) }
     // a read fails only where the bytes taken decide nothing yet
     ensures undecided { IsTrue S.tells → result ≡ Err ReadFault →
         verdict_so_far formula.now.clauses (gained (S.channel source.old) (S.channel source.new)) ≡ None }
@@ -153,8 +157,10 @@ fn answer_by(
         Verdict::Verified => {
             let mut numbers = Numbers::new(alloc);
             let back = sweep(alloc, &mut cut.steps, &mut numbers)?;
+            let core = Core::of(alloc, &numbers, count)?;
             Ok(Trimmed::Steps {
                 steps: KeptSteps::of(back.row, numbers, count),
+                core,
                 kept: back.additions,
                 total: cut.total,
             })

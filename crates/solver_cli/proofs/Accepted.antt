@@ -15,7 +15,7 @@ use Rattle.term_runner.specs.Price.{IsPaidFor}
 use Rattle.term_runner.specs.Proofs.{IsProof, IsProofSoFarOfKind, KeepsWithin}
 use Rattle.command_line.specs.Command.{Command, ToSolve, ToBench, Solve, Bench, command, limits_asked, limits_of}
 use Rattle.solver_cli.specs.declared.status.Status.{Status}
-use Rattle.solver_cli.specs.declared.status.Status.TheVariants.{Done, Help, ReadFault, WriteFault, OutOfMemory}
+use Rattle.solver_cli.specs.declared.status.Status.TheVariants.{Answered, Done, Help, ReadFault, WriteFault, OutOfMemory}
 use Rattle.solver_cli.specs.Answer.{AreGiven, AreOfBoard, shape_asked, status_of}
 use Rattle.solver_cli.specs.ErrorText.{is_answer}
 use Rattle.solver_cli.specs.ExitCode.{status_of_run}
@@ -109,6 +109,7 @@ solve_complete run {problem = problem} posed answers = record {
   helped = λ only _. absurd (only_help run.words posed.gives only);
   unasked = λ none _. absurd (not_unasked posed.gives none);
   answers = λ other asks t unharmed. answers unharmed;
+  replies = λ other order cubes asks. absurd (decided_apart posed.gives posed.decides asks.asks.command refl);
   judges = λ other bytes judged has. absurd (judged_apart has.asked.asks.command has.asked.named posed.gives
       (decided_unjudged posed.asked posed.decides));
   makes = λ given. absurd (decided_apart posed.gives posed.decides given.1 refl);
@@ -122,7 +123,8 @@ pub steps_stand : (run : Run) {problem : Formula} {order : List ℕ} {moves : Li
 steps_stand run posed stands = record {
   converted = λ given. absurd (decided_apart posed.gives posed.decides given.1 refl);
   trimmed = λ given. absurd (decided_apart posed.gives posed.decides given.1 refl);
-  proved = λ _ _. stands;
+  asked = λ given. absurd (decided_apart posed.gives posed.decides given.1 refl);
+  proved = λ _ _ _. stands;
 }
 
 -- statuses that no accepted text leads to
@@ -130,18 +132,19 @@ pub record Accepts (status : Status) : Type 0 where
   pub help : status ≡ Help → ⊥
   pub read : status ≡ ReadFault → ⊥
   pub done : status ≡ Done → ⊥
+  pub answered : status ≡ Answered → ⊥
 
 pub accepts_write : (status : Status) → status ≡ WriteFault → Accepts status
-accepts_write status is = record { help = λ e. cc; read = λ e. cc; done = λ e. cc }
+accepts_write status is = record { help = λ e. cc; read = λ e. cc; done = λ e. cc; answered = λ e. cc }
 
 pub accepts_memory : (status : Status) → status ≡ OutOfMemory → Accepts status
-accepts_memory status is = record { help = λ e. cc; read = λ e. cc; done = λ e. cc }
+accepts_memory status is = record { help = λ e. cc; read = λ e. cc; done = λ e. cc; answered = λ e. cc }
 
 pub accepts_answer : (status : Status) (found : Outcome) → status ≡ status_of found → Accepts status
-accepts_answer status (outcome.Sat values) is = record { help = λ e. cc; read = λ e. cc; done = λ e. cc }
-accepts_answer status outcome.Unsat is = record { help = λ e. cc; read = λ e. cc; done = λ e. cc }
-accepts_answer status outcome.NodeLimit is = record { help = λ e. cc; read = λ e. cc; done = λ e. cc }
-accepts_answer status outcome.IdLimit is = record { help = λ e. cc; read = λ e. cc; done = λ e. cc }
+accepts_answer status (outcome.Sat values) is = record { help = λ e. cc; read = λ e. cc; done = λ e. cc; answered = λ e. cc }
+accepts_answer status outcome.Unsat is = record { help = λ e. cc; read = λ e. cc; done = λ e. cc; answered = λ e. cc }
+accepts_answer status outcome.NodeLimit is = record { help = λ e. cc; read = λ e. cc; done = λ e. cc; answered = λ e. cc }
+accepts_answer status outcome.IdLimit is = record { help = λ e. cc; read = λ e. cc; done = λ e. cc; answered = λ e. cc }
 
 -- no refusal is due of an answer
 pub answer_due : (run : Run) (found : Outcome) → run.status ≡ status_of found → RefusalsAreDue run
@@ -161,6 +164,7 @@ uncreated run {problem = problem} {job = job} posed u =
       unsatisfiable = λ e. absurd (no_answer unanswered refl e);
       satisfiable = λ e. absurd (no_answer unanswered refl e);
       undecided = λ why e. absurd (no_answer unanswered refl e);
+      answered = λ e. absurd (no_answer unanswered refl e);
       verdict = no_verdict run unanswered;
       made = λ e. absurd (accepts.done e);
       made_file = no_text run posed.made;
@@ -249,6 +253,7 @@ undecided run {problem = problem} {order = order} {moves = moves} {job = job} po
     unsatisfiable = λ e. absurd (no_answer unanswered refl e);
     satisfiable = λ e. absurd (no_answer unanswered refl e);
     undecided = λ why e. absurd (no_answer unanswered refl e);
+    answered = λ e. absurd (no_answer unanswered refl e);
     verdict = no_verdict run unanswered;
     made = λ e. absurd (accepts.done e);
     made_file = no_text run posed.made;

@@ -3,7 +3,7 @@ use Rattle.std.proofs.Common.{◌≡◌, ℕ, Bool, List, refl, sym, ap, ◌∙�
 use Rattle.std.specs.Prelude.{Result, Option, ⊤, IsErr}
 use Rattle.cnf_base.specs.Formula.{Formula}
 use Rattle.host_io.specs.declared.role.Role.{Role}
-use Rattle.host_io.specs.declared.role.Role.TheVariants.{Cnf, Order, Buckets, Schedule, ProofIn, ProofOut, Made, Out}
+use Rattle.host_io.specs.declared.role.Role.TheVariants.{Cnf, Order, Buckets, Schedule, ProofIn, Cubes, ProofOut, Made, Out}
 use Rattle.host_io.specs.declared.source.Failed.{Failed}
 use Rattle.host_io.specs.Channel.{Channel}
 use Rattle.host_io.specs.Files.{Files, FilesBut, Opens, Others, Kept}
@@ -28,6 +28,7 @@ by_proof beside = record {
   buckets = beside Buckets refl;
   schedule = beside Schedule refl;
   judged = beside ProofIn refl;
+  cubes = beside Cubes refl;
   made = beside Made refl;
 }
 
@@ -38,6 +39,7 @@ by_out beside = record {
   buckets = beside Buckets refl;
   schedule = beside Schedule refl;
   judged = beside ProofIn refl;
+  cubes = beside Cubes refl;
   made = beside Made refl;
 }
 
@@ -47,8 +49,8 @@ then p q = record {
   order = q.order ∙ p.order;
   buckets = q.buckets ∙ p.buckets;
   schedule = q.schedule ∙ p.schedule;
-  judged = q.judged
-      ∙ p.judged;
+  judged = q.judged ∙ p.judged;
+  cubes = q.cubes ∙ p.cubes;
   made = q.made ∙ p.made;
 }
 
@@ -149,6 +151,7 @@ benched {problem = problem} {order = order} {moves = moves} old new board leaves
     buckets = leaves.buckets;
     schedule = leaves.schedule;
     judged = leaves.judged;
+    cubes = leaves.cubes;
   };
   made = leaves.made;
   came = came;
@@ -161,6 +164,7 @@ none_read beside = record {
   buckets = beside Buckets refl;
   schedule = beside Schedule refl;
   judged = beside ProofIn refl;
+  cubes = beside Cubes refl;
 }
 
 both_calls : {a b c : Role → Channel} → Others Made a b → Others Made b c → Others Made a c
@@ -211,6 +215,7 @@ formula_alone takes beside = record {
   buckets = beside Buckets refl ∙ takes Buckets refl;
   schedule = beside Schedule refl ∙ takes Schedule refl;
   judged = beside ProofIn refl ∙ takes ProofIn refl;
+  cubes = beside Cubes refl ∙ takes Cubes refl;
   proof = beside ProofOut refl ∙ takes ProofOut refl;
   out = beside Out refl ∙ takes Out refl;
 }

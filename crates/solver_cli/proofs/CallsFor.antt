@@ -1,29 +1,30 @@
 -- What the words and the texts call for: the refusal of the first text in turn that isn't accepted, or none.
-use Rattle.std.proofs.Common.{◌≡◌, ℕ, List, refl, sym, ap, ap₂, ◌∙◌, Some, None}
+use Rattle.std.proofs.Common.{◌≡◌, ℕ, ℤ, List, refl, sym, ap, ap₂, ◌∙◌, Some, None}
 use Rattle.std.specs.Prelude.{Option}
 use Rattle.cnf_base.specs.Formula.{Formula}
 use Rattle.host_io.specs.Files.{Files}
-use Rattle.host_io.specs.declared.role.Role.TheVariants.{Cnf, Order, Buckets, Schedule, ProofIn, ProofOut, Made, Out, Err}
+use Rattle.host_io.specs.declared.role.Role.TheVariants.{Cnf, Order, Buckets, Schedule, ProofIn, Cubes, ProofOut, Made, Out, Err}
 use Rattle.dimacs_reader.specs.Cnf.{CnfText, formula, refusal, overlong, cnf}
 use Rattle.lrat_checker.specs.declared.verdict.Verdict.{Verdict}
 use Rattle.cnf_base.specs.Order.{natural}
+use Rattle.cube_text.specs.CubeText.{CubeText, cube_text, cubes as given_cubes, refusal as cube_refusal, overlong as overlong_cubes}
 use Rattle.schedule_plan.specs.OrderText.{OrderText, order as given_order, refusal as order_refusal, overlong as overlong_order, order_text}
 use Rattle.schedule_plan.specs.ScheduleText.{ScheduleText, plan as given_plan, refusal as schedule_refusal, overlong as overlong_schedule}
 use Rattle.schedule_plan.specs.ScheduleText.{schedule}
 use Rattle.schedule_plan.specs.declared.plan.Move.{Move}
 use Rattle.command_line.specs.declared.format.ProofFormat.{ProofFormat}
 use Rattle.command_line.specs.declared.format.ProofFormat.TheVariants.{Lrat}
-use Rattle.command_line.specs.Command.{Command, ToOrder, ToRewrite, Solve, Check, Bench, Make, Arrange, Convert, Planned, ByName, ByFile}
+use Rattle.command_line.specs.Command.{Command, ToOrder, ToConvert, Solve, Check, Bench, Make, Arrange, Ask, Convert, Planned, ByName, ByFile}
 use Rattle.command_line.specs.Command.{ByBuckets, Found, Trim}
 use Rattle.command_line.specs.Command.{command, format_of, formula_file, mode_of}
 use Rattle.solver_cli.specs.declared.status.Status.{Status}
-use Rattle.solver_cli.specs.declared.status.Status.TheVariants.{Sat, Unsat, Unknown, Verified, NotVerified, Done, Help, Usage, CnfRefused}
-use Rattle.solver_cli.specs.declared.status.Status.TheVariants.{OrderRefused, BucketsRefused, PlanRefused, TooLong, ReadFault, WriteFault, OutOfMemory}
+use Rattle.solver_cli.specs.declared.status.Status.TheVariants.{Sat, Unsat, Unknown, Answered, Verified, NotVerified, Done, Help, Usage, CnfRefused}
+use Rattle.solver_cli.specs.declared.status.Status.TheVariants.{OrderRefused, BucketsRefused, PlanRefused, CubeRefused, TooLong, ReadFault, WriteFault, OutOfMemory}
 use Rattle.solver_cli.specs.Answer.{AreGiven, IsRead, IsOrdered, IsPlanned}
 use Rattle.solver_cli.specs.Format.{verdict_in}
 use Rattle.solver_cli.specs.Headline.{CallsFor}
 use Rattle.solver_cli.specs.Run.{Run, GivesCommand, GivesMake, AsksOver, AsksFor, AsksByOrder, AsksByBuckets, AsksBySchedule, AsksToJudge}
-use Rattle.solver_cli.specs.Run.{HasVerdict, name_given}
+use Rattle.solver_cli.specs.Run.{AsksByCubes, HasVerdict, name_given}
 use Rattle.solver_cli.proofs.Facts.{one_text, same_command}
 
 -- The refusals, text by text: what a text is refused by, and what comes next where it is accepted.
@@ -48,6 +49,11 @@ by_schedule (given_plan moves) = None
 by_schedule (schedule_refusal kind line) = Some (PlanRefused kind line)
 by_schedule overlong_schedule = Some (TooLong Schedule)
 
+abbrev pub by_cubes : CubeText → Option Status
+by_cubes (given_cubes all) = None
+by_cubes (cube_refusal kind line) = Some (CubeRefused kind line)
+by_cubes overlong_cubes = Some (TooLong Cubes)
+
 abbrev pub by_proof : Option Verdict → Option Status
 by_proof None = Some (TooLong ProofIn)
 by_proof (Some judged) = None
@@ -68,6 +74,12 @@ after_order run (ByFile file) problem = in_file (run.files file) (λ bytes. by_s
 after_order run (ByBuckets file) problem = in_file (run.files file) (λ bytes. by_buckets (order_text problem.vars bytes))
 after_order run Found problem = None
 
+-- by what comes after the order, with a command that goes by one
+abbrev pub after_given : Run → Command → Formula → Option Status
+after_given run (Solve task) problem = after_order run task.plan problem
+after_given run (Ask task) problem = in_file (run.files task.cubes) (λ bytes. by_cubes (cube_text problem.vars bytes))
+after_given run asked problem = None
+
 abbrev pub with_order : Run → Option (List ℕ) → Formula → (List ℕ → Option Status) → Option Status
 with_order run None problem next = next (natural problem.vars)
 with_order run (Some file) problem next = in_file (run.files file) (λ bytes. by_order (order_text problem.vars bytes) next)
@@ -77,6 +89,7 @@ after_formula run (Solve task) problem = with_order run task.order problem (λ o
 after_formula run (Bench task) problem = None
 after_formula run (Make task) problem = None
 after_formula run (Arrange task) problem = None
+after_formula run (Ask task) problem = with_order run task.order problem (λ order. after_given run (Ask task) problem)
 after_formula run (Check task) problem = in_file (run.files task.proof) (λ bytes. by_proof (verdict_in task.format problem.clauses bytes))
 after_formula run (Convert task) problem = in_file (run.files task.proof) (λ bytes. by_proof (verdict_in Lrat problem.clauses bytes))
 after_formula run (Trim task) problem = in_file (run.files task.proof) (λ bytes. by_proof (verdict_in Lrat problem.clauses bytes))
@@ -116,12 +129,25 @@ ordered : (run : Run) (file : Option (List ℕ)) (problem : Formula) (order : Li
 ordered run None problem order next is = refl
 ordered run (Some file) problem order next is = reads run.files (λ t. by_order t (λ order. next)) is
 
+-- a command that names an order's file goes by that
+ordered_by : (run : Run) (asked : Command) (problem : Formula) {file : List ℕ} → name_given Order asked ≡ Some file
+    → after_formula run asked problem ≡ with_order run (Some file) problem (λ order. after_given run asked problem)
+ordered_by run (Solve task) problem named =
+    ap (λ (file : Option (List ℕ)). with_order run file problem (λ order. after_given run (Solve task) problem)) named
+ordered_by run (Ask task) problem named =
+    ap (λ (file : Option (List ℕ)). with_order run file problem (λ order. after_given run (Ask task) problem)) named
+ordered_by run (Check task) problem named = cc
+ordered_by run (Bench task) problem named = cc
+ordered_by run (Make task) problem named = cc
+ordered_by run (Arrange task) problem named = cc
+ordered_by run (Convert task) problem named = cc
+ordered_by run (Trim task) problem named = cc
+
 by_its_order : (run : Run) (problem : Formula) (text : OrderText) (a : AsksByOrder run problem text) → refusal_due run
-    ≡ by_order text (λ order. after_order run a.task.plan problem)
+    ≡ by_order text (λ order. after_given run a.asked problem)
 by_its_order run problem text a =
-    asks run (Solve a.task) (formula problem) a.asks
-    ∙ ap (λ (file : Option (List ℕ)). with_order run file problem (λ order. after_order run a.task.plan problem)) a.named
-    ∙ reads run.files (λ t. by_order t (λ order. after_order run a.task.plan problem)) a.read
+    asks run a.asked (formula problem) a.asks ∙ ordered_by run a.asked problem a.named
+    ∙ reads run.files (λ t. by_order t (λ order. after_given run a.asked problem)) a.read
 
 by_its_buckets : (run : Run) (problem : Formula) (text : OrderText) → AsksByBuckets run problem text → refusal_due run ≡ by_buckets text
 by_its_buckets run problem text a =
@@ -137,6 +163,13 @@ by_its_schedule run problem text a =
     ∙ ordered run a.task.order problem a.order (after_order run a.task.plan problem) a.ordered
     ∙ ap (λ (plan : Planned). after_order run plan problem) a.named
     ∙ reads run.files by_schedule a.read
+
+by_its_cubes : (run : Run) (problem : Formula) (order : List ℕ) (text : CubeText) → AsksByCubes run problem order text
+    → refusal_due run ≡ by_cubes text
+by_its_cubes run problem order text a =
+    asks run (Ask a.task) (formula problem) a.asks
+    ∙ ordered run a.task.order problem order (after_given run (Ask a.task) problem) a.ordered
+    ∙ reads run.files by_cubes a.read
 
 -- what stands in the named file decides
 in_named : (run : Run) (format : ProofFormat) (own : List ℕ) (problem : Formula) {file bytes : List ℕ}
@@ -154,6 +187,7 @@ after_judged run (Solve task) problem named stands = cc
 after_judged run (Bench task) problem named stands = cc
 after_judged run (Make task) problem named stands = cc
 after_judged run (Arrange task) problem named stands = cc
+after_judged run (Ask task) problem named stands = cc
 after_judged run (Check task) problem named stands = in_named run task.format task.proof problem named stands
 after_judged run (Convert task) problem named stands = in_named run Lrat task.proof problem named stands
 after_judged run (Trim task) problem named stands = in_named run Lrat task.proof problem named stands
@@ -168,6 +202,7 @@ pub called : (run : Run) (status : Status) → CallsFor run status → refusal_d
 called run Sat is = absurd is
 called run Unsat is = absurd is
 called run (Unknown why) is = absurd is
+called run Answered is = absurd is
 called run Verified is = absurd is
 called run (NotVerified line reason) is = absurd is
 called run Done is = absurd is
@@ -177,11 +212,13 @@ called run (CnfRefused kind line) is = asks run is.0 (refusal kind line) is.1
 called run (OrderRefused kind line) is = by_its_order run is.0 (order_refusal kind line) is.1
 called run (BucketsRefused kind line) is = by_its_buckets run is.0 (order_refusal kind line) is.1
 called run (PlanRefused kind line) is = by_its_schedule run is.0 (schedule_refusal kind line) is.1
+called run (CubeRefused kind line) is = by_its_cubes run is.0 is.1 (cube_refusal kind line) is.2
 called run (TooLong Cnf) is = asks run is.0 overlong is.1
 called run (TooLong Order) is = by_its_order run is.0 overlong_order is.1
 called run (TooLong Buckets) is = by_its_buckets run is.0 overlong_order is.1
 called run (TooLong Schedule) is = by_its_schedule run is.0 overlong_schedule is.1
 called run (TooLong ProofIn) is = to_judge run is.0 is.1 is.2 ∙ ap by_proof is.3
+called run (TooLong Cubes) is = by_its_cubes run is.0 is.1 overlong_cubes is.2
 called run (TooLong ProofOut) is = absurd is
 called run (TooLong Made) is = absurd is
 called run (TooLong Out) is = absurd is
@@ -221,6 +258,7 @@ no_call run problem a status is = some_none (called run status is) (due a.by.ask
   due (Bench task) gives given = ap (by_words run) gives
   due (Make task) gives given = absurd given
   due (Arrange task) gives given = absurd given
+  due (Ask task) gives given = absurd given
   due (Convert task) gives given = absurd given
   due (Trim task) gives given = absurd given
 
@@ -228,6 +266,12 @@ no_call run problem a status is = some_none (called run status is) (due a.by.ask
 pub no_call_arranged : (run : Run) (task : ToOrder) (problem : Formula) → AsksOver run (Arrange task) (formula problem) → (status : Status)
     → CallsFor run status → ⊥
 no_call_arranged run task problem a status is = some_none (called run status is) (asks run (Arrange task) (formula problem) a)
+
+-- or where cubes over it are accepted
+pub no_call_asked : (run : Run) (problem : Formula) (order : List ℕ) (cubes : List (List ℤ))
+    → AsksByCubes run problem order (given_cubes cubes) → (status : Status) → CallsFor run status → ⊥
+no_call_asked run problem order cubes a status is =
+    some_none (called run status is) (by_its_cubes run problem order (given_cubes cubes) a)
 
 -- or where a board's text is made
 pub no_call_made : (run : Run) → GivesMake run → (status : Status) → CallsFor run status → ⊥
@@ -248,7 +292,7 @@ long_only (Some bytes) verdict e = inner (verdict bytes) e where
   inner None e = cc
   inner (Some judged) e = cc
 
-pub calls_long : (run : Run) (task : ToRewrite) (problem : Formula) → AsksOver run (Convert task) (formula problem) → (status : Status)
+pub calls_long : (run : Run) (task : ToConvert) (problem : Formula) → AsksOver run (Convert task) (formula problem) → (status : Status)
     → CallsFor run status → status ≡ TooLong ProofIn
 calls_long run task problem a status is = long_only (run.files task.proof) (λ bytes. verdict_in Lrat problem.clauses bytes)
     (sym (asks run (Convert task) (formula problem) a) ∙ called run status is)
@@ -258,20 +302,23 @@ pub calls_give : (run : Run) (status : Status) → CallsFor run status → Gives
 calls_give run Sat is = absurd is
 calls_give run Unsat is = absurd is
 calls_give run (Unknown why) is = absurd is
+calls_give run Answered is = absurd is
 calls_give run Verified is = absurd is
 calls_give run (NotVerified line reason) is = absurd is
 calls_give run Done is = absurd is
 calls_give run Help is = absurd is
 calls_give run Usage is = absurd is
 calls_give run (CnfRefused kind line) is = (is.0, is.1.command)
-calls_give run (OrderRefused kind line) is = (Solve is.1.task, is.1.asks.command)
+calls_give run (OrderRefused kind line) is = (is.1.asked, is.1.asks.command)
 calls_give run (BucketsRefused kind line) is = (Solve is.1.task, is.1.asks.command)
 calls_give run (PlanRefused kind line) is = (Solve is.1.task, is.1.asks.command)
+calls_give run (CubeRefused kind line) is = (Ask is.2.task, is.2.asks.command)
 calls_give run (TooLong Cnf) is = (is.0, is.1.command)
-calls_give run (TooLong Order) is = (Solve is.1.task, is.1.asks.command)
+calls_give run (TooLong Order) is = (is.1.asked, is.1.asks.command)
 calls_give run (TooLong Buckets) is = (Solve is.1.task, is.1.asks.command)
 calls_give run (TooLong Schedule) is = (Solve is.1.task, is.1.asks.command)
 calls_give run (TooLong ProofIn) is = (is.2.asked, is.2.asks.command)
+calls_give run (TooLong Cubes) is = (Ask is.2.task, is.2.asks.command)
 calls_give run (TooLong ProofOut) is = absurd is
 calls_give run (TooLong Made) is = absurd is
 calls_give run (TooLong Out) is = absurd is

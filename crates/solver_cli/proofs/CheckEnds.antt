@@ -4,12 +4,12 @@ use Rattle.std.specs.Prelude.{IsTrue}
 use Rattle.cnf_base.specs.Formula.{Formula}
 use Rattle.dimacs_reader.specs.Cnf.{formula, refusal, overlong}
 use Rattle.dimacs_reader.specs.declared.error.CnfKind.{CnfKind}
-use Rattle.host_io.specs.declared.role.Role.TheVariants.{Cnf, Order, Buckets, Schedule, ProofIn, ProofOut, Made, Out, Err as ErrRole}
+use Rattle.host_io.specs.declared.role.Role.TheVariants.{Cnf, Order, Buckets, Schedule, ProofIn, Cubes, ProofOut, Made, Out, Err as ErrRole}
 use Rattle.lrat_rules.specs.declared.outcome.Reason.{Reason}
 use Rattle.lrat_checker.specs.TextVerdict.{max_bytes}
 use Rattle.solver_cli.specs.declared.status.Status.{Status}
-use Rattle.solver_cli.specs.declared.status.Status.TheVariants.{Sat, Unsat, Unknown, Verified, NotVerified, Done, Help, Usage, CnfRefused}
-use Rattle.solver_cli.specs.declared.status.Status.TheVariants.{OrderRefused, BucketsRefused, PlanRefused, TooLong, ReadFault, WriteFault}
+use Rattle.solver_cli.specs.declared.status.Status.TheVariants.{Sat, Unsat, Unknown, Answered, Verified, NotVerified, Done, Help, Usage, CnfRefused}
+use Rattle.solver_cli.specs.declared.status.Status.TheVariants.{OrderRefused, BucketsRefused, PlanRefused, CubeRefused, TooLong, ReadFault, WriteFault}
 use Rattle.solver_cli.specs.declared.status.Status.TheVariants.{OutOfMemory}
 use Rattle.command_line.specs.declared.format.ProofFormat.{ProofFormat}
 use Rattle.command_line.specs.Command.{Command, ToSolve, ToCheck, Solve, Check, command, format_of}
@@ -17,7 +17,7 @@ use Rattle.solver_cli.specs.Format.{verdict_in, IsRefusedIn}
 use Rattle.solver_cli.specs.Headline.{IsDue, Promises}
 use Rattle.solver_cli.specs.Run.{Run, GivesDecision, AsksOver, AsksToJudge}
 use Rattle.solver_cli.specs.SolveThenCheck.{MayEnd}
-use Rattle.solver_cli.proofs.Facts.{one_proof, same_command, two_commands, decided_apart, judged_apart, no_misuse}
+use Rattle.solver_cli.proofs.Facts.{one_proof, same_command, two_commands, decided_apart, judged_apart, named_apart, no_misuse}
 use Rattle.solver_cli.proofs.Facts.{no_help, same_formula}
 use Rattle.solver_cli.proofs.CallsFor.{same_text}
 use Rattle.solver_cli.proofs.Unjudged.{one_verdict}
@@ -64,7 +64,11 @@ ends run task {problem = problem} {bytes = bytes} promises tells asked to_judge 
   by : (status : Status) → run.status ≡ status → MayEnd run bytes status
   by Sat e = undecided (promises.satisfiable e).given
   by Unsat e = undecided (promises.unsatisfiable e).given
-  by (Unknown why) e = undecided (promises.undecided why e).given
+  by (Unknown why) e = elim (promises.undecided why e) [
+    | inl found ↦ undecided found.given
+    | inr found ↦ named_apart Cubes found.given.1 refl asked refl
+  ]
+  by Answered e = named_apart Cubes (promises.answered e).given.1 refl asked refl
   by Verified e = tt
   by (NotVerified line reason) e = let refused = (promises.verdict.not_verified line reason e).1 tells in
       unrefused line reason (same_refusal line reason refused.has.asked refused.refused)
@@ -75,14 +79,16 @@ ends run task {problem = problem} {bytes = bytes} promises tells asked to_judge 
   by Help e = no_help run.words asked (due e)
   by Usage e = no_misuse run.words asked (due e)
   by (CnfRefused kind line) e = let refused = (due e).1 tells in accepted kind line refused.asks
-  by (OrderRefused kind line) e = unsolved (due e).0.1
+  by (OrderRefused kind line) e = let given = (due e).0 in named_apart Order given.1 given.3 asked refl
   by (BucketsRefused kind line) e = unsolved (due e).0.1
   by (PlanRefused kind line) e = unsolved (due e).0.1
+  by (CubeRefused kind line) e = named_apart Cubes (due e).0.1 refl asked refl
   by (TooLong Cnf) e = let refused = (due e).1 tells in absurd (not_long refused.asks)
-  by (TooLong Order) e = absurd (unsolved (due e).0.1)
+  by (TooLong Order) e = let given = (due e).0 in absurd (named_apart Order given.1 given.3 asked refl)
   by (TooLong Buckets) e = absurd (unsolved (due e).0.1)
   by (TooLong Schedule) e = absurd (unsolved (due e).0.1)
   by (TooLong ProofIn) e = let long = (due e).1 tells in (refl, long_text (one_verdict run to_judge long.asked ∙ long.judged))
+  by (TooLong Cubes) e = absurd (named_apart Cubes (due e).0.1 refl asked refl)
   by (TooLong ProofOut) e = absurd (due e)
   by (TooLong Made) e = absurd (due e)
   by (TooLong Out) e = absurd (due e)

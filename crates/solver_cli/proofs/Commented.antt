@@ -1,5 +1,5 @@
 -- Lines of comment, one behind another, and what is told by them.
-use Rattle.std.proofs.Common.{◌≡◌, ◌+◌, ℕ, Bool, true, false, List, [], ◌∷◌, ◌++◌, refl, sym, ap, ◌∙◌, subst, Ok, Err, IsTrue, arith}
+use Rattle.std.proofs.Common.{◌≡◌, ℕ, Bool, true, false, List, [], ◌∷◌, ◌++◌, refl, sym, ap, ◌∙◌, subst, Ok, Err, IsTrue, arith}
 use Rattle.std.proofs.Common.{append_assoc, append-nil, true≢false}
 use Rattle.std.specs.Prelude.{Result, Option, Some, is_ok, ⊤, ◌==◌, if◌then◌else◌}
 use Rattle.host_io.specs.Channel.{Channel}

@@ -15,7 +15,6 @@ use Rattle.lrat_checker.specs.declared.verdict.CheckError.{CheckError}
 use Rattle.lrat_checker.specs.declared.verdict.CheckError.TheVariants as check_error
 use Rattle.drat_text.specs.declared.step.DratStep.{DratStep}
 use Rattle.drat_text.specs.DratText.{drat_text, line_of_drat}
-use Rattle.drat_proof.specs.Drat.{drat_steps}
 use Rattle.drat_proof.specs.Conversion.{AreFirstLines, HasVerdict, HasWritten, converted}
 use Rattle.drat_proof.specs.TwoRoles.{KeptButTwo, OnlyWrites, added}
 use Rattle.drat_proof.specs.declared.error.ConvertError.{ConvertError}
@@ -28,10 +27,10 @@ use Rattle.solver_cli.proofs.Judging.{Wanted, judged, unopened, wanted_by}
 use Rattle.solver_cli.proofs.Reading.{ok_err, rose_since}
 
 -- What a conversion ensures, before the flush.
-pub record Converts (tells : Bool) (in_old in_new out_old out_new : Channel) (clauses : List (List ℤ))
+pub record Converts (tells : Bool) (in_old in_new out_old out_new : Channel) (clauses : List (List ℤ)) (becomes : List ℕ → List DratStep)
     (result : Result Verdict ConvertError) : Type 0 where
   pub decides : IsTrue tells → Decides in_old in_new (λ bytes more. HasVerdict result (text_verdict clauses bytes))
-  pub written : IsTrue tells → Decides in_old in_new (λ bytes more. HasWritten result (added out_old out_new) (drat_steps clauses bytes))
+  pub written : IsTrue tells → Decides in_old in_new (λ bytes more. HasWritten result (added out_old out_new) (becomes bytes))
   pub undecided : IsTrue tells → result ≡ Err error.ReadFault → verdict_so_far clauses (gained in_old in_new) ≡ None
   pub read_fault : result ≡ Err error.ReadFault → Rose in_old.faults in_new.faults
   pub write_fault : result ≡ Err error.WriteFault → Rose out_old.faults out_new.faults
@@ -42,15 +41,15 @@ pub record Converts (tells : Bool) (in_old in_new out_old out_new : Channel) (cl
   pub writes : OnlyWrites out_old out_new
 
 -- it came to no verdict, and nothing was flushed
-pub unflushed : {tells : Bool} {in_old in_new out_old out_new : Channel} {clauses : List (List ℤ)} {result answer : Result Verdict ConvertError}
+pub unflushed : {tells : Bool} {in_old in_new out_old out_new : Channel} {clauses : List (List ℤ)} {becomes : List ℕ → List DratStep} {result answer : Result Verdict ConvertError}
     {why : ConvertError}
-    → Converts tells in_old in_new out_old out_new clauses result → result ≡ Err why → answer ≡ Err why
-    → ConvertsProof tells in_old in_new out_old out_new clauses answer
-unflushed {tells = tells} {in_old = in_old} {in_new = in_new} {out_old = out_old} {out_new = out_new} {clauses = clauses} {why = why} c is
-    ends = subst (λ (r : Result Verdict ConvertError). ConvertsProof tells in_old in_new out_old out_new clauses r) (sym ends)
-    (told (subst (λ (r : Result Verdict ConvertError). Converts tells in_old in_new out_old out_new clauses r) is c)) where
-      told : Converts tells in_old in_new out_old out_new clauses (Err why)
-          → ConvertsProof tells in_old in_new out_old out_new clauses (Err why)
+    → Converts tells in_old in_new out_old out_new clauses becomes result → result ≡ Err why → answer ≡ Err why
+    → ConvertsProof tells in_old in_new out_old out_new clauses becomes answer
+unflushed {tells = tells} {in_old = in_old} {in_new = in_new} {out_old = out_old} {out_new = out_new} {clauses = clauses} {becomes = becomes} {why = why} c is
+    ends = subst (λ (r : Result Verdict ConvertError). ConvertsProof tells in_old in_new out_old out_new clauses becomes r) (sym ends)
+    (told (subst (λ (r : Result Verdict ConvertError). Converts tells in_old in_new out_old out_new clauses becomes r) is c)) where
+      told : Converts tells in_old in_new out_old out_new clauses becomes (Err why)
+          → ConvertsProof tells in_old in_new out_old out_new clauses becomes (Err why)
       told c = record {
         judged = λ t. Decides-whole (c.decides t);
         decided = λ t. Decides-taken (c.decides t);
@@ -69,17 +68,17 @@ unflushed {tells = tells} {in_old = in_old} {in_new = in_new} {out_old = out_old
       }
 
 -- it came to a verdict, and the flush failed or didn't
-pub flushed : {tells : Bool} {in_old in_new in_last out_old out_mid out_new : Channel} {clauses : List (List ℤ)}
+pub flushed : {tells : Bool} {in_old in_new in_last out_old out_mid out_new : Channel} {clauses : List (List ℤ)} {becomes : List ℕ → List DratStep}
     {result : Result Verdict ConvertError} {verdict : Verdict}
-    → Converts tells in_old in_new out_old out_mid clauses result → result ≡ Ok verdict → (answer : Result ⊤ Failed)
+    → Converts tells in_old in_new out_old out_mid clauses becomes result → result ≡ Ok verdict → (answer : Result ⊤ Failed)
     → Flushes tells out_mid out_new answer → IsOk answer → in_last ≡ in_new
-    → ConvertsProof tells in_old in_last out_old out_new clauses (Ok verdict)
-flushed {tells = tells} {in_old = in_old} {in_new = in_new} {out_old = out_old} {out_mid = out_mid} {out_new = out_new} {clauses = clauses}
+    → ConvertsProof tells in_old in_last out_old out_new clauses becomes (Ok verdict)
+flushed {tells = tells} {in_old = in_old} {in_new = in_new} {out_old = out_old} {out_mid = out_mid} {out_new = out_new} {clauses = clauses} {becomes = becomes}
     {verdict = verdict} c is answer flushes done to =
-    subst (λ (last : Channel). ConvertsProof tells in_old last out_old out_new clauses (Ok verdict)) (sym to)
-    (told (subst (λ (r : Result Verdict ConvertError). Converts tells in_old in_new out_old out_mid clauses r) is c)) where
-      told : Converts tells in_old in_new out_old out_mid clauses (Ok verdict)
-          → ConvertsProof tells in_old in_new out_old out_new clauses (Ok verdict)
+    subst (λ (last : Channel). ConvertsProof tells in_old last out_old out_new clauses becomes (Ok verdict)) (sym to)
+    (told (subst (λ (r : Result Verdict ConvertError). Converts tells in_old in_new out_old out_mid clauses becomes r) is c)) where
+      told : Converts tells in_old in_new out_old out_mid clauses becomes (Ok verdict)
+          → ConvertsProof tells in_old in_new out_old out_new clauses becomes (Ok verdict)
       told c = record {
         judged = λ t. Decides-whole (c.decides t);
         decided = λ t. Decides-taken (c.decides t);
@@ -97,17 +96,17 @@ flushed {tells = tells} {in_old = in_old} {in_new = in_new} {out_old = out_old} 
         name = flushes.name ∙ c.writes.name;
       }
 
-pub torn : {tells : Bool} {in_old in_new in_last out_old out_mid out_new : Channel} {clauses : List (List ℤ)}
+pub torn : {tells : Bool} {in_old in_new in_last out_old out_mid out_new : Channel} {clauses : List (List ℤ)} {becomes : List ℕ → List DratStep}
     {result : Result Verdict ConvertError} {verdict : Verdict}
-    → Converts tells in_old in_new out_old out_mid clauses result → result ≡ Ok verdict → (answer : Result ⊤ Failed)
+    → Converts tells in_old in_new out_old out_mid clauses becomes result → result ≡ Ok verdict → (answer : Result ⊤ Failed)
     → Flushes tells out_mid out_new answer → IsErr answer → in_last ≡ in_new
-    → ConvertsProof tells in_old in_last out_old out_new clauses (Err error.WriteFault)
-torn {tells = tells} {in_old = in_old} {in_new = in_new} {out_old = out_old} {out_mid = out_mid} {out_new = out_new} {clauses = clauses}
+    → ConvertsProof tells in_old in_last out_old out_new clauses becomes (Err error.WriteFault)
+torn {tells = tells} {in_old = in_old} {in_new = in_new} {out_old = out_old} {out_mid = out_mid} {out_new = out_new} {clauses = clauses} {becomes = becomes}
     {verdict = verdict} c is answer flushes failed to =
-    subst (λ (last : Channel). ConvertsProof tells in_old last out_old out_new clauses (Err error.WriteFault)) (sym to)
-    (told (subst (λ (r : Result Verdict ConvertError). Converts tells in_old in_new out_old out_mid clauses r) is c)) where
-      told : Converts tells in_old in_new out_old out_mid clauses (Ok verdict)
-          → ConvertsProof tells in_old in_new out_old out_new clauses (Err error.WriteFault)
+    subst (λ (last : Channel). ConvertsProof tells in_old last out_old out_new clauses becomes (Err error.WriteFault)) (sym to)
+    (told (subst (λ (r : Result Verdict ConvertError). Converts tells in_old in_new out_old out_mid clauses becomes r) is c)) where
+      told : Converts tells in_old in_new out_old out_mid clauses becomes (Ok verdict)
+          → ConvertsProof tells in_old in_new out_old out_new clauses becomes (Err error.WriteFault)
       told c = record {
         judged = λ t. tt;
         decided = λ t. tt;
@@ -141,10 +140,10 @@ no_answer_read opens failed (Err check_error.OutOfMemory) e = cc
 none_added : {old new : Channel} → new ≡ old → added old new ≡ []
 none_added {old = old} {new = new} same = behind old new [] (nothing_more old new (ap (λ (c : Channel). c.written) same))
 
-pub unread : {tells : Bool} {in_old in_new out_old out_new : Channel} {files : Files} {file out : List ℕ} {clauses : List (List ℤ)}
+pub unread : {tells : Bool} {in_old in_new out_old out_new : Channel} {files : Files} {file out : List ℕ} {clauses : List (List ℤ)} {becomes : List ℕ → List DratStep}
     {opened : Result ⊤ Failed}
     → Opens in_old in_new file opened → IsErr opened → out_new ≡ out_old → out_old.name ≡ None
-    → RewritesProof tells in_old in_new out_old out_new files file out clauses (Err error.ReadFault)
+    → RewritesProof tells in_old in_new out_old out_new files file out clauses becomes (Err error.ReadFault)
 unread opens failed same unnamed =
     let none = ap (λ (c : Channel). c.name) same ∙ unnamed in
     record {
@@ -176,13 +175,13 @@ some_none {file = file} e d = apart (sym e ∙ d) where
   apart e = cc
 
 pub uncreated : {tells : Bool} {in_old in_mid in_new out_old out_mid out_new : Channel} {files : Files} {file out : List ℕ}
-    {clauses : List (List ℤ)} {opened created : Result ⊤ Failed}
+    {clauses : List (List ℤ)} {becomes : List ℕ → List DratStep} {opened created : Result ⊤ Failed}
     → Opens in_old in_mid file opened → IsOk opened → out_mid ≡ out_old → Opens out_mid out_new out created → IsErr created → in_new ≡ in_mid
-    → RewritesProof tells in_old in_new out_old out_new files file out clauses (Err error.WriteFault)
-uncreated {tells = tells} {in_old = in_old} {in_mid = in_mid} {out_old = out_old} {out_mid = out_mid} {out_new = out_new} {files = files} {file = file} {out = out} {clauses = clauses}
+    → RewritesProof tells in_old in_new out_old out_new files file out clauses becomes (Err error.WriteFault)
+uncreated {tells = tells} {in_old = in_old} {in_mid = in_mid} {out_old = out_old} {out_mid = out_mid} {out_new = out_new} {files = files} {file = file} {out = out} {clauses = clauses} {becomes = becomes}
     {created = created} opens ok from creates failed to =
-    subst (λ (c : Channel). RewritesProof tells in_old c out_old out_new files file out clauses (Err error.WriteFault)) (sym to)
-    (subst (λ (c : Channel). RewritesProof tells in_old in_mid c out_new files file out clauses (Err error.WriteFault)) from (record {
+    subst (λ (c : Channel). RewritesProof tells in_old c out_old out_new files file out clauses becomes (Err error.WriteFault)) (sym to)
+    (subst (λ (c : Channel). RewritesProof tells in_old in_mid c out_new files file out clauses becomes (Err error.WriteFault)) from (record {
       judges = λ answer e. no_answer_written answer e;
       unfailed_reads = λ _. opens.faults.unfailed ok;
       read_written = opens.idle.written ∙ sym opens.was_idle.written;
@@ -210,9 +209,9 @@ read_failed (Err check_error.ReadFault) e = refl
 read_failed (Err check_error.TooLong) e = cc
 read_failed (Err check_error.OutOfMemory) e = cc
 
-checks : {tells : Bool} {in_old in_new out_old out_new : Channel} {clauses : List (List ℤ)} (answer : Result Verdict CheckError)
-    → ConvertsProof tells in_old in_new out_old out_new clauses (converted answer) → ChecksProof Lrat tells in_old in_new clauses answer
-checks {in_old = in_old} {in_new = in_new} {clauses = clauses} answer c = record {
+checks : {tells : Bool} {in_old in_new out_old out_new : Channel} {clauses : List (List ℤ)} {becomes : List ℕ → List DratStep} (answer : Result Verdict CheckError)
+    → ConvertsProof tells in_old in_new out_old out_new clauses becomes (converted answer) → ChecksProof Lrat tells in_old in_new clauses answer
+checks {in_old = in_old} {in_new = in_new} {clauses = clauses} {becomes = becomes} answer c = record {
   judged = λ t. as_check answer (text_verdict clauses in_old.left) (c.judged t);
   decided = λ t. as_check answer (text_verdict clauses (gained in_old in_new)) (c.decided t);
   fault = λ e. c.read_fault (ap converted e);
@@ -263,25 +262,25 @@ on_ok (Err e) done holds = cc
 
 -- both files were there, and the proof was converted
 pub rewritten : {tells : Bool} {in_old in_opened in_mid in_new out_old out_mid out_created out_new : Channel} {files : Files}
-    {file out : List ℕ} {clauses : List (List ℤ)} {opened created : Result ⊤ Failed} {result : Result Verdict ConvertError}
+    {file out : List ℕ} {clauses : List (List ℤ)} {becomes : List ℕ → List DratStep} {opened created : Result ⊤ Failed} {result : Result Verdict ConvertError}
     → Opens in_old in_opened file opened → IsOk opened → (IsTrue tells → files file ≡ Some in_opened.left) → out_mid ≡ out_old
     → Opens out_mid out_created out created → IsOk created → in_mid ≡ in_opened
-    → ConvertsProof tells in_mid in_new out_created out_new clauses result
-    → RewritesProof tells in_old in_new out_old out_new files file out clauses result
+    → ConvertsProof tells in_mid in_new out_created out_new clauses becomes result
+    → RewritesProof tells in_old in_new out_old out_new files file out clauses becomes result
 rewritten {tells = tells} {in_old = in_old} {in_opened = in_opened} {in_mid = in_mid} {in_new = in_new} {out_old = out_old} {out_mid = out_mid}
-    {out_created = out_created} {out_new = out_new} {files = files} {file = file} {out = out} {clauses = clauses} {result = result} opens ok
+    {out_created = out_created} {out_new = out_new} {files = files} {file = file} {out = out} {clauses = clauses} {becomes = becomes} {result = result} opens ok
     content from creates done to converts =
-    subst (λ (c : Channel). RewritesProof tells in_old in_new c out_new files file out clauses result) from
-    (told (subst (λ (c : Channel). ConvertsProof tells c in_new out_created out_new clauses result) to converts)) where
+    subst (λ (c : Channel). RewritesProof tells in_old in_new c out_new files file out clauses becomes result) from
+    (told (subst (λ (c : Channel). ConvertsProof tells c in_new out_created out_new clauses becomes result) to converts)) where
       -- nothing was written before
       same : added out_created out_new ≡ added out_mid out_new
       same = ap (λ (l : List ℕ). drop (length l) out_new.written) (creates.idle.written ∙ sym creates.was_idle.written)
 
-      told : ConvertsProof tells in_opened in_new out_created out_new clauses result
-          → RewritesProof tells in_old in_new out_mid out_new files file out clauses result
+      told : ConvertsProof tells in_opened in_new out_created out_new clauses becomes result
+          → RewritesProof tells in_old in_new out_mid out_new files file out clauses becomes result
       told c = record {
         judges = λ answer e. judged opens ok content
-            (checks answer (subst (λ (r : Result Verdict ConvertError). ConvertsProof tells in_opened in_new out_created out_new clauses r) e c));
+            (checks answer (subst (λ (r : Result Verdict ConvertError). ConvertsProof tells in_opened in_new out_created out_new clauses becomes r) e c));
         unfailed_reads = λ differs. c.unfailed_reads differs ∙ opens.faults.unfailed ok;
         read_written = c.read_written ∙ opens.idle.written ∙ sym opens.was_idle.written;
         read_name = inl (c.read_name ∙ opens.named ok);
@@ -306,8 +305,8 @@ rewritten {tells = tells} {in_old = in_old} {in_opened = in_opened} {in_mid = in
         name = inl (c.name ∙ creates.named done);
         opened = λ _ none. some_none (c.read_name ∙ opens.named ok) none;
       } where
-        has : IsTrue tells → HasWritten result (added out_mid out_new) (drat_steps clauses in_opened.left)
-        has t = subst (λ (l : List ℕ). HasWritten result l (drat_steps clauses in_opened.left)) same (c.written t)
+        has : IsTrue tells → HasWritten result (added out_mid out_new) (becomes in_opened.left)
+        has t = subst (λ (l : List ℕ). HasWritten result l (becomes in_opened.left)) same (c.written t)
 
 -- what calls of the two roles leave alone, one after another
 none_some : {name : List ℕ} → ◌≡◌ {A = Option (List ℕ)} None (Some name) → ⊥

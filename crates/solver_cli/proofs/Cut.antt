@@ -17,13 +17,14 @@ use Rattle.lrat_checker.specs.declared.verdict.CheckError.{CheckError}
 use Rattle.lrat_checker.specs.declared.verdict.CheckError.TheVariants.{ReadFault, TooLong, OutOfMemory}
 use Rattle.drat_proof.specs.TwoRoles.{added}
 use Rattle.proof_trim.specs.Answer.{Trims}
+use Rattle.proof_trim.specs.Core.{core as core_numbers, core_text}
 use Rattle.proof_trim.specs.Trimmed.{additions, additions_of_text, trim, trimmed}
 use Rattle.proof_trim.specs.declared.text.Trimmed.{Trimmed}
 use Rattle.proof_trim.specs.declared.text.Trimmed.TheVariants.{Steps, Refused}
 use Rattle.command_line.specs.declared.format.ProofFormat.TheVariants.{Lrat}
-use Rattle.command_line.specs.Command.{ToRewrite, Trim, command}
+use Rattle.command_line.specs.Command.{ToTrim, Trim, command}
 use Rattle.solver_cli.specs.Phases.{JudgesProof, PutsText}
-use Rattle.solver_cli.specs.TrimmedProof.{PutsFile, TrimsBytes, TrimsOpened, TrimsProof, TrimsText}
+use Rattle.solver_cli.specs.TrimmedProof.{PutsFile, PutsNamed, TrimsBytes, TrimsOpened, TrimsProof, TrimsText}
 use Rattle.solver_cli.specs.Run.{Run, taken_in, AsksOver, HasVerdict}
 use Rattle.solver_cli.proofs.Facts.{whole_of}
 use Rattle.solver_cli.proofs.Reading.{none_taken, ok_err, rose_since}
@@ -98,20 +99,20 @@ cut_whole {old = old} {opened = opened} {new = new} {clauses = clauses} {result 
 
 -- trimming judges as a check does
 abbrev pub answer_of : Result Trimmed CheckError → Result Verdict CheckError
-answer_of (Ok (Steps steps kept total)) = Ok judgement.Verified
+answer_of (Ok (Steps steps core kept total)) = Ok judgement.Verified
 answer_of (Ok (Refused line reason)) = Ok (judgement.Refused line reason)
 answer_of (Err error) = Err error
 
-as_answers : (result : Result Trimmed CheckError) (text : Option Verdict) (steps : List Step) (count : ℕ) → Trims result text steps count
-    → Answers (answer_of result) text
-as_answers (Ok (Steps kept_steps kept total)) text steps count is = is.0
-as_answers (Ok (Refused line reason)) text steps count is = is
-as_answers (Err TooLong) text steps count is = is
-as_answers (Err ReadFault) text steps count is = tt
-as_answers (Err OutOfMemory) text steps count is = tt
+as_answers : (result : Result Trimmed CheckError) (text : Option Verdict) (steps : List Step) (numbers : List ℕ) (count : ℕ)
+    → Trims result text steps numbers count → Answers (answer_of result) text
+as_answers (Ok (Steps kept_steps core kept total)) text steps numbers count is = is.0
+as_answers (Ok (Refused line reason)) text steps numbers count is = is
+as_answers (Err TooLong) text steps numbers count is = is
+as_answers (Err ReadFault) text steps numbers count is = tt
+as_answers (Err OutOfMemory) text steps numbers count is = tt
 
 read_failed : (result : Result Trimmed CheckError) → answer_of result ≡ Err ReadFault → result ≡ Err ReadFault
-read_failed (Ok (Steps steps kept total)) e = absurd (ok_err e)
+read_failed (Ok (Steps steps core kept total)) e = absurd (ok_err e)
 read_failed (Ok (Refused line reason)) e = absurd (ok_err e)
 read_failed (Err TooLong) e = cc
 read_failed (Err ReadFault) e = refl
@@ -126,9 +127,10 @@ judges_of {old = old} {new = new} {clauses = clauses} result trims plenty = reco
     | inr text ↦ inr (record {
       bytes = text.bytes;
       stands = text.stands;
-      judged = as_answers result (text_verdict clauses text.bytes) (trimmed clauses text.bytes) (additions_of_text text.bytes) text.told;
+      judged = as_answers result (text_verdict clauses text.bytes) (trimmed clauses text.bytes) (core_numbers clauses text.bytes)
+          (additions_of_text text.bytes) text.told;
       decided = as_answers result (text_verdict clauses (gained old new)) (trimmed clauses (gained old new))
-          (additions_of_text (gained old new)) text.decided;
+          (core_numbers clauses (gained old new)) (additions_of_text (gained old new)) text.decided;
       memory = λ e. absurd (plenty e);
     })
   ];
@@ -140,26 +142,28 @@ judges_of {old = old} {new = new} {clauses = clauses} result trims plenty = reco
   faults = trims.faults;
 }
 
--- The proof that the words name is verified, and these are the lines of its trimmed form, and the counts.
-pub record VerifiedBy (run : Run) (task : ToRewrite) (problem : Formula) (lines : List ℕ) (kept total : ℕ) : Type 0 where
+-- The proof that the words name is verified, and these are the lines of its trimmed form, those of its core, and the counts.
+pub record VerifiedBy (run : Run) (task : ToTrim) (problem : Formula) (lines core : List ℕ) (kept total : ℕ)
+    : Type 0 where
   pub bytes : List ℕ
   pub stands : run.files task.proof ≡ Some bytes
   pub judged : text_verdict problem.clauses bytes ≡ Some judgement.Verified
   pub verdict : HasVerdict run problem bytes judgement.Verified
   pub lines_are : lines ≡ trim problem.clauses bytes
+  pub core_is : core ≡ core_text (core_numbers problem.clauses bytes)
   pub kept_are : kept ≡ additions (trimmed problem.clauses bytes)
   pub total_is : total ≡ additions_of_text bytes
 
-pub verified : (run : Run) (task : ToRewrite) (problem : Formula) {lines : List ℕ} {kept total : ℕ}
+pub verified : (run : Run) (task : ToTrim) (problem : Formula) {lines core : List ℕ} {kept total : ℕ}
     → command run.words ≡ Some (Trim task) → (IsTrue run.tells → AsksOver run (Trim task) (formula problem))
-    → TrimsProof run.tells (run.before ProofIn) (run.after ProofIn) run.files task.proof problem.clauses (Ok (Steps lines kept total))
-    → IsTrue run.tells → VerifiedBy run task problem lines kept total
-verified run task problem {lines = lines} {kept = kept} {total = total} asked read trims t = by (trimmed_text) where
-  trimmed_text : TrimsText run.files task.proof problem.clauses (taken_in run ProofIn) (Ok (Steps lines kept total))
+    → TrimsProof run.tells (run.before ProofIn) (run.after ProofIn) run.files task.proof problem.clauses (Ok (Steps lines core kept total))
+    → IsTrue run.tells → VerifiedBy run task problem lines core kept total
+verified run task problem {lines = lines} {core = core} {kept = kept} {total = total} asked read trims t = by (trimmed_text) where
+  trimmed_text : TrimsText run.files task.proof problem.clauses (taken_in run ProofIn) (Ok (Steps lines core kept total))
   trimmed_text = elim (trims.read t) [ inl e ↦ absurd (ok_err e) | inr text ↦ text ]
 
-  by : TrimsText run.files task.proof problem.clauses (taken_in run ProofIn) (Ok (Steps lines kept total))
-      → VerifiedBy run task problem lines kept total
+  by : TrimsText run.files task.proof problem.clauses (taken_in run ProofIn) (Ok (Steps lines core kept total))
+      → VerifiedBy run task problem lines core kept total
   by text = record {
     bytes = text.bytes;
     stands = text.stands;
@@ -169,8 +173,9 @@ verified run task problem {lines = lines} {kept = kept} {total = total} asked re
       judged = text.told.0;
     };
     lines_are = text.told.1;
-    kept_are = text.told.2;
-    total_is = text.told.3;
+    core_is = text.told.2;
+    kept_are = text.told.3;
+    total_is = text.told.4;
   }
 
 -- the file of the trimmed proof was not created
@@ -201,3 +206,22 @@ put_whole {old = old} {created = created} {new = new} {text = text} opens ok put
   -- nothing stood in the file
   all : (part : List ℕ) → new.written ≡ created.written ++ part → added old new ≡ part
   all part grown = whole_of old new opens.was_idle.written ∙ grown ∙ ap (λ (l : List ℕ). l ++ part) opens.idle.written
+
+-- a further file: the one that is named, or none
+pub put_named : {tells : Bool} {old new : Channel} {named : Option (List ℕ)} {file text : List ℕ} {answer : Result ⊤ Failed}
+    → named ≡ Some file → PutsFile tells old new file text answer → PutsNamed tells old new named text answer
+put_named {tells = tells} {old = old} {new = new} {text = text} {answer = answer} is puts = record {
+  unasked = λ none. absurd (some_none (sym is ∙ none));
+  asked = λ other names. subst (λ (f : List ℕ). PutsFile tells old new f text answer) (one_file (sym is ∙ names)) puts;
+} where
+  some_none : {here : List ℕ} → ◌≡◌ {A = Option (List ℕ)} (Some here) None → ⊥
+  some_none e = cc
+
+  one_file : {here there : List ℕ} → ◌≡◌ {A = Option (List ℕ)} (Some here) (Some there) → here ≡ there
+  one_file e = cc
+
+pub put_unnamed : {tells : Bool} {channel : Channel} {named : Option (List ℕ)} {text : List ℕ} {x : ⊤} → named ≡ None
+    → PutsNamed tells channel channel named text (Ok x)
+put_unnamed is = record { unasked = λ _. (refl, refl); asked = λ file names. absurd (none_some (sym is ∙ names)) } where
+  none_some : {here : List ℕ} → ◌≡◌ {A = Option (List ℕ)} None (Some here) → ⊥
+  none_some e = cc

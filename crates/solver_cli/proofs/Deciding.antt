@@ -3,7 +3,7 @@ use Rattle.std.proofs.Common.{ℕ, List, refl, IsTrue}
 use Rattle.cnf_base.specs.Formula.{Formula}
 use Rattle.host_io.specs.Files.{Files}
 use Rattle.schedule_plan.specs.declared.plan.Move.{Move}
-use Rattle.command_line.specs.Command.{Command, Solve, Check, Bench, Make, Arrange, Convert, Trim}
+use Rattle.command_line.specs.Command.{Command, Solve, Check, Bench, Make, Arrange, Ask, Convert, Trim}
 use Rattle.solver_cli.specs.Answer.{AreGiven}
 use Rattle.solver_cli.specs.Run.{Run, GivesDecision, AsksFor, decides}
 
@@ -14,6 +14,7 @@ given_decides files (Check task) problem order moves given = absurd given
 given_decides files (Bench task) problem order moves given = refl
 given_decides files (Make task) problem order moves given = absurd given
 given_decides files (Arrange task) problem order moves given = absurd given
+given_decides files (Ask task) problem order moves given = absurd given
 given_decides files (Convert task) problem order moves given = absurd given
 given_decides files (Trim task) problem order moves given = absurd given
 

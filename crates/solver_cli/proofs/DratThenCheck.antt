@@ -1,9 +1,8 @@
 -- The proof that `drat` left is verified by `check --format drat`.
-use Rattle.std.proofs.Common.{◌≡◌, ◌<◌, ◌≤◌, ℕ, ℤ, List, length, refl, sym, ap, ◌∙◌, subst, arith, Some, None}
-use Rattle.std.specs.Prelude.{Option}
+use Rattle.std.proofs.Common.{◌≡◌, ◌<◌, ◌≤◌, ℕ, List, length, refl, sym, ap, ◌∙◌, subst, Some, None}
+use Rattle.std.specs.Prelude.{Bool, Option}
 use Rattle.cnf_base.specs.Formula.{Formula}
 use Rattle.cnf_base.specs.Limits.{max_vars}
-use Rattle.cnf_base.specs.ProofText.{max_literal}
 use Rattle.cnf_base.specs.Truth.{AreClausesOf}
 use Rattle.dimacs_reader.specs.Cnf.{cnf, formula}
 use Rattle.dimacs_reader.specs.declared.mode.Mode.{Mode}
@@ -12,27 +11,28 @@ use Rattle.lrat_rules.specs.declared.outcome.Reason.{Reason}
 use Rattle.lrat_checker.specs.declared.verdict.Verdict.{Verdict}
 use Rattle.lrat_checker.specs.declared.verdict.Verdict.TheVariants as judgement
 use Rattle.lrat_checker.specs.TextVerdict.{max_bytes, text_verdict}
-use Rattle.drat_proof.specs.Drat.{drat}
+use Rattle.drat_proof.specs.Drat.{named_drat}
 use Rattle.drat_checker.specs.DratVerdict.{drat_text_verdict}
 use Rattle.command_line.specs.declared.format.ProofFormat.{ProofFormat}
 use Rattle.command_line.specs.Command.{Command, Check, Convert, format_of}
 use Rattle.solver_cli.specs.Answer.{IsRead}
 use Rattle.solver_cli.specs.Format.{verdict_in, IsRefusedIn}
 use Rattle.solver_cli.specs.Headline.{IsVerified, Promises}
-use Rattle.solver_cli.specs.Run.{Run, written_in, AsksOver, AsksToJudge, IsConverted}
+use Rattle.solver_cli.specs.Run.{Run, written_in, AsksOver, AsksToJudge, IsConverted, has_new_names}
 use Rattle.solver_cli.specs.SolveThenCheck.{MayEnd}
 use Rattle.solver_cli.specs.DratThenCheck.{ChecksConverted}
 use Rattle.solver_cli.proofs.Facts.{same_command}
 use Rattle.solver_cli.proofs.CheckEnds.{ends as check_ends}
 
--- what is used of `cnf_law` and `drat_law`
+-- what is used of `cnf_law`, `drat_law` and `fresh_drat_law`
 pub record Laws : Type 0 where
   pub few : (mode : Mode) (bytes : List ℕ) (problem : Formula) → cnf mode bytes ≡ formula problem → problem.vars ≤ max_vars
   pub literals : (mode : Mode) (bytes : List ℕ) (problem : Formula) → cnf mode bytes ≡ formula problem
       → AreClausesOf problem.vars problem.clauses
-  pub written : (vars : ℕ) (clauses : List (List ℤ)) (bytes : List ℕ) → vars ≤ max_literal → AreClausesOf vars clauses
-      → text_verdict clauses bytes ≡ Some judgement.Verified → length (drat clauses bytes) ≤ max_bytes
-      → drat_text_verdict clauses (drat clauses bytes) ≡ Some judgement.Verified
+  pub written : (new_names : Bool) (problem : Formula) (bytes : List ℕ) → problem.vars ≤ max_vars
+      → AreClausesOf problem.vars problem.clauses → text_verdict problem.clauses bytes ≡ Some judgement.Verified
+      → length (named_drat new_names problem bytes) ≤ max_bytes
+      → drat_text_verdict problem.clauses (named_drat new_names problem bytes) ≡ Some judgement.Verified
 
 pub ends : Laws → (converted run : Run) → Promises converted → Promises run → ChecksConverted converted run
     → MayEnd run (written_in converted ProofOut) run.status
@@ -86,8 +86,8 @@ ends laws converted run first second asks =
 
       by_drat : drat_text_verdict problem.clauses bytes ≡ Some judgement.Verified
       by_drat = subst (λ (b : List ℕ). drat_text_verdict problem.clauses b ≡ Some judgement.Verified) (sym whole.written)
-          (laws.written problem.vars problem.clauses verified.bytes
-          (omega (arith, laws.few asks.drat.mode of_file.bytes problem of_file.says))
+          (laws.written (has_new_names converted) problem verified.bytes
+          (laws.few asks.drat.mode of_file.bytes problem of_file.says)
           (laws.literals asks.drat.mode of_file.bytes problem of_file.says) by_lrat
           (subst (λ (b : List ℕ). length b ≤ max_bytes) whole.written asks.fits))
 

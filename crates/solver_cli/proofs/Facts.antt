@@ -12,11 +12,12 @@ use Rattle.dimacs_reader.specs.Cnf.{CnfText, formula}
 use Rattle.solver_cli.specs.declared.status.Status.{Status}
 use Rattle.solver_cli.specs.declared.status.Status.TheVariants.{WriteFault, OutOfMemory}
 use Rattle.solver_cli.specs.ErrorText.{is_answer}
-use Rattle.command_line.specs.Command.{Command, ToSolve, ToCheck, ToMake, ToOrder, Solve, Check, Bench, Make, Arrange, Convert, Trim}
+use Rattle.command_line.specs.Command.{Command, ToSolve, ToCheck, ToMake, ToOrder, Solve, Check, Bench, Make, Arrange, Ask, Convert, Trim}
 use Rattle.command_line.specs.Command.{formula_file}
 use Rattle.command_line.specs.Command.{Meaning, Asks}
 use Rattle.command_line.specs.Command.{AsksHelp, Misuse, IsOneOf, MayMean, CanOnlyMean, meanings, only_command, command}
 use Rattle.solver_cli.specs.ExitCode.{status_of_run}
+use Rattle.host_io.specs.declared.role.Role.{Role}
 use Rattle.host_io.specs.declared.role.Role.TheVariants.{ProofIn}
 use Rattle.solver_cli.specs.Run.{decides, name_given}
 
@@ -77,13 +78,18 @@ pub decided_apart : {words : Option Command} {asked other : Command} → words �
     → decides other ≡ false → ⊥
 decided_apart here is there never = true≢false (sym is ∙ ap decides (same_command here there) ∙ never)
 
+-- a command that names a file in a role, and one that doesn't
+pub named_apart : (role : Role) {words : Option Command} {asked other : Command} {file : List ℕ} → words ≡ Some asked
+    → name_given role asked ≡ Some file → words ≡ Some other → name_given role other ≡ None → ⊥
+named_apart role {file = file} here named there none =
+    apart (sym named ∙ ap (name_given role) (same_command here there) ∙ none) where
+      apart : ◌≡◌ {A = Option (List ℕ)} (Some file) None → ⊥
+      apart e = cc
+
 -- a command that judges a proof, and one that doesn't
 pub judged_apart : {words : Option Command} {asked other : Command} {file : List ℕ} → words ≡ Some asked → name_given ProofIn asked
     ≡ Some file → words ≡ Some other → name_given ProofIn other ≡ None → ⊥
-judged_apart {file = file} here named there none =
-    apart (sym named ∙ ap (name_given ProofIn) (same_command here there) ∙ none) where
-      apart : ◌≡◌ {A = Option (List ℕ)} (Some file) None → ⊥
-      apart e = cc
+judged_apart = named_apart ProofIn
 
 pub decided_unjudged : (asked : Command) → IsTrue (decides asked) → name_given ProofIn asked ≡ None
 decided_unjudged (Solve task) is = refl
@@ -91,6 +97,7 @@ decided_unjudged (Check task) is = cc
 decided_unjudged (Bench task) is = refl
 decided_unjudged (Make task) is = refl
 decided_unjudged (Arrange task) is = refl
+decided_unjudged (Ask task) is = refl
 decided_unjudged (Convert task) is = cc
 decided_unjudged (Trim task) is = cc
 

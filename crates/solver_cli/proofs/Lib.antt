@@ -22,6 +22,9 @@ pub mod Cut
 pub mod StagedTrim
 pub mod Trimmings
 pub mod Texts
+pub mod Questions
+pub mod StagedAsk
+pub mod Numbered
 pub mod Served
 pub mod Named
 pub mod Told

@@ -39,7 +39,7 @@ kept_but kept = record { others = λ other apart _. kept.others other apart; fil
 
 -- the inputs are those of the host
 pub of_muted : {old new : Role → Channel} → LeavesInputs (muted old) (muted new) → LeavesInputs old new
-of_muted p = record { cnf = p.cnf; order = p.order; buckets = p.buckets; schedule = p.schedule; judged = p.judged; made = p.made }
+of_muted p = record { cnf = p.cnf; order = p.order; buckets = p.buckets; schedule = p.schedule; judged = p.judged; cubes = p.cubes; made = p.made }
 
 pub muted_inputs : {old new : Role → Channel} → LeavesInputs old new → LeavesInputs (muted old) (muted new)
-muted_inputs p = record { cnf = p.cnf; order = p.order; buckets = p.buckets; schedule = p.schedule; judged = p.judged; made = p.made }
+muted_inputs p = record { cnf = p.cnf; order = p.order; buckets = p.buckets; schedule = p.schedule; judged = p.judged; cubes = p.cubes; made = p.made }

@@ -4,10 +4,10 @@ use Rattle.std.proofs.Common.{true≢false, append-nil, append_assoc, arith}
 use Rattle.std.specs.Prelude.{Option, Result, ⊤, ◌⊎◌, ◌≢◌}
 use Rattle.host_io.specs.Channel.{Channel, Rose}
 use Rattle.host_io.specs.declared.role.Role.{Role}
-use Rattle.host_io.specs.declared.role.Role.TheVariants.{Cnf, Order, Buckets, Schedule, ProofIn, ProofOut, Made, Out, Err as ErrRole}
+use Rattle.host_io.specs.declared.role.Role.TheVariants.{Cnf, Order, Buckets, Schedule, ProofIn, Cubes, ProofOut, Made, Out, Err as ErrRole}
 use Rattle.host_io.specs.declared.source.Failed.{Failed}
 use Rattle.cnf_base.specs.Formula.{Formula}
-use Rattle.command_line.specs.Command.{Command, ToSolve, ToCheck, ToBench, ToMake, ToOrder, ToRewrite, Solve, Check, Bench, Make, Arrange}
+use Rattle.command_line.specs.Command.{Command, ToSolve, ToAsk, ToCheck, ToBench, ToMake, ToOrder, ToConvert, ToTrim, Solve, Ask, Check, Bench, Make, Arrange}
 use Rattle.command_line.specs.Command.{Convert, Trim, formula_file, mode_of}
 use Rattle.command_line.specs.Command.{command, progress_asked}
 use Rattle.term_runner.specs.declared.outcome.Outcome.{Outcome}
@@ -17,12 +17,17 @@ use Rattle.term_runner.specs.declared.error.RunError.{RunError}
 use Rattle.term_runner.specs.declared.error.RunError.TheVariants as run_error
 use Rattle.solver_cli.specs.declared.status.Status.{Status}
 use Rattle.solver_cli.specs.declared.status.Status.TheVariants.{Done, Verified, WriteFault}
+use Rattle.cube_text.specs.CubeText.{cubes as given_cubes}
+use Rattle.cube_queries.specs.declared.answer.Outcome.{Outcome as Replies}
+use Rattle.cube_queries.specs.declared.answer.Outcome.TheVariants as replies
+use Rattle.solver_cli.specs.Replies.{status_of_replies}
 use Rattle.solver_cli.specs.Answer.{status_of}
 use Rattle.solver_cli.specs.ExitCode.{status_of_convert, status_of_run}
 use Rattle.solver_cli.specs.Verdict.{status_of_verdict}
 use Rattle.lrat_checker.specs.declared.verdict.Verdict.{Verdict}
 use Rattle.lrat_checker.specs.declared.verdict.Verdict.TheVariants as judgement
 use Rattle.lrat_checker.specs.declared.verdict.CheckError.TheVariants as check_error
+use Rattle.drat_text.specs.declared.step.DratStep.{DratStep}
 use Rattle.drat_proof.specs.declared.error.ConvertError.{ConvertError}
 use Rattle.drat_proof.specs.declared.error.ConvertError.TheVariants as convert_error
 use Rattle.solver_cli.specs.DratProof.{RewritesProof}
@@ -31,19 +36,23 @@ use Rattle.schedule_plan.specs.declared.order_error.OrderError.{OrderError}
 use Rattle.schedule_plan.specs.declared.schedule.error.PlanError.{PlanError}
 use Rattle.solver_cli.specs.declared.basis.Basis.{Basis}
 use Rattle.solver_cli.specs.Phases.{HasOrder, HasBuckets, HasPlan, Complains, buckets_file}
+use Rattle.solver_cli.specs.TrimmedProof.{PutsNamed}
 use Rattle.solver_cli.specs.Stages.{Streams, FilesBeside, Helped, Job, NoneRead, Untaken, streams_of, Came, CameToAnswer, CameToArrange}
 use Rattle.solver_cli.specs.Stages.{CameToBench, CameToCheck, CameToConvert, CameToKeep, CameToMake, CameToTrim, CameToWrite, Stages}
 use Rattle.solver_cli.specs.Stages.{status_after, status_of_printed, status_of_written}
+use Rattle.solver_cli.specs.Stages.{CameToAsk, CameToReply, ask_job, status_after_replies}
 use Rattle.drat_proof.specs.TwoRoles.{added}
 use Rattle.solver_cli.specs.Comments.{are_comments, are_comments_so_far}
 use Rattle.solver_cli.specs.Progress.{Comments, IsTold}
 use Rattle.solver_cli.specs.Headline.{ErrorStands, NamesAreGiven, ends_before_proof}
+use Rattle.solver_cli.specs.Run.{AsksByCubes, GivesAsk}
 use Rattle.solver_cli.specs.Run.{Run, GivesConversion, GivesDecision, GivesTrimming, AsksFor, AsksToConvert, HasVerdict, name_given}
 use Rattle.solver_cli.specs.Faults.{ConvertsAsItReads, ends_in_proof}
-use Rattle.solver_cli.proofs.Facts.{behind, decided_apart, grown_by, same_command}
+use Rattle.solver_cli.proofs.Facts.{behind, decided_apart, grown_by, named_apart, same_command}
 use Rattle.solver_cli.proofs.Cut.{verified}
 use Rattle.solver_cli.proofs.Untaken.{took}
 use Rattle.solver_cli.proofs.Served.{order_name, buckets_name, plan_name}
+use Rattle.solver_cli.proofs.Questions.{questions_of}
 use Rattle.solver_cli.proofs.Accepted.{Posed, asks_for, decision, posed_by_board, posed_by_files}
 
 -- a role has no name, or the one that the words give it
@@ -55,7 +64,9 @@ IsNamed run role = ((run.after role).name ≡ None) ⊎ ((asked : Command) × (c
 abbrev pub IsAccepted : Run → Type 0
 IsAccepted run = (run.after ProofOut).name ≢ None → (GivesDecision run × (IsTrue run.tells → (problem : Formula) × AsksFor run problem))
     ⊎ ((GivesConversion run × (IsTrue run.tells → AsksToConvert run))
-    ⊎ (GivesTrimming run × (IsTrue run.tells → (problem : Formula) × (bytes : List ℕ) × HasVerdict run problem bytes judgement.Verified)))
+    ⊎ ((GivesTrimming run × (IsTrue run.tells → (problem : Formula) × (bytes : List ℕ) × HasVerdict run problem bytes judgement.Verified))
+    ⊎ (GivesAsk run × (IsTrue run.tells → (problem : Formula) × (order : List ℕ) × (cubes : List (List ℤ))
+    × AsksByCubes run problem order (given_cubes cubes)))))
 
 -- and where it is a DRAT proof, only where the proof that it is made of was opened
 abbrev pub IsOpened : Run → Type 0
@@ -70,9 +81,10 @@ abbrev pub IsReadFirst : Run → Type 0
 IsReadFirst run = IsTrue (ends_before_proof run.status) → ((run.after ProofOut).name ≡ None) ⊎ (ConvertsAsItReads run
     ⊎ (GivesTrimming run × (run.status ≡ Verified)))
 
--- the made file has a name only where the text was written, or a call failed
+-- the made file has a name only where the text was written, or a call failed, or a core was written
 abbrev pub IsFinished : Run → Type 0
-IsFinished run = (run.after Made).name ≢ None → (run.status ≡ Done) ⊎ (run.status ≡ WriteFault)
+IsFinished run = (run.after Made).name ≢ None → (run.status ≡ Done)
+    ⊎ ((run.status ≡ WriteFault) ⊎ (GivesTrimming run × (run.status ≡ Verified)))
 
 pub record StreamNames (run : Run) : Type 0 where
   pub cnf : IsNamed run Cnf
@@ -80,6 +92,7 @@ pub record StreamNames (run : Run) : Type 0 where
   pub buckets : IsNamed run Buckets
   pub schedule : IsNamed run Schedule
   pub judged : IsNamed run ProofIn
+  pub cubes : IsNamed run Cubes
   pub proof : IsNamed run ProofOut
   pub made : IsNamed run Made
   pub out : IsNamed run Out
@@ -128,12 +141,12 @@ left_made : (run : Run) → run.after Made ≡ run.before Made → (run.before M
 left_made run same none = let now = name_of same none in record { named = inl now; finished = unnamed_made run now }
 
 -- the order's file, that of the buckets, and the schedule's
-given_order : (run : Run) (task : ToSolve) → command run.words ≡ Some (Solve task) → (run.before Order).name ≡ None
+given_order : (run : Run) (asked : Command) → command run.words ≡ Some asked → (run.before Order).name ≡ None
     → {result : Result (List ℕ) OrderError} {vars : ℕ}
-    → HasOrder vars task.order run.tells (run.before Order) (run.after Order) run.files result → IsNamed run Order
-given_order run task asked unnamed has = elim (order_name task.order has) [
+    → HasOrder vars (name_given Order asked) run.tells (run.before Order) (run.after Order) run.files result → IsNamed run Order
+given_order run asked gives unnamed has = elim (order_name (name_given Order asked) has) [
   | inl same ↦ inl (same ∙ unnamed)
-  | inr other ↦ elim other [ inl named ↦ inr (Solve task, asked, named) | inr none ↦ inl none ]
+  | inr other ↦ elim other [ inl named ↦ inr (asked, gives, named) | inr none ↦ inl none ]
 ]
 
 given_buckets : (run : Run) (task : ToSolve) → command run.words ≡ Some (Solve task) → (run.before Buckets).name ≡ None
@@ -220,6 +233,7 @@ record InputNames (run : Run) : Type 0 where
   pub buckets : IsNamed run Buckets
   pub schedule : IsNamed run Schedule
   pub judged : IsNamed run ProofIn
+  pub cubes : IsNamed run Cubes
 
 quiet_names : (run : Run) → ((role : Role) → (run.before role).name ≡ None) → NoneCreated run → InputNames run → StreamNames run
 quiet_names run unnamed none inputs =
@@ -231,6 +245,7 @@ quiet_names run unnamed none inputs =
       buckets = inputs.buckets;
       schedule = inputs.schedule;
       judged = inputs.judged;
+      cubes = inputs.cubes;
       proof = inl proof;
       made = unmade.named;
       out = inl (name_of none.out (unnamed Out));
@@ -250,6 +265,7 @@ unread_names run unnamed none = record {
   buckets = inl (name_of none.buckets (unnamed Buckets));
   schedule = inl (name_of none.schedule (unnamed Schedule));
   judged = inl (name_of none.judged (unnamed ProofIn));
+  cubes = inl (name_of none.cubes (unnamed Cubes));
 }
 
 answered_names : (run : Run) {problem : Formula} {order : List ℕ} {moves : List Move} {job : Job}
@@ -267,6 +283,7 @@ answered_names run unnamed posed asked gives named inputs came =
       buckets = inputs.buckets;
       schedule = inputs.schedule;
       judged = inputs.judged;
+      cubes = inputs.cubes;
       proof = names.proof;
       made = unmade.named;
       out = names.out;
@@ -290,6 +307,7 @@ same_names run unnamed same = quiet_names run unnamed
       buckets = ap (λ (s : Streams). s.buckets) same;
       schedule = ap (λ (s : Streams). s.schedule) same;
       judged = ap (λ (s : Streams). s.judged) same;
+      cubes = ap (λ (s : Streams). s.cubes) same;
     }))
 
 helped_names : (run : Run) → ((role : Role) → (run.before role).name ≡ None)
@@ -302,6 +320,7 @@ helped_names run unnamed h =
       buckets = h.buckets;
       schedule = h.schedule;
       judged = h.judged;
+      cubes = h.cubes;
     }) in
     record {
       cnf = inputs.cnf;
@@ -309,6 +328,7 @@ helped_names run unnamed h =
       buckets = inputs.buckets;
       schedule = inputs.schedule;
       judged = inputs.judged;
+      cubes = inputs.cubes;
       proof = inl (name_of h.proof (unnamed ProofOut));
       made = unmade.named;
       out = inl (h.shows.puts.only.name ∙ unnamed Out);
@@ -329,6 +349,7 @@ untaken_names run asked file unnamed gives named u = quiet_names run unnamed (re
       buckets = inl (name_of u.buckets (unnamed Buckets));
       schedule = inl (name_of u.schedule (unnamed Schedule));
       judged = inl (name_of u.judged (unnamed ProofIn));
+      cubes = inl (name_of u.cubes (unnamed Cubes));
     })
 
 solve_names : (run : Run) (task : ToSolve) → ((role : Role) → (run.before role).name ≡ None) → command run.words ≡ Some (Solve task)
@@ -337,36 +358,40 @@ solve_names run task unnamed asked (inl u) = untaken_names run (Solve task) task
 solve_names run task unnamed asked (inr (inl u)) = quiet_names run unnamed (record { proof = u.proof; made = u.made; out = u.out })
     (record {
       cnf = given run (Solve task) task.file asked refl u.takes.name;
-      order = given_order run task asked (unnamed Order) u.orders;
+      order = given_order run (Solve task) asked (unnamed Order) u.orders;
       buckets = inl (name_of u.buckets (unnamed Buckets));
       schedule = inl (name_of u.schedule (unnamed Schedule));
       judged = inl (name_of u.judged (unnamed ProofIn));
+      cubes = inl (name_of u.cubes (unnamed Cubes));
     })
 solve_names run task unnamed asked (inr (inr (inl u))) = quiet_names run unnamed (record { proof = u.proof; made = u.made; out = u.out })
     (record {
       cnf = given run (Solve task) task.file asked refl u.takes.name;
-      order = given_order run task asked (unnamed Order) u.orders;
+      order = given_order run (Solve task) asked (unnamed Order) u.orders;
       buckets = given_buckets run task asked (unnamed Buckets) u.bucketed;
       schedule = inl (name_of u.schedule (unnamed Schedule));
       judged = inl (name_of u.judged (unnamed ProofIn));
+      cubes = inl (name_of u.cubes (unnamed Cubes));
     })
 solve_names run task unnamed asked (inr (inr (inr (inl u)))) = quiet_names run unnamed
     (record { proof = u.proof; made = u.made; out = u.out })
     (record {
       cnf = given run (Solve task) task.file asked refl u.takes.name;
-      order = given_order run task asked (unnamed Order) u.orders;
+      order = given_order run (Solve task) asked (unnamed Order) u.orders;
       buckets = given_buckets run task asked (unnamed Buckets) u.bucketed;
       schedule = given_schedule run task asked (unnamed Schedule) u.plans;
       judged = inl (name_of u.judged (unnamed ProofIn));
+      cubes = inl (name_of u.cubes (unnamed Cubes));
     })
 solve_names run task unnamed asked (inr (inr (inr (inr s)))) = answered_names run unnamed (posed_by_files run task asked s.prepared)
     (Solve task) asked refl
     (record {
       cnf = given run (Solve task) task.file asked refl s.prepared.takes.name;
-      order = given_order run task asked (unnamed Order) s.prepared.orders;
+      order = given_order run (Solve task) asked (unnamed Order) s.prepared.orders;
       buckets = given_buckets run task asked (unnamed Buckets) s.prepared.bucketed;
       schedule = given_schedule run task asked (unnamed Schedule) s.prepared.plans;
       judged = inl (name_of s.prepared.judged (unnamed ProofIn));
+      cubes = inl (name_of s.prepared.cubes (unnamed Cubes));
     })
     s.came
 
@@ -380,6 +405,7 @@ check_names run task unnamed asked (inr (inl u)) = quiet_names run unnamed (reco
       buckets = inl (name_of u.buckets (unnamed Buckets));
       schedule = inl (name_of u.schedule (unnamed Schedule));
       judged = given_judged run (Check task) task.proof asked refl u.judges.name;
+      cubes = inl (name_of u.cubes (unnamed Cubes));
     })
 check_names run task unnamed asked (inr (inr j)) =
     let unmade = left_made run j.made (unnamed Made) in
@@ -389,6 +415,7 @@ check_names run task unnamed asked (inr (inr j)) =
       buckets = inl (name_of j.buckets (unnamed Buckets));
       schedule = inl (name_of j.schedule (unnamed Schedule));
       judged = given_judged run (Check task) task.proof asked refl j.judges.name;
+      cubes = inl (name_of j.cubes (unnamed Cubes));
       proof = inl (name_of j.proof (unnamed ProofOut));
       made = unmade.named;
       out = inl (j.puts.only.name ∙ unnamed Out);
@@ -435,6 +462,7 @@ made_names run asked {file = file} unnamed gives named inputs proof out came = r
   buckets = inputs.buckets;
   schedule = inputs.schedule;
   judged = inputs.judged;
+  cubes = inputs.cubes;
   proof = inl (name_of proof (unnamed ProofOut));
   made = given_made run asked file gives named (write_named came);
   out = inl (name_of out (unnamed Out));
@@ -442,7 +470,7 @@ made_names run asked {file = file} unnamed gives named inputs proof out came = r
   accepted = unnamed_proof run (name_of proof (unnamed ProofOut));
   opened = unnamed_opened run (name_of proof (unnamed ProofOut));
   trimmed = unnamed_trimmed run (name_of proof (unnamed ProofOut));
-  finished = λ _. write_ends came;
+  finished = λ _. elim (write_ends came) [ inl done ↦ inl done | inr fault ↦ inr (inl fault) ];
 }
 
 make_names : (run : Run) (task : ToMake) → ((role : Role) → (run.before role).name ≡ None) → command run.words ≡ Some (Make task)
@@ -462,6 +490,7 @@ arrange_names run task unnamed asked (inr (inl u)) = quiet_names run unnamed
       buckets = inl (name_of u.alone.buckets (unnamed Buckets));
       schedule = inl (name_of u.alone.schedule (unnamed Schedule));
       judged = inl (name_of u.alone.judged (unnamed ProofIn));
+      cubes = inl (name_of u.alone.cubes (unnamed Cubes));
     })
 arrange_names run task unnamed asked (inr (inr a)) = made_names run (Arrange task) unnamed asked refl
     (record {
@@ -470,14 +499,15 @@ arrange_names run task unnamed asked (inr (inr a)) = made_names run (Arrange tas
       buckets = inl (name_of a.alone.buckets (unnamed Buckets));
       schedule = inl (name_of a.alone.schedule (unnamed Schedule));
       judged = inl (name_of a.alone.judged (unnamed ProofIn));
+      cubes = inl (name_of a.alone.cubes (unnamed Cubes));
     })
     a.alone.proof a.alone.out a.came
 
 -- how a conversion ends that came to no verdict, and one that did
-unconverted_first : (run : Run) {task : ToRewrite} {clauses : List (List ℤ)} → command run.words ≡ Some (Convert task)
+unconverted_first : (run : Run) {task : ToConvert} {clauses : List (List ℤ)} {becomes : List ℕ → List DratStep} → command run.words ≡ Some (Convert task)
     → (error : ConvertError)
     → RewritesProof run.tells (run.before ProofIn) (run.after ProofIn) (run.before ProofOut) (run.after ProofOut) run.files task.proof task.out
-    clauses (Err error) → run.status ≡ status_of_convert error → IsReadFirst run
+    clauses becomes (Err error) → run.status ≡ status_of_convert error → IsReadFirst run
 unconverted_first run {task = task} asked convert_error.ReadFault rewrites ends before =
     inr (inl ((task, asked), inl ((rewrites.judges (Err check_error.ReadFault) refl).fault refl)))
 unconverted_first run {task = task} asked convert_error.TooLong rewrites ends before = inr (inl ((task, asked), inr (ap ends_in_proof ends)))
@@ -488,16 +518,16 @@ ends_judged : (verdict : Verdict) → ends_in_proof (status_of_verdict verdict) 
 ends_judged judgement.Verified = refl
 ends_judged (judgement.Refused line reason) = refl
 
-converted_first : (run : Run) {task : ToRewrite} → command run.words ≡ Some (Convert task) → (verdict : Verdict)
+converted_first : (run : Run) {task : ToConvert} → command run.words ≡ Some (Convert task) → (verdict : Verdict)
     → (printed : Result ⊤ Failed) → run.status ≡ status_of_printed verdict printed → IsReadFirst run
 converted_first run {task = task} asked verdict (Ok x) ends before =
     inr (inl ((task, asked), inr (ap ends_in_proof ends ∙ ends_judged verdict)))
 converted_first run asked verdict (Err e) ends before = later run.status (ap ends_before_proof ends) before
 
-no_trimming : {task other : ToRewrite} → Convert task ≡ Trim other → ⊥
+no_trimming : {task : ToConvert} {other : ToTrim} → Convert task ≡ Trim other → ⊥
 no_trimming e = cc
 
-convert_names : (run : Run) (task : ToRewrite) → ((role : Role) → (run.before role).name ≡ None) → command run.words ≡ Some (Convert task)
+convert_names : (run : Run) (task : ToConvert) → ((role : Role) → (run.before role).name ≡ None) → command run.words ≡ Some (Convert task)
     → CameToConvert run.tells (streams_of run.before) (streams_of run.after) run.files task run.status → StreamNames run
 convert_names run task unnamed asked (inl u) = untaken_names run (Convert task) task.file unnamed asked refl u
 convert_names run task unnamed asked (inr (inl u)) =
@@ -508,6 +538,7 @@ convert_names run task unnamed asked (inr (inl u)) =
       buckets = inl (name_of u.buckets (unnamed Buckets));
       schedule = inl (name_of u.schedule (unnamed Schedule));
       judged = given_judged run (Convert task) task.proof asked refl u.rewrites.read_name;
+      cubes = inl (name_of u.cubes (unnamed Cubes));
       proof = given_proof run (Convert task) task.out asked refl u.rewrites.name;
       made = unmade.named;
       out = inl (name_of u.out (unnamed Out));
@@ -525,6 +556,7 @@ convert_names run task unnamed asked (inr (inr c)) =
       buckets = inl (name_of c.buckets (unnamed Buckets));
       schedule = inl (name_of c.schedule (unnamed Schedule));
       judged = given_judged run (Convert task) task.proof asked refl c.rewrites.read_name;
+      cubes = inl (name_of c.cubes (unnamed Cubes));
       proof = given_proof run (Convert task) task.out asked refl c.rewrites.name;
       made = unmade.named;
       out = inl (c.puts.only.name ∙ unnamed Out);
@@ -536,7 +568,7 @@ convert_names run task unnamed asked (inr (inr c)) =
     }
 
 -- how the verdict on a trimmed proof ends the run
-verified_first : (run : Run) {task : ToRewrite} → command run.words ≡ Some (Trim task) → (printed : Result ⊤ Failed)
+verified_first : (run : Run) {task : ToTrim} → command run.words ≡ Some (Trim task) → (printed : Result ⊤ Failed)
     → run.status ≡ status_of_printed judgement.Verified printed → IsReadFirst run
 verified_first run {task = task} asked (Ok x) ends before = inr (inr ((task, asked), ends))
 verified_first run asked (Err e) ends before = later run.status (ap ends_before_proof ends) before
@@ -546,34 +578,55 @@ verified_ends : {status : Status} (printed : Result ⊤ Failed) → status ≡ s
 verified_ends (Ok x) ends = inl ends
 verified_ends (Err e) ends = inr ends
 
--- the names of the two streams that a trimmed proof and the verdict are written to
+-- that of the core's file
+given_core : (run : Run) (task : ToTrim) → command run.words ≡ Some (Trim task) → (run.before Made).name ≡ None
+    → (named : Option (List ℕ)) → task.core ≡ named → {core : List ℕ} {answer : Result ⊤ Failed}
+    → PutsNamed run.tells (run.before Made) (run.after Made) named core answer → IsNamed run Made
+given_core run task asked unnamed None same puts = inl (name_of (puts.unasked refl).0 unnamed)
+given_core run task asked unnamed (Some file) same puts = elim (puts.asked file refl).name [
+  | inl some ↦ inr (Trim task, asked, some ∙ sym same)
+  | inr none ↦ inl none
+]
+
+-- the names of the three streams that a trimmed proof, its core and the verdict are written to
 record KeptNames (run : Run) : Type 0 where
   pub proof : IsNamed run ProofOut
+  pub made : IsNamed run Made
   pub out : IsNamed run Out
   pub read_first : IsReadFirst run
   pub trimmed : (run.status ≡ Verified) ⊎ (run.status ≡ WriteFault)
 
-kept_names : (run : Run) (task : ToRewrite) {text : List ℕ} {kept total : ℕ} → command run.words ≡ Some (Trim task)
-    → (run.before Out).name ≡ None
-    → CameToKeep run.tells (run.before ProofOut) (run.after ProofOut) (run.before Out) (run.after Out) task.out text kept total run.status
+kept_names : (run : Run) (task : ToTrim) {text core : List ℕ} {kept total : ℕ} → command run.words ≡ Some (Trim task)
+    → (run.before Made).name ≡ None → (run.before Out).name ≡ None
+    → CameToKeep run.tells (run.before ProofOut) (run.after ProofOut) (run.before Made) (run.after Made) (run.before Out) (run.after Out)
+    task.out text task.core core kept total run.status
     → KeptNames run
-kept_names run task asked unnamed (inl u) = record {
+kept_names run task asked unmade unnamed (inl u) = record {
   proof = given_proof run (Trim task) task.out asked refl u.puts.name;
+  made = inl (name_of u.unmade unmade);
   out = inl (name_of u.same unnamed);
   read_first = later run.status (ap ends_before_proof u.ends);
   trimmed = inr u.ends;
 }
-kept_names run task asked unnamed (inr k) = record {
+kept_names run task asked unmade unnamed (inr (inl u)) = record {
+  proof = given_proof run (Trim task) task.out asked refl u.puts.name;
+  made = given_core run task asked unmade task.core refl u.cored;
+  out = inl (name_of u.same unnamed);
+  read_first = later run.status (ap ends_before_proof u.ends);
+  trimmed = inr u.ends;
+}
+kept_names run task asked unmade unnamed (inr (inr k)) = record {
   proof = given_proof run (Trim task) task.out asked refl k.puts.name;
+  made = given_core run task asked unmade task.core refl k.cored;
   out = inl (k.shows.puts.only.name ∙ unnamed);
   read_first = verified_first run asked k.shows.printed k.shows.ends;
   trimmed = verified_ends k.shows.printed k.shows.ends;
 }
 
-no_conversion : {task other : ToRewrite} → Trim task ≡ Convert other → ⊥
+no_conversion : {task : ToTrim} {other : ToConvert} → Trim task ≡ Convert other → ⊥
 no_conversion e = cc
 
-trim_names : (run : Run) (task : ToRewrite) → ((role : Role) → (run.before role).name ≡ None) → command run.words ≡ Some (Trim task)
+trim_names : (run : Run) (task : ToTrim) → ((role : Role) → (run.before role).name ≡ None) → command run.words ≡ Some (Trim task)
     → CameToTrim run.tells (streams_of run.before) (streams_of run.after) run.files task run.status → StreamNames run
 trim_names run task unnamed asked (inl u) = untaken_names run (Trim task) task.file unnamed asked refl u
 trim_names run task unnamed asked (inr (inl u)) = quiet_names run unnamed (record { proof = u.proof; made = u.made; out = u.out })
@@ -583,6 +636,7 @@ trim_names run task unnamed asked (inr (inl u)) = quiet_names run unnamed (recor
       buckets = inl (name_of u.buckets (unnamed Buckets));
       schedule = inl (name_of u.schedule (unnamed Schedule));
       judged = given_judged run (Trim task) task.proof asked refl u.trims.name;
+      cubes = inl (name_of u.cubes (unnamed Cubes));
     })
 trim_names run task unnamed asked (inr (inr (inl r))) =
     let unmade = left_made run r.made (unnamed Made) in
@@ -592,6 +646,7 @@ trim_names run task unnamed asked (inr (inr (inl r))) =
       buckets = inl (name_of r.buckets (unnamed Buckets));
       schedule = inl (name_of r.schedule (unnamed Schedule));
       judged = given_judged run (Trim task) task.proof asked refl r.trims.name;
+      cubes = inl (name_of r.cubes (unnamed Cubes));
       proof = inl (name_of r.proof (unnamed ProofOut));
       made = unmade.named;
       out = inl (r.shows.puts.only.name ∙ unnamed Out);
@@ -602,26 +657,102 @@ trim_names run task unnamed asked (inr (inr (inl r))) =
       finished = unmade.finished;
     }
 trim_names run task unnamed asked (inr (inr (inr c))) =
-    let unmade = left_made run c.made (unnamed Made) in
-    let names = kept_names run task asked (unnamed Out) c.came in
+    let names = kept_names run task asked (unnamed Made) (unnamed Out) c.came in
     record {
       cnf = given run (Trim task) task.file asked refl c.takes.name;
       order = inl (name_of c.order (unnamed Order));
       buckets = inl (name_of c.buckets (unnamed Buckets));
       schedule = inl (name_of c.schedule (unnamed Schedule));
       judged = given_judged run (Trim task) task.proof asked refl c.trims.name;
+      cubes = inl (name_of c.cubes (unnamed Cubes));
       proof = names.proof;
-      made = unmade.named;
+      made = names.made;
       out = names.out;
       read_first = names.read_first;
-      accepted = λ _. inr (inr (
+      accepted = λ _. inr (inr (inl (
         (task, asked),
         λ t.
             let has = verified run task c.problem asked (took run (Trim task) task.file c.problem asked refl c.takes) c.trims t in
             (c.problem, has.bytes, has.verdict),
-      ));
+      )));
       opened = λ _ given. absurd (no_conversion (same_command asked given.1));
       trimmed = λ _ _. names.trimmed;
+      finished = λ _. elim names.trimmed [ inl verified ↦ inr (inr ((task, asked), verified)) | inr fault ↦ inr (inl fault) ];
+    }
+
+replies_later : (found : Replies) → ends_before_proof (status_of_replies found) ≡ false
+replies_later (replies.Answered answers) = refl
+replies_later replies.NodeLimit = refl
+replies_later replies.IdLimit = refl
+
+printed_later : (found : Replies) (printed : Result ⊤ Failed) → ends_before_proof (status_after_replies found printed) ≡ false
+printed_later found (Ok x) = replies_later found
+printed_later found (Err e) = refl
+
+-- the names of the two streams that the answers to cubes are written to
+reply_names : (run : Run) (task : ToAsk) {problem : Formula} {order : List ℕ} {cubes : List (List ℤ)} → command run.words
+    ≡ Some (Ask task) → (run.before Out).name ≡ None
+    → CameToReply run.tells (run.before ProofOut) (run.after ProofOut) (run.before Out) (run.after Out) problem order cubes (ask_job task)
+    run.status → AnswerNames run
+reply_names run task gives unnamed (inl u) = record {
+  proof = given_proof run (Ask task) task.proof gives refl (u.opens.failed u.failed);
+  out = inl (name_of u.same unnamed);
+  read_first = later run.status (ap ends_before_proof u.ends);
+}
+reply_names run task gives unnamed (inr (inl u)) = record {
+  proof = given_proof run (Ask task) task.proof gives refl (inl (u.writes.name ∙ u.opens.named u.done));
+  out = inl (name_of u.same unnamed);
+  read_first = later run.status (ap ends_before_proof u.ends ∙ run_later u.error);
+}
+reply_names run task gives unnamed (inr (inr a)) = record {
+  proof = given_proof run (Ask task) task.proof gives refl (inl (a.writes.name ∙ a.opens.named a.done));
+  out = inl (a.puts.only.name ∙ unnamed);
+  read_first = later run.status (ap ends_before_proof a.ends ∙ printed_later a.found a.printed);
+}
+
+given_cubes_file : (run : Run) (task : ToAsk) → command run.words ≡ Some (Ask task)
+    → ((run.after Cubes).name ≡ Some task.cubes) ⊎ ((run.after Cubes).name ≡ None) → IsNamed run Cubes
+given_cubes_file run task gives (inl some) = inr (Ask task, gives, some)
+given_cubes_file run task gives (inr none) = inl none
+
+ask_names : (run : Run) (task : ToAsk) → ((role : Role) → (run.before role).name ≡ None) → command run.words ≡ Some (Ask task)
+    → CameToAsk run.tells (streams_of run.before) (streams_of run.after) run.files task run.status → StreamNames run
+ask_names run task unnamed asked (inl u) = untaken_names run (Ask task) task.file unnamed asked refl u
+ask_names run task unnamed asked (inr (inl u)) = quiet_names run unnamed (record { proof = u.proof; made = u.made; out = u.out })
+    (record {
+      cnf = given run (Ask task) task.file asked refl u.takes.name;
+      order = given_order run (Ask task) asked (unnamed Order) u.orders;
+      buckets = inl (name_of u.buckets (unnamed Buckets));
+      schedule = inl (name_of u.schedule (unnamed Schedule));
+      judged = inl (name_of u.judged (unnamed ProofIn));
+      cubes = inl (name_of u.cubes (unnamed Cubes));
+    })
+ask_names run task unnamed asked (inr (inr (inl u))) = quiet_names run unnamed (record { proof = u.proof; made = u.made; out = u.out })
+    (record {
+      cnf = given run (Ask task) task.file asked refl u.takes.name;
+      order = given_order run (Ask task) asked (unnamed Order) u.orders;
+      buckets = inl (name_of u.buckets (unnamed Buckets));
+      schedule = inl (name_of u.schedule (unnamed Schedule));
+      judged = inl (name_of u.judged (unnamed ProofIn));
+      cubes = given_cubes_file run task asked u.cubed.name;
+    })
+ask_names run task unnamed asked (inr (inr (inr q))) =
+    let unmade = left_made run q.made (unnamed Made) in
+    let names = reply_names run task asked (unnamed Out) q.came in
+    record {
+      cnf = given run (Ask task) task.file asked refl q.takes.name;
+      order = given_order run (Ask task) asked (unnamed Order) q.orders;
+      buckets = inl (name_of q.buckets (unnamed Buckets));
+      schedule = inl (name_of q.schedule (unnamed Schedule));
+      judged = inl (name_of q.judged (unnamed ProofIn));
+      cubes = given_cubes_file run task asked q.cubed.name;
+      proof = names.proof;
+      made = unmade.named;
+      out = names.out;
+      read_first = names.read_first;
+      accepted = λ _. inr (inr (inr ((task, asked), λ t. (q.problem, q.given, q.cubes, questions_of run task asked q t))));
+      opened = λ _ given. absurd (named_apart Cubes asked refl given.1 refl);
+      trimmed = λ _ given. absurd (named_apart Cubes asked refl given.1 refl);
       finished = unmade.finished;
     }
 
@@ -635,7 +766,8 @@ stream_names run unnamed (inr (inr (inr (inr (inl b))))) = bench_names run b.tas
 stream_names run unnamed (inr (inr (inr (inr (inr (inl m)))))) = make_names run m.task unnamed m.asked m.came
 stream_names run unnamed (inr (inr (inr (inr (inr (inr (inl a))))))) = arrange_names run a.task unnamed a.asked a.came
 stream_names run unnamed (inr (inr (inr (inr (inr (inr (inr (inl d)))))))) = convert_names run d.task unnamed d.asked d.came
-stream_names run unnamed (inr (inr (inr (inr (inr (inr (inr (inr d)))))))) = trim_names run d.task unnamed d.asked d.came
+stream_names run unnamed (inr (inr (inr (inr (inr (inr (inr (inr (inl d))))))))) = trim_names run d.task unnamed d.asked d.came
+stream_names run unnamed (inr (inr (inr (inr (inr (inr (inr (inr (inr a))))))))) = ask_names run a.task unnamed a.asked a.came
 
 -- the names of all roles
 pub names : (run : Run) → StreamNames run → (run.after ErrRole).name ≡ None
@@ -655,6 +787,7 @@ names run streams error files = record {
   each Buckets = streams.buckets
   each Schedule = streams.schedule
   each ProofIn = streams.judged
+  each Cubes = streams.cubes
   each ProofOut = streams.proof
   each Made = streams.made
   each Out = streams.out

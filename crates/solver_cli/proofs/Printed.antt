@@ -212,7 +212,8 @@ answered run {problem = problem} {order = order} {moves = moves} {job = job} pos
       record {
         unsatisfiable = λ e. refuted all (is_unsat found (sym ends ∙ e));
         satisfiable = λ e. let sat = is_sat found (sym ends ∙ e) in satisfied all sat.0 sat.1;
-        undecided = λ why e. undecided all why (is_unknown found why (sym ends ∙ e));
+        undecided = λ why e. inl (undecided all why (is_unknown found why (sym ends ∙ e)));
+        answered = λ e. absurd (accepts.answered e);
         verdict = record {
           verified = λ e. absurd ((no_verdict_of found).0 (sym ends ∙ e));
           not_verified = λ line reason e. absurd ((no_verdict_of found).1 line reason (sym ends ∙ e));
@@ -256,6 +257,7 @@ answered run {problem = problem} {order = order} {moves = moves} {job = job} pos
         unsatisfiable = λ d. absurd (no_answer unanswered refl d);
         satisfiable = λ d. absurd (no_answer unanswered refl d);
         undecided = λ why d. absurd (no_answer unanswered refl d);
+        answered = λ d. absurd (no_answer unanswered refl d);
         verdict = no_verdict run unanswered;
         made = λ d. absurd (accepts.done d);
         made_file = no_text run posed.made;

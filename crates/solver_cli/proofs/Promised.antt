@@ -3,21 +3,21 @@ use Rattle.std.proofs.Common.{◌≡◌, Bool, true, false, [], refl, sym, ap, �
 use Rattle.std.specs.Prelude.{◌⊎◌, ◌≢◌}
 use Rattle.host_io.specs.Channel.{Channel}
 use Rattle.host_io.specs.declared.role.Role.{Role}
-use Rattle.host_io.specs.declared.role.Role.TheVariants.{Cnf, Order, Buckets, Schedule, ProofIn, ProofOut, Made, Out, Err as ErrRole}
+use Rattle.host_io.specs.declared.role.Role.TheVariants.{Cnf, Order, Buckets, Schedule, ProofIn, Cubes, ProofOut, Made, Out, Err as ErrRole}
 use Rattle.text_scan.specs.Decides.{gained, gained-none}
 use Rattle.solver_cli.specs.declared.status.Status.{Status}
-use Rattle.solver_cli.specs.declared.status.Status.TheVariants.{Sat, Unsat, Unknown, Verified, NotVerified, Done, Help, Usage, CnfRefused}
-use Rattle.solver_cli.specs.declared.status.Status.TheVariants.{OrderRefused, BucketsRefused, PlanRefused, TooLong, ReadFault, WriteFault}
+use Rattle.solver_cli.specs.declared.status.Status.TheVariants.{Sat, Unsat, Unknown, Answered, Verified, NotVerified, Done, Help, Usage, CnfRefused}
+use Rattle.solver_cli.specs.declared.status.Status.TheVariants.{OrderRefused, BucketsRefused, PlanRefused, CubeRefused, TooLong, ReadFault, WriteFault}
 use Rattle.solver_cli.specs.declared.status.Status.TheVariants.{OutOfMemory}
 use Rattle.command_line.specs.Command.{Command, AsksHelp, Misuse, command}
 use Rattle.solver_cli.specs.ErrorText.{is_answer}
 use Rattle.solver_cli.specs.Stages.{Streams, streams_of, Misused}
-use Rattle.solver_cli.specs.Headline.{UnsatisfiableIsProved, SatisfiableIsTrue, LimitsAreReached, IsIdle, MemoryIsWanted, VerdictIsTrue}
+use Rattle.solver_cli.specs.Headline.{UnsatisfiableIsProved, SatisfiableIsTrue, LimitsAreReached, CubesAreAnswered, IsIdle, MemoryIsWanted, VerdictIsTrue}
 use Rattle.solver_cli.specs.Headline.{TextIsMade, MadeStands, IsDue, RefusalsAreDue, OutputStands, WrittenStands, CallsFor, IsComplete}
 use Rattle.solver_cli.specs.Run.{Run, written_in, taken_in, InputFailed, GivesMake}
 use Rattle.solver_cli.specs.Faults.{NamedInputFailed, IsStillOpen, ConvertsAsItReads, FaultsAreCounted}
 use Rattle.solver_cli.proofs.Facts.{behind, grown_by, nothing_more, no_answer, not_unasked, no_misuse, only_misuse, only_help}
-use Rattle.solver_cli.proofs.CallsFor.{one_call, no_call, no_call_arranged, no_call_judged, calls_give}
+use Rattle.solver_cli.proofs.CallsFor.{one_call, no_call, no_call_arranged, no_call_asked, no_call_judged, calls_give}
 
 -- after a read fault no role but standard error gained a byte, but for a proof that was being converted
 abbrev pub QuietAtFaults : Run → Type 0
@@ -29,6 +29,7 @@ pub record Core (run : Run) : Type 0 where
   pub unsatisfiable : UnsatisfiableIsProved run
   pub satisfiable : SatisfiableIsTrue run
   pub undecided : LimitsAreReached run
+  pub answered : CubesAreAnswered run
   pub verdict : VerdictIsTrue run
   pub made : TextIsMade run
   pub made_file : MadeStands run
@@ -65,7 +66,8 @@ pub no_proof : (run : Run) → written_in run ProofOut ≡ [] → WrittenStands 
 no_proof run none = record {
   converted = λ _. record { so_far = λ t. inl none; whole = λ _ t. inl none };
   trimmed = λ _. record { so_far = λ t. inl none; whole = λ _ t. inl none };
-  proved = λ _ _. record { so_far = λ t. inl none; whole = λ _ t. inl none; price = λ t. inl none };
+  asked = λ _. record { so_far = λ t. inl none; whole = λ _ t. inl none; price = λ t. inl none };
+  proved = λ _ _ _. record { so_far = λ t. inl none; whole = λ _ t. inl none; price = λ t. inl none };
 }
 
 out_of : {old new : Streams} → new ≡ old → new.out ≡ old.out
@@ -112,6 +114,7 @@ idle run same = each where
   each Buckets other = ap (λ (s : Streams). s.buckets) same
   each Schedule other = ap (λ (s : Streams). s.schedule) same
   each ProofIn other = ap (λ (s : Streams). s.judged) same
+  each Cubes other = ap (λ (s : Streams). s.cubes) same
   each ProofOut other = ap (λ (s : Streams). s.proof) same
   each Made other = ap (λ (s : Streams). s.made) same
   each Out other = ap (λ (s : Streams). s.out) same
@@ -129,6 +132,7 @@ misused run m =
       unsatisfiable = λ e. absurd (no_answer undone.unanswered refl e);
       satisfiable = λ e. absurd (no_answer undone.unanswered refl e);
       undecided = λ why e. absurd (no_answer undone.unanswered refl e);
+      answered = λ e. absurd (no_answer undone.unanswered refl e);
       verdict = no_verdict run undone.unanswered;
       made = λ e. absurd (undone.done e);
       made_file = no_text run (ap (λ (s : Streams). s.made) m.same);
@@ -151,6 +155,11 @@ misused run m =
         answers = λ problem asked t unharmed. elim m.ends [
           | inl faulty ↦ absurd
               (no_misuse run.words asked.by.command faulty.1)
+          | inr memory ↦ inr memory
+        ];
+        replies = λ problem order cubes asked t unharmed. elim m.ends [
+          | inl faulty ↦ absurd
+              (no_misuse run.words asked.asks.command faulty.1)
           | inr memory ↦ inr memory
         ];
         judges = λ problem bytes judged has t unharmed. elim m.ends [
@@ -180,6 +189,7 @@ abbrev pub stops : Status → Bool
 stops Sat = false
 stops Unsat = false
 stops (Unknown why) = false
+stops Answered = false
 stops Verified = false
 stops (NotVerified line reason) = false
 stops Done = false
@@ -189,6 +199,7 @@ stops (CnfRefused kind line) = true
 stops (OrderRefused kind line) = true
 stops (BucketsRefused kind line) = true
 stops (PlanRefused kind line) = true
+stops (CubeRefused kind line) = true
 stops (TooLong role) = true
 stops ReadFault = true
 stops WriteFault = false
@@ -205,6 +216,7 @@ by_stop : (status : Status) → stops status ≡ true → Stops status
 by_stop Sat is = cc
 by_stop Unsat is = cc
 by_stop (Unknown why) is = cc
+by_stop Answered is = cc
 by_stop Verified is = cc
 by_stop (NotVerified line reason) is = cc
 by_stop Done is = cc
@@ -214,6 +226,7 @@ by_stop (CnfRefused kind line) is = record { unanswered = refl; done = λ e. cc;
 by_stop (OrderRefused kind line) is = record { unanswered = refl; done = λ e. cc; help = λ e. cc; write = λ e. cc }
 by_stop (BucketsRefused kind line) is = record { unanswered = refl; done = λ e. cc; help = λ e. cc; write = λ e. cc }
 by_stop (PlanRefused kind line) is = record { unanswered = refl; done = λ e. cc; help = λ e. cc; write = λ e. cc }
+by_stop (CubeRefused kind line) is = record { unanswered = refl; done = λ e. cc; help = λ e. cc; write = λ e. cc }
 by_stop (TooLong role) is = record { unanswered = refl; done = λ e. cc; help = λ e. cc; write = λ e. cc }
 by_stop ReadFault is = record { unanswered = refl; done = λ e. cc; help = λ e. cc; write = λ e. cc }
 by_stop WriteFault is = cc
@@ -225,6 +238,7 @@ calls_due : (run : Run) (status : Status) → stops status ≡ true → IsDue ru
 calls_due run Sat is d t = cc
 calls_due run Unsat is d t = cc
 calls_due run (Unknown why) is d t = cc
+calls_due run Answered is d t = cc
 calls_due run Verified is d t = cc
 calls_due run (NotVerified line reason) is d t = cc
 calls_due run Done is d t = cc
@@ -234,11 +248,13 @@ calls_due run (CnfRefused kind line) is d t = let by = d.1 t in inr (inr (by.ask
 calls_due run (OrderRefused kind line) is d t = let by = d.1 t in inr (inr (by.problem, by.asks))
 calls_due run (BucketsRefused kind line) is d t = let by = d.1 t in inr (inr (by.problem, by.asks))
 calls_due run (PlanRefused kind line) is d t = let by = d.1 t in inr (inr (by.problem, by.asks))
+calls_due run (CubeRefused kind line) is d t = let by = d.1 t in inr (inr (by.problem, by.order, by.asks))
 calls_due run (TooLong Cnf) is d t = let by = d.1 t in inr (inr (by.asked, by.asks))
 calls_due run (TooLong Order) is d t = let by = d.1 t in inr (inr (by.problem, by.asks))
 calls_due run (TooLong Buckets) is d t = let by = d.1 t in inr (inr (by.problem, by.asks))
 calls_due run (TooLong Schedule) is d t = let by = d.1 t in inr (inr (by.problem, by.asks))
 calls_due run (TooLong ProofIn) is d t = let by = d.1 t in inr (inr (by.problem, by.bytes, by.asked, by.judged))
+calls_due run (TooLong Cubes) is d t = let by = d.1 t in inr (inr (by.problem, by.order, by.asks))
 calls_due run (TooLong ProofOut) is d t = absurd d
 calls_due run (TooLong Made) is d t = absurd d
 calls_due run (TooLong Out) is d t = absurd d
@@ -254,6 +270,7 @@ stopped_complete run asked gives makes halts is failed = record {
   helped = λ only _. absurd (only_help run.words gives only);
   unasked = λ none _. absurd (not_unasked gives none);
   answers = λ problem asks t unharmed. inr (memory t unharmed.0 (no_call run problem asks run.status));
+  replies = λ problem order cubes asks t unharmed. inr (memory t unharmed.0 (no_call_asked run problem order cubes asks run.status));
   judges = λ problem bytes judged has t unharmed. inr (memory t unharmed.0 (no_call_judged run problem bytes judged has run.status));
   makes = λ given unharmed. inr (makes given);
   arranges = λ task problem asks t unharmed. inr (memory t unharmed.0 (no_call_arranged run task problem asks run.status));
@@ -288,6 +305,7 @@ stopped run asked gives alone halts is fault =
       unsatisfiable = λ e. absurd (no_answer ends.unanswered refl e);
       satisfiable = λ e. absurd (no_answer ends.unanswered refl e);
       undecided = λ why e. absurd (no_answer ends.unanswered refl e);
+      answered = λ e. absurd (no_answer ends.unanswered refl e);
       verdict = no_verdict run ends.unanswered;
       made = λ e. absurd (ends.done e);
       made_file = no_text run alone.made;

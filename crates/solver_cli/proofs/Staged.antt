@@ -3,7 +3,7 @@ use Rattle.std.proofs.Common.{◌≡◌, ℕ, Bool, List, refl, sym, ap, ◌∙�
 use Rattle.std.specs.Prelude.{Result, Option, ⊤, IsFalse}
 use Rattle.cnf_base.specs.Formula.{Formula}
 use Rattle.host_io.specs.declared.role.Role.{Role}
-use Rattle.host_io.specs.declared.role.Role.TheVariants.{Cnf, Order, Buckets, Schedule, ProofIn, ProofOut, Made, Out}
+use Rattle.host_io.specs.declared.role.Role.TheVariants.{Cnf, Order, Buckets, Schedule, ProofIn, Cubes, ProofOut, Made, Out}
 use Rattle.host_io.specs.declared.source.Failed.{Failed}
 use Rattle.host_io.specs.Channel.{Channel}
 use Rattle.host_io.specs.Files.{Files, FilesBut, Opens, Kept, same_role}
@@ -20,7 +20,7 @@ use Rattle.solver_cli.specs.declared.status.Status.{Status}
 use Rattle.solver_cli.specs.ExitCode.{status_of_buckets, status_of_order, status_of_plan}
 use Rattle.solver_cli.specs.declared.basis.Basis.{Basis}
 use Rattle.solver_cli.specs.Phases.{TakesFormula, HasOrder, HasBuckets, HasPlan, WritesProof, PutsText, basis_of, buckets_file}
-use Rattle.solver_cli.specs.Stages.{Job, LeavesInputs, streams_of, solve_job, Prepared, Came, CameToAnswer}
+use Rattle.solver_cli.specs.Stages.{Job, LeavesInputs, Unordered, streams_of, solve_job, Prepared, Came, CameToAnswer}
 
 -- what was told of a stream that later calls left alone
 pub still_taken : (mode : Mode) {tells : Bool} {old new now : Channel} {files : Files} {file : List ℕ} {result : Result Formula CnfError}
@@ -52,7 +52,7 @@ same_files same = λ i file. same file none_some i where
   none_some e = cc
 
 -- the order and the plan, told of the streams and the files at the start, and of later ones
-order_at : {tells : Bool} {start old new now : Channel} {before files : Files} {vars : ℕ} {file : Option (List ℕ)} {result : Result
+pub order_at : {tells : Bool} {start old new now : Channel} {before files : Files} {vars : ℕ} {file : Option (List ℕ)} {result : Result
     (List ℕ) OrderError} → old ≡ start → now ≡ new → files ≡ before
     → HasOrder vars file tells old new files result → HasOrder vars file tells start now before result
 order_at {tells = tells} {start = start} {old = old} {new = new} {now = now} {before = before} {files = files} {vars = vars} {file = file}
@@ -120,26 +120,35 @@ buckets_of {tells = tells} {old = old} {new = new} {files = files} {known = know
     (λ (f : Option (List ℕ)). HasBuckets known f tells old new files result) called
     (subst (λ (v : ℕ). HasBuckets v name tells old new files result) same has)
 
+-- the order was not had, whoever goes by it
+pub no_order : {mode : Mode} {tells : Bool} {file : List ℕ} {named : Option (List ℕ)} {problem : Formula} {error : OrderError}
+    {status : Status} (old taken new : Role → Channel) (before files later : Files)
+    → Took mode tells old taken before files file problem
+    → HasOrder problem.vars named tells (taken Order) (new Order) files (Err error) → Kept Order None taken new files later → status
+    ≡ status_of_order error
+    → Unordered mode tells (streams_of old) (streams_of new) before file named status
+no_order {mode = mode} {problem = problem} {error = error} old taken new before files later took has kept ends = record {
+  problem = problem;
+  takes = still_taken mode (kept.others Cnf refl) took.takes;
+  error = error;
+  orders = order_at (took.kept.others Order refl) refl (same_files took.kept.files) has;
+  buckets = kept.others Buckets refl ∙ took.kept.others Buckets refl;
+  schedule = kept.others Schedule refl ∙ took.kept.others Schedule refl;
+  judged = kept.others ProofIn refl ∙ took.kept.others ProofIn refl;
+  cubes = kept.others Cubes refl ∙ took.kept.others Cubes refl;
+  proof = kept.others ProofOut refl ∙ took.kept.others ProofOut refl;
+  made = kept.others Made refl ∙ took.kept.others Made refl;
+  out = kept.others Out refl ∙ took.kept.others Out refl;
+  ends = ends;
+}
+
 pub unordered : {tells : Bool} {task : ToSolve} {problem : Formula} {error : OrderError} {status : Status} (old taken new : Role
     → Channel) (before files later : Files)
     → Took task.mode tells old taken before files task.file problem
     → HasOrder problem.vars task.order tells (taken Order) (new Order) files (Err error) → Kept Order None taken new files later → status
     ≡ status_of_order error
     → Came tells (streams_of old) (streams_of new) before task status
-unordered {task = task} {problem = problem} {error = error} old taken new before files later took has kept ends =
-    inr (inl (record {
-      problem = problem;
-      takes = still_taken task.mode (kept.others Cnf refl) took.takes;
-      error = error;
-      orders = order_at (took.kept.others Order refl) refl (same_files took.kept.files) has;
-      buckets = kept.others Buckets refl ∙ took.kept.others Buckets refl;
-      schedule = kept.others Schedule refl ∙ took.kept.others Schedule refl;
-      judged = kept.others ProofIn refl ∙ took.kept.others ProofIn refl;
-      proof = kept.others ProofOut refl ∙ took.kept.others ProofOut refl;
-      made = kept.others Made refl ∙ took.kept.others Made refl;
-      out = kept.others Out refl ∙ took.kept.others Out refl;
-      ends = ends;
-    }))
+unordered old taken new before files later took has kept ends = inr (inl (no_order old taken new before files later took has kept ends))
 
 pub unbucketed : {tells : Bool} {task : ToSolve} {problem : Formula} {given : List ℕ} {error : OrderError} {status : Status}
     (old taken had new : Role → Channel) (before files later last : Files)
@@ -158,6 +167,7 @@ unbucketed {task = task} {problem = problem} {given = given} {error = error} old
           ∙ same_files took.kept.files) has;
       schedule = kept.others Schedule refl ∙ o.kept.others Schedule refl ∙ took.kept.others Schedule refl;
       judged = kept.others ProofIn refl ∙ o.kept.others ProofIn refl ∙ took.kept.others ProofIn refl;
+      cubes = kept.others Cubes refl ∙ o.kept.others Cubes refl ∙ took.kept.others Cubes refl;
       proof = kept.others ProofOut refl ∙ o.kept.others ProofOut refl ∙ took.kept.others ProofOut refl;
       made = kept.others Made refl ∙ o.kept.others Made refl ∙ took.kept.others Made refl;
       out = kept.others Out refl ∙ o.kept.others Out refl ∙ took.kept.others Out refl;
@@ -198,6 +208,7 @@ unplanned {task = task} {problem = problem} {given = given} {named = named} {err
       error = error;
       plans = plan_at (alone_so_far s Schedule refl refl refl) refl (files_so_far s) has;
       judged = kept.others ProofIn refl ∙ alone_so_far s ProofIn refl refl refl;
+      cubes = kept.others Cubes refl ∙ alone_so_far s Cubes refl refl refl;
       proof = kept.others ProofOut refl ∙ alone_so_far s ProofOut refl refl refl;
       made = kept.others Made refl ∙ alone_so_far s Made refl refl refl;
       out = kept.others Out refl ∙ alone_so_far s Out refl refl refl;
@@ -223,6 +234,7 @@ prepared {task = task} {given = given} {named = named} p leaves =
           (same_files o.kept.files ∙ same_files took.kept.files) s.bucketed;
       plans = plan_at (alone_so_far s Schedule refl refl refl) leaves.schedule (files_so_far s) p.plans;
       judged = leaves.judged ∙ p.kept.others ProofIn refl ∙ alone_so_far s ProofIn refl refl refl;
+      cubes = leaves.cubes ∙ p.kept.others Cubes refl ∙ alone_so_far s Cubes refl refl refl;
       made = leaves.made ∙ p.kept.others Made refl ∙ alone_so_far s Made refl refl refl;
     }
 

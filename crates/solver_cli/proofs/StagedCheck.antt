@@ -3,7 +3,7 @@ use Rattle.std.proofs.Common.{◌≡◌, ℕ, Bool, List, ℤ, refl, sym, ◌∙
 use Rattle.std.specs.Prelude.{Result, ⊤, Option}
 use Rattle.cnf_base.specs.Formula.{Formula}
 use Rattle.host_io.specs.declared.role.Role.{Role}
-use Rattle.host_io.specs.declared.role.Role.TheVariants.{Cnf, Order, Buckets, Schedule, ProofIn, ProofOut, Made, Out}
+use Rattle.host_io.specs.declared.role.Role.TheVariants.{Cnf, Order, Buckets, Schedule, ProofIn, Cubes, ProofOut, Made, Out}
 use Rattle.host_io.specs.declared.source.Failed.{Failed}
 use Rattle.host_io.specs.Channel.{Channel}
 use Rattle.host_io.specs.Files.{Files, FilesBut, Others}
@@ -65,6 +65,7 @@ unjudged {task = task} {problem = problem} {error = error} old taken new before 
       order = beside_new Order refl ∙ beside_taken Order refl;
       buckets = beside_new Buckets refl ∙ beside_taken Buckets refl;
       schedule = beside_new Schedule refl ∙ beside_taken Schedule refl;
+      cubes = beside_new Cubes refl ∙ beside_taken Cubes refl;
       error = error;
       judges = judged_from (beside_taken ProofIn refl) refl (judged_in files before same judges);
       proof = beside_new ProofOut refl ∙ beside_taken ProofOut refl;
@@ -88,6 +89,7 @@ judged {task = task} {problem = problem} {verdict = verdict} {printed = printed}
       order = beside_new Order refl ∙ beside_checked Order refl ∙ beside_taken Order refl;
       buckets = beside_new Buckets refl ∙ beside_checked Buckets refl ∙ beside_taken Buckets refl;
       schedule = beside_new Schedule refl ∙ beside_checked Schedule refl ∙ beside_taken Schedule refl;
+      cubes = beside_new Cubes refl ∙ beside_checked Cubes refl ∙ beside_taken Cubes refl;
       verdict = verdict;
       judges = judged_from (beside_taken ProofIn refl) (beside_new ProofIn refl) (judged_in files before same judges);
       proof = beside_new ProofOut refl ∙ beside_checked ProofOut refl ∙ beside_taken ProofOut refl;

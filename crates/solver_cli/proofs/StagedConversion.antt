@@ -3,14 +3,16 @@ use Rattle.std.proofs.Common.{◌≡◌, ℕ, ℤ, Bool, List, refl, sym, ap, �
 use Rattle.std.specs.Prelude.{Option, Result, ⊤}
 use Rattle.cnf_base.specs.Formula.{Formula}
 use Rattle.host_io.specs.declared.role.Role.{Role}
-use Rattle.host_io.specs.declared.role.Role.TheVariants.{Cnf, Order, Buckets, Schedule, ProofIn, ProofOut, Made, Out, Err as ErrRole}
+use Rattle.host_io.specs.declared.role.Role.TheVariants.{Cnf, Order, Buckets, Schedule, ProofIn, Cubes, ProofOut, Made, Out, Err as ErrRole}
 use Rattle.host_io.specs.declared.source.Failed.{Failed}
 use Rattle.host_io.specs.Channel.{Channel}
 use Rattle.host_io.specs.Files.{Files, FilesBut, Kept}
 use Rattle.lrat_checker.specs.declared.verdict.Verdict.{Verdict}
+use Rattle.drat_text.specs.declared.step.DratStep.{DratStep}
+use Rattle.drat_proof.specs.Drat.{named_drat_steps}
 use Rattle.drat_proof.specs.TwoRoles.{KeptButTwo}
 use Rattle.drat_proof.specs.declared.error.ConvertError.{ConvertError}
-use Rattle.command_line.specs.Command.{ToRewrite}
+use Rattle.command_line.specs.Command.{ToConvert}
 use Rattle.solver_cli.specs.declared.status.Status.{Status}
 use Rattle.solver_cli.specs.ExitCode.{status_of_convert}
 use Rattle.solver_cli.specs.Verdict.{verdict_text}
@@ -21,23 +23,24 @@ use Rattle.solver_cli.proofs.Staged.{printed_from, same_files, still_taken}
 
 -- what was told of streams that earlier and later calls left alone, and of the files before
 rewritten_from : {tells : Bool} {in_start in_old in_new in_now out_start out_old out_new out_now : Channel} {before files : Files}
-    {file out : List ℕ} {clauses : List (List ℤ)} {result : Result Verdict ConvertError}
+    {file out : List ℕ} {clauses : List (List ℤ)} {becomes : List ℕ → List DratStep} {result : Result Verdict ConvertError}
     → in_old ≡ in_start → in_now ≡ in_new → out_old ≡ out_start → out_now ≡ out_new → files ≡ before
-    → RewritesProof tells in_old in_new out_old out_new files file out clauses result
-    → RewritesProof tells in_start in_now out_start out_now before file out clauses result
+    → RewritesProof tells in_old in_new out_old out_new files file out clauses becomes result
+    → RewritesProof tells in_start in_now out_start out_now before file out clauses becomes result
 rewritten_from {tells = tells} {in_start = in_start} {in_new = in_new} {in_now = in_now} {out_start = out_start} {out_old = out_old}
-    {out_new = out_new} {out_now = out_now} {before = before} {files = files} {file = file} {out = out} {clauses = clauses} {result = result}
+    {out_new = out_new} {out_now = out_now} {before = before} {files = files} {file = file} {out = out} {clauses = clauses} {becomes = becomes} {result = result}
     in_from in_to out_from out_to same rewrites =
-    subst (λ (f : Files). RewritesProof tells in_start in_now out_start out_now f file out clauses result) same
-    (subst (λ (c : Channel). RewritesProof tells in_start in_now out_start c files file out clauses result) (sym out_to)
-    (subst (λ (c : Channel). RewritesProof tells in_start in_now c out_new files file out clauses result) out_from
-    (subst (λ (c : Channel). RewritesProof tells in_start c out_old out_new files file out clauses result) (sym in_to)
-    (subst (λ (c : Channel). RewritesProof tells c in_new out_old out_new files file out clauses result) in_from rewrites))))
+    subst (λ (f : Files). RewritesProof tells in_start in_now out_start out_now f file out clauses becomes result) same
+    (subst (λ (c : Channel). RewritesProof tells in_start in_now out_start c files file out clauses becomes result) (sym out_to)
+    (subst (λ (c : Channel). RewritesProof tells in_start in_now c out_new files file out clauses becomes result) out_from
+    (subst (λ (c : Channel). RewritesProof tells in_start c out_old out_new files file out clauses becomes result) (sym in_to)
+    (subst (λ (c : Channel). RewritesProof tells c in_new out_old out_new files file out clauses becomes result) in_from rewrites))))
 
-pub unconverted : {tells : Bool} {task : ToRewrite} {problem : Formula} {error : ConvertError} {own : Option (List ℕ)} {status : Status}
+pub unconverted : {tells : Bool} {task : ToConvert} {problem : Formula} {error : ConvertError} {own : Option (List ℕ)} {status : Status}
     (old taken new : Role → Channel) (before files after : Files)
     → TakesFormula task.mode tells (old Cnf) (taken Cnf) before task.file (Ok problem) → Kept Cnf None old taken before files
-    → RewritesProof tells (taken ProofIn) (new ProofIn) (taken ProofOut) (new ProofOut) files task.proof task.out problem.clauses (Err error)
+    → RewritesProof tells (taken ProofIn) (new ProofIn) (taken ProofOut) (new ProofOut) files task.proof task.out problem.clauses
+    (named_drat_steps task.fresh problem) (Err error)
     → KeptButTwo ProofIn ProofOut own taken new files after → status ≡ status_of_convert error
     → CameToConvert tells (streams_of old) (streams_of new) before task status
 unconverted {task = task} {problem = problem} {error = error} old taken new before files after takes beside_taken rewrites beside_new ends =
@@ -47,6 +50,7 @@ unconverted {task = task} {problem = problem} {error = error} old taken new befo
       order = beside_new.others Order refl refl ∙ beside_taken.others Order refl;
       buckets = beside_new.others Buckets refl refl ∙ beside_taken.others Buckets refl;
       schedule = beside_new.others Schedule refl refl ∙ beside_taken.others Schedule refl;
+      cubes = beside_new.others Cubes refl refl ∙ beside_taken.others Cubes refl;
       error = error;
       rewrites = rewritten_from (beside_taken.others ProofIn refl) refl (beside_taken.others ProofOut refl) refl
           (same_files beside_taken.files) rewrites;
@@ -55,11 +59,11 @@ unconverted {task = task} {problem = problem} {error = error} old taken new befo
       ends = ends;
     }))
 
-pub converted : {tells : Bool} {task : ToRewrite} {problem : Formula} {verdict : Verdict} {printed : Result ⊤ Failed}
+pub converted : {tells : Bool} {task : ToConvert} {problem : Formula} {verdict : Verdict} {printed : Result ⊤ Failed}
     {own name : Option (List ℕ)} {status : Status} (old taken rewritten new : Role → Channel) (before files after last : Files)
     → TakesFormula task.mode tells (old Cnf) (taken Cnf) before task.file (Ok problem) → Kept Cnf None old taken before files
     → RewritesProof tells (taken ProofIn) (rewritten ProofIn) (taken ProofOut) (rewritten ProofOut) files task.proof task.out problem.clauses
-    (Ok verdict)
+    (named_drat_steps task.fresh problem) (Ok verdict)
     → KeptButTwo ProofIn ProofOut own taken rewritten files after
     → PutsText tells (rewritten Out) (new Out) (verdict_text verdict) printed → Kept Out name rewritten new after last
     → status ≡ status_of_printed verdict printed → CameToConvert tells (streams_of old) (streams_of new) before task status
@@ -70,6 +74,7 @@ converted {task = task} {problem = problem} {verdict = verdict} {printed = print
       order = beside_new.others Order refl ∙ beside.others Order refl refl ∙ beside_taken.others Order refl;
       buckets = beside_new.others Buckets refl ∙ beside.others Buckets refl refl ∙ beside_taken.others Buckets refl;
       schedule = beside_new.others Schedule refl ∙ beside.others Schedule refl refl ∙ beside_taken.others Schedule refl;
+      cubes = beside_new.others Cubes refl ∙ beside.others Cubes refl refl ∙ beside_taken.others Cubes refl;
       verdict = verdict;
       rewrites = rewritten_from (beside_taken.others ProofIn refl) (beside_new.others ProofIn refl) (beside_taken.others ProofOut refl)
           (beside_new.others ProofOut refl) (same_files beside_taken.files) rewrites;

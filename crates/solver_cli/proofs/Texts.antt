@@ -2,7 +2,7 @@
 use Rattle.std.proofs.Common.{◌≡◌, ℕ, false, List, ◌++◌, length, refl, sym, ap, ◌∙◌, Some, Ok, Err, IsTrue, inl, inr}
 use Rattle.cnf_base.specs.Formula.{Formula}
 use Rattle.std.specs.Prelude.{Result, ⊤, ◌⊎◌}
-use Rattle.host_io.specs.declared.role.Role.TheVariants.{ProofOut, Made, Out}
+use Rattle.host_io.specs.declared.role.Role.TheVariants.{Cubes, ProofOut, Made, Out}
 use Rattle.host_io.specs.declared.source.Failed.{Failed}
 use Rattle.dimacs_reader.specs.Cnf.{formula}
 use Rattle.command_line.specs.Command.{Command, ToMake, ToOrder, Make, Arrange, command}
@@ -13,11 +13,11 @@ use Rattle.solver_cli.specs.MadeText.{made_text, order_line}
 use Rattle.solver_cli.specs.Phases.{PutsText}
 use Rattle.solver_cli.specs.Stages.{Streams, streams_of, Unmade, BoardMade, Unarranged, Arranged, FileUncreated, Written, CameToWrite}
 use Rattle.solver_cli.specs.Stages.{status_of_written}
-use Rattle.solver_cli.specs.Headline.{IsMade, IsArranged, TextIsMade, IsFrontOfMade, IsFrontOfOrder, MadeStands, RefusalsAreDue, IsComplete}
+use Rattle.solver_cli.specs.Headline.{IsMade, IsArranged, TextIsMade, IsFrontOfCore, IsFrontOfMade, IsFrontOfOrder, MadeStands, RefusalsAreDue, IsComplete}
 use Rattle.solver_cli.specs.Run.{Run, written_in, name_given, HasFault, AsksOver, IsUnharmed}
 use Rattle.solver_cli.specs.Faults.{TextsAreRead}
 use Rattle.solver_cli.proofs.Facts.{whole_of, no_answer, not_unasked, only_misuse, only_help, decided_apart, judged_apart}
-use Rattle.solver_cli.proofs.Facts.{makes_no_order}
+use Rattle.solver_cli.proofs.Facts.{makes_no_order, named_apart}
 use Rattle.solver_cli.proofs.Reading.{rose_since}
 use Rattle.solver_cli.proofs.CallsFor.{no_call_arranged, no_call_made}
 use Rattle.solver_cli.proofs.Deciding.{deciding}
@@ -41,13 +41,13 @@ pub unarranged : (run : Run) (task : ToOrder) → command run.words ≡ Some (Ar
     → Unarranged run.tells (streams_of run.before) (streams_of run.after) run.files task run.status → Core run
 unarranged run task gives u = short run (Arrange task) gives
     (record { proof = left_proof run u.alone.proof; made = u.made; out = u.alone.out; makes = λ _. refl })
-    (inr (inr (inr (inr (inr (inr (inr (record {
+    (inr (inr (inr (inr (inr (inr (inr (inl (record {
       task = task;
       given = gives;
       problem = u.problem;
       asks = took run (Arrange task) task.file u.problem gives refl u.takes;
       before_text = u.made;
-    }))))))))
+    })))))))))
     u.ends
 
 -- what is complete of a run that makes a board's text, and of one that makes an order
@@ -58,6 +58,7 @@ make_complete run task gives makes = record {
   helped = λ only _. absurd (only_help run.words gives only);
   unasked = λ none _. absurd (not_unasked gives none);
   answers = λ other asks. let given = deciding run other asks in absurd (decided_apart given.1 given.2 gives refl);
+  replies = λ other order cubes asks. absurd (named_apart Cubes asks.asks.command refl gives refl);
   judges = λ other bytes judged has. absurd (judged_apart has.asked.asks.command has.asked.named gives refl);
   makes = λ _ unharmed. makes unharmed;
   arranges = λ other problem asks. absurd (makes_no_order gives asks.command);
@@ -72,6 +73,7 @@ arrange_complete run task {problem = problem} gives asked makes = record {
   helped = λ only _. absurd (only_help run.words gives only);
   unasked = λ none _. absurd (not_unasked gives none);
   answers = λ other asks. let given = deciding run other asks in absurd (decided_apart given.1 given.2 gives refl);
+  replies = λ other order cubes asks. absurd (named_apart Cubes asks.asks.command refl gives refl);
   judges = λ other bytes judged has. absurd (judged_apart has.asked.asks.command has.asked.named gives refl);
   makes = λ given. absurd (makes_no_order given.1 gives);
   arranges = λ other problem asks t unharmed. makes unharmed;
@@ -101,7 +103,8 @@ record IsFor (run : Run) (text : List ℕ) : Type 0 where
   pub named : name_given Made asked ≡ Some file
   pub proof : run.after ProofOut ≡ run.before ProofOut
   pub out : run.after Out ≡ run.before Out
-  pub front : IsTrue run.tells → (rest : List ℕ) → text ≡ written_in run Made ++ rest → IsFrontOfMade run ⊎ IsFrontOfOrder run
+  pub front : IsTrue run.tells → (rest : List ℕ) → text ≡ written_in run Made ++ rest
+      → IsFrontOfMade run ⊎ (IsFrontOfOrder run ⊎ IsFrontOfCore run)
   pub whole : (IsTrue run.tells → written_in run Made ≡ text)
       → (IsTrue run.tells → (run.after Made).flushed ≡ length (run.after Made).written)
       → ((task : ToMake) × IsMade run task) ⊎ ((task : ToOrder) × IsArranged run task)
@@ -115,6 +118,7 @@ ending run w ended is_due text front fault makes = record {
   unsatisfiable = λ e. absurd (no_answer ended.unanswered refl e);
   satisfiable = λ e. absurd (no_answer ended.unanswered refl e);
   undecided = λ why e. absurd (no_answer ended.unanswered refl e);
+  answered = λ e. absurd (no_answer ended.unanswered refl e);
   verdict = no_verdict run ended.unanswered;
   made = text;
   made_file = front;
@@ -207,7 +211,7 @@ arranged run task gives a = write_text run is_for a.came where
     named = refl;
     proof = a.alone.proof;
     out = a.alone.out;
-    front = λ t rest front. inr (record {
+    front = λ t rest front. inr (inl (record {
       task = task;
       problem = a.problem;
       asks = asks t;
@@ -215,7 +219,7 @@ arranged run task gives a = write_text run is_for a.came where
       ordered = a.ordered;
       rest = rest;
       front = front;
-    });
+    }));
     whole = λ all flushed. inr (
       task,
       record {

@@ -1,13 +1,14 @@
 -- Failed calls are told, and a read fault leaves no byte, from how far a run came.
-use Rattle.std.proofs.Common.{◌≡◌, [], refl, ap, ◌∙◌, Some, Ok, Err, IsTrue, inl, inr}
-use Rattle.std.specs.Prelude.{◌≢◌, ◌⊎◌, Bool, ℕ, List, Result, IsOk, ⊤}
+use Rattle.std.proofs.Common.{◌≡◌, [], refl, ap, ◌∙◌, Some, None, Ok, Err, IsTrue, inl, inr}
+use Rattle.std.specs.Prelude.{◌≢◌, ◌⊎◌, Bool, ℕ, ℤ, List, Option, Result, IsOk, ⊤}
 use Rattle.host_io.specs.Channel.{Channel, Rose}
 use Rattle.host_io.specs.Files.{Files, IsInput, IsCreated}
 use Rattle.host_io.specs.declared.source.Failed.{Failed}
 use Rattle.host_io.specs.declared.role.Role.{Role}
-use Rattle.host_io.specs.declared.role.Role.TheVariants.{Cnf, Order, Buckets, Schedule, ProofIn, ProofOut, Made, Out, Err as ErrRole}
+use Rattle.host_io.specs.declared.role.Role.TheVariants.{Cnf, Order, Buckets, Schedule, ProofIn, Cubes, ProofOut, Made, Out, Err as ErrRole}
 use Rattle.lrat_checker.specs.declared.verdict.Verdict.{Verdict}
 use Rattle.lrat_checker.specs.declared.verdict.CheckError.TheVariants as check_error
+use Rattle.drat_proof.specs.Drat.{named_drat_steps}
 use Rattle.drat_proof.specs.declared.error.ConvertError.{ConvertError}
 use Rattle.drat_proof.specs.declared.error.ConvertError.TheVariants as convert_error
 use Rattle.cnf_base.specs.Formula.{Formula}
@@ -16,15 +17,18 @@ use Rattle.term_runner.specs.declared.outcome.Run.{Run as Ending}
 use Rattle.term_runner.specs.declared.error.RunError.{RunError}
 use Rattle.term_runner.specs.declared.error.RunError.TheVariants as run_error
 use Rattle.dimacs_reader.specs.declared.mode.Mode.{Mode}
-use Rattle.command_line.specs.Command.{ToSolve, ToCheck, ToBench, ToMake, ToOrder, ToRewrite, Convert, command}
+use Rattle.command_line.specs.Command.{ToSolve, ToAsk, ToCheck, ToBench, ToMake, ToOrder, ToConvert, ToTrim, Convert, command}
 use Rattle.solver_cli.specs.declared.status.Status.{Status}
 use Rattle.solver_cli.specs.declared.status.Status.TheVariants.{Usage, ReadFault, WriteFault, OutOfMemory}
 use Rattle.solver_cli.specs.ExitCode.{status_of_buckets, status_of_error, status_of_order, status_of_plan, status_of_run, status_of_check}
-use Rattle.solver_cli.specs.ExitCode.{status_of_convert}
+use Rattle.solver_cli.specs.ExitCode.{status_of_convert, status_of_cubes}
+use Rattle.cube_queries.specs.declared.answer.Outcome.{Outcome as Replies}
 use Rattle.solver_cli.specs.DratProof.{RewritesProof}
+use Rattle.solver_cli.specs.TrimmedProof.{PutsNamed}
 use Rattle.solver_cli.specs.Stages.{Streams, streams_of, Misused, Helped, Untaken, Unordered, Unbucketed, Unplanned, NoneRead, Job, Solved}
 use Rattle.solver_cli.specs.Stages.{Benched, Unjudged, Judged, FormulaAlone, Came, CameToAnswer, CameToArrange, CameToBench, CameToCheck}
 use Rattle.solver_cli.specs.Stages.{CameToConvert, CameToKeep, CameToTrim, Converted, Rejected, ShowsVerdict, Trimmed, Unconverted, Untrimmed}
+use Rattle.solver_cli.specs.Stages.{CameToAsk, CameToReply, Questioned, Uncubed, status_after_replies}
 use Rattle.solver_cli.specs.Stages.{CameToMake, CameToWrite, Stages, status_of_help, status_after, status_of_printed, status_of_written}
 use Rattle.solver_cli.specs.Run.{Run, written_in}
 use Rattle.solver_cli.specs.Faults.{ConvertsAsItReads, FailuresAreTold, ends_in_proof}
@@ -35,6 +39,7 @@ use Rattle.solver_cli.proofs.Served.{order_served, buckets_served, plan_served}
 use Rattle.solver_cli.proofs.Promised.{QuietAtFaults}
 use Rattle.solver_cli.proofs.Accepted.{accepts_answer}
 use Rattle.solver_cli.proofs.Verdicts.{accepts_verdict}
+use Rattle.solver_cli.proofs.Questions.{accepts_replies}
 
 -- no stream that a run serves gained a byte, but maybe the proof that is written
 pub record IsQuiet (old new : Streams) : Type 0 where
@@ -43,6 +48,7 @@ pub record IsQuiet (old new : Streams) : Type 0 where
   pub buckets : new.buckets.written ≡ old.buckets.written
   pub schedule : new.schedule.written ≡ old.schedule.written
   pub judged : new.judged.written ≡ old.judged.written
+  pub cubes : new.cubes.written ≡ old.cubes.written
   pub made : new.made.written ≡ old.made.written
   pub out : new.out.written ≡ old.out.written
 
@@ -56,6 +62,7 @@ pub record Told (converting : Type 0) (old new : Streams) (status : Status) : Ty
   pub buckets : status ≢ ReadFault → new.buckets.faults ≡ old.buckets.faults
   pub schedule : status ≢ ReadFault → new.schedule.faults ≡ old.schedule.faults
   pub judged : status ≢ ReadFault → new.judged.faults ≡ old.judged.faults
+  pub cubes : status ≢ ReadFault → new.cubes.faults ≡ old.cubes.faults
   pub proof : status ≢ WriteFault → new.proof.faults ≡ old.proof.faults
   pub made : status ≢ WriteFault → new.made.faults ≡ old.made.faults
   pub out : status ≢ WriteFault → new.out.faults ≡ old.out.faults
@@ -117,6 +124,7 @@ idle unread same = record {
   buckets = λ _. ap (λ (s : Streams). s.buckets.faults) same;
   schedule = λ _. ap (λ (s : Streams). s.schedule.faults) same;
   judged = λ _. ap (λ (s : Streams). s.judged.faults) same;
+  cubes = λ _. ap (λ (s : Streams). s.cubes.faults) same;
   proof = λ _. ap (λ (s : Streams). s.proof.faults) same;
   made = λ _. ap (λ (s : Streams). s.made.faults) same;
   out = λ _. ap (λ (s : Streams). s.out.faults) same;
@@ -132,6 +140,7 @@ helped h = record {
   buckets = λ _. faults_of h.buckets;
   schedule = λ _. faults_of h.schedule;
   judged = λ _. faults_of h.judged;
+  cubes = λ _. faults_of h.cubes;
   proof = λ _. faults_of h.proof;
   made = λ _. faults_of h.made;
   out = λ differs. h.shows.puts.unfailed (help_ok h.shows.printed (λ e. differs (h.shows.ends ∙ e)));
@@ -146,6 +155,7 @@ untaken u = record {
     buckets = written_of u.buckets;
     schedule = written_of u.schedule;
     judged = written_of u.judged;
+    cubes = written_of u.cubes;
     made = written_of u.made;
     out = written_of u.out;
   };
@@ -155,15 +165,16 @@ untaken u = record {
   buckets = λ _. faults_of u.buckets;
   schedule = λ _. faults_of u.schedule;
   judged = λ _. faults_of u.judged;
+  cubes = λ _. faults_of u.cubes;
   proof = λ _. faults_of u.proof;
   made = λ _. faults_of u.made;
   out = λ _. faults_of u.out;
 }
 
-unordered : {converting : Type 0} {tells : Bool} {old new : Streams} {files : Files} {task : ToSolve} {status : Status}
-    → Unordered tells old new files task status → Told converting old new status
-unordered {task = task} u =
-    let served = order_served task.order u.orders in
+unordered : {converting : Type 0} {mode : Mode} {tells : Bool} {old new : Streams} {files : Files} {file : List ℕ}
+    {named : Option (List ℕ)} {status : Status} → Unordered mode tells old new files file named status → Told converting old new status
+unordered {named = named} u =
+    let served = order_served named u.orders in
     record {
       quiet = λ _. record {
         cnf = u.takes.written;
@@ -171,6 +182,7 @@ unordered {task = task} u =
         buckets = written_of u.buckets;
         schedule = written_of u.schedule;
         judged = written_of u.judged;
+        cubes = written_of u.cubes;
         made = written_of u.made;
         out = written_of u.out;
       };
@@ -180,6 +192,7 @@ unordered {task = task} u =
       buckets = λ _. faults_of u.buckets;
       schedule = λ _. faults_of u.schedule;
       judged = λ _. faults_of u.judged;
+      cubes = λ _. faults_of u.cubes;
       proof = λ _. faults_of u.proof;
       made = λ _. faults_of u.made;
       out = λ _. faults_of u.out;
@@ -197,6 +210,7 @@ unbucketed {task = task} u =
         buckets = served.written;
         schedule = written_of u.schedule;
         judged = written_of u.judged;
+        cubes = written_of u.cubes;
         made = written_of u.made;
         out = written_of u.out;
       };
@@ -206,6 +220,7 @@ unbucketed {task = task} u =
       buckets = λ differs. served.unfailed (λ e. differs (u.ends ∙ ap status_of_buckets (same_error e)));
       schedule = λ _. faults_of u.schedule;
       judged = λ _. faults_of u.judged;
+      cubes = λ _. faults_of u.cubes;
       proof = λ _. faults_of u.proof;
       made = λ _. faults_of u.made;
       out = λ _. faults_of u.out;
@@ -224,6 +239,7 @@ unplanned {task = task} u =
         buckets = split.written;
         schedule = plans.written;
         judged = written_of u.judged;
+        cubes = written_of u.cubes;
         made = written_of u.made;
         out = written_of u.out;
       };
@@ -233,6 +249,7 @@ unplanned {task = task} u =
       buckets = λ _. split.unfailed (λ e. ok_err e);
       schedule = λ differs. plans.unfailed (λ e. differs (u.ends ∙ ap status_of_plan (same_error e)));
       judged = λ _. faults_of u.judged;
+      cubes = λ _. faults_of u.cubes;
       proof = λ _. faults_of u.proof;
       made = λ _. faults_of u.made;
       out = λ _. faults_of u.out;
@@ -273,6 +290,7 @@ solved {task = task} s =
       buckets = λ _. (buckets_served (buckets_file task.plan) p.bucketed).unfailed (λ e. ok_err e);
       schedule = λ _. (plan_served task.plan p.plans).unfailed (λ e. ok_err e);
       judged = λ _. faults_of p.judged;
+      cubes = λ _. faults_of p.cubes;
       proof = answer.proof;
       made = λ _. faults_of p.made;
       out = answer.out;
@@ -289,6 +307,7 @@ benched b =
       buckets = λ _. faults_of b.none_read.buckets;
       schedule = λ _. faults_of b.none_read.schedule;
       judged = λ _. faults_of b.none_read.judged;
+      cubes = λ _. faults_of b.none_read.cubes;
       proof = answer.proof;
       made = λ _. faults_of b.made;
       out = answer.out;
@@ -305,6 +324,7 @@ only_made unread none proof out made = record {
   buckets = λ _. faults_of none.buckets;
   schedule = λ _. faults_of none.schedule;
   judged = λ _. faults_of none.judged;
+  cubes = λ _. faults_of none.cubes;
   proof = λ _. faults_of proof;
   made = made;
   out = λ _. faults_of out;
@@ -341,6 +361,7 @@ formula_and_text mode takes alone unread made = record {
   buckets = λ _. faults_of alone.buckets;
   schedule = λ _. faults_of alone.schedule;
   judged = λ _. faults_of alone.judged;
+  cubes = λ _. faults_of alone.cubes;
   proof = λ _. faults_of alone.proof;
   made = made;
   out = λ _. faults_of alone.out;
@@ -355,6 +376,7 @@ unjudged u = record {
     buckets = written_of u.buckets;
     schedule = written_of u.schedule;
     judged = u.judges.written;
+    cubes = written_of u.cubes;
     made = written_of u.made;
     out = written_of u.out;
   };
@@ -364,6 +386,7 @@ unjudged u = record {
   buckets = λ _. faults_of u.buckets;
   schedule = λ _. faults_of u.schedule;
   judged = λ differs. u.judges.unfailed (λ e. differs (u.ends ∙ ap status_of_check (same_error e)));
+  cubes = λ _. faults_of u.cubes;
   proof = λ _. faults_of u.proof;
   made = λ _. faults_of u.made;
   out = λ _. faults_of u.out;
@@ -379,6 +402,7 @@ judged j = record {
   buckets = λ _. faults_of j.buckets;
   schedule = λ _. faults_of j.schedule;
   judged = λ _. j.judges.unfailed (λ e. cc);
+  cubes = λ _. faults_of j.cubes;
   proof = λ _. faults_of j.proof;
   made = λ _. faults_of j.made;
   out = λ differs. j.puts.unfailed (verdict_ok j.verdict j.printed (λ e. differs (j.ends ∙ e)));
@@ -386,10 +410,10 @@ judged j = record {
 
 -- a proof that was being converted, told of the streams
 abbrev pub IsConverting : List (List ℕ) → Streams → Streams → Status → Type 0
-IsConverting words old new status = ((task : ToRewrite) × (command words ≡ Some (Convert task)))
+IsConverting words old new status = ((task : ToConvert) × (command words ≡ Some (Convert task)))
     × (Rose old.judged.faults new.judged.faults ⊎ IsTrue (ends_in_proof status))
 
-unconverted : {tells : Bool} (words : List (List ℕ)) {old new : Streams} {files : Files} {task : ToRewrite} {status : Status}
+unconverted : {tells : Bool} (words : List (List ℕ)) {old new : Streams} {files : Files} {task : ToConvert} {status : Status}
     → command words ≡ Some (Convert task) → Unconverted tells old new files task status → Told (IsConverting words old new status) old new status
 unconverted {tells = tells} words {old = old} {new = new} {files = files} {task = task} {status = status} asked u = record {
   quiet = λ _. record {
@@ -398,6 +422,7 @@ unconverted {tells = tells} words {old = old} {new = new} {files = files} {task 
     buckets = written_of u.buckets;
     schedule = written_of u.schedule;
     judged = u.rewrites.read_written;
+    cubes = written_of u.cubes;
     made = written_of u.made;
     out = written_of u.out;
   };
@@ -407,19 +432,21 @@ unconverted {tells = tells} words {old = old} {new = new} {files = files} {task 
   buckets = λ _. faults_of u.buckets;
   schedule = λ _. faults_of u.schedule;
   judged = λ differs. u.rewrites.unfailed_reads (λ e. differs (u.ends ∙ ap status_of_convert (same_error e)));
+  cubes = λ _. faults_of u.cubes;
   proof = λ differs. u.rewrites.unfailed_writes (λ e. differs (u.ends ∙ ap status_of_convert (same_error e)));
   made = λ _. faults_of u.made;
   out = λ _. faults_of u.out;
 } where
   failed : (error : ConvertError)
-      → RewritesProof tells old.judged new.judged old.proof new.proof files task.proof task.out u.problem.clauses (Err error)
+      → RewritesProof tells old.judged new.judged old.proof new.proof files task.proof task.out u.problem.clauses
+      (named_drat_steps task.fresh u.problem) (Err error)
       → status ≡ status_of_convert error → status ≡ ReadFault → Rose old.judged.faults new.judged.faults
   failed convert_error.ReadFault rewrites ends e = (rewrites.judges (Err check_error.ReadFault) refl).fault refl
   failed convert_error.TooLong rewrites ends e = cc
   failed convert_error.OutOfMemory rewrites ends e = cc
   failed convert_error.WriteFault rewrites ends e = cc
 
-converted : {converting : Type 0} {tells : Bool} {old new : Streams} {files : Files} {task : ToRewrite} {status : Status}
+converted : {converting : Type 0} {tells : Bool} {old new : Streams} {files : Files} {task : ToConvert} {status : Status}
     → Converted tells old new files task status → Told converting old new status
 converted c = record {
   quiet = λ e. absurd (verdict_read c.verdict c.printed c.ends e);
@@ -429,12 +456,13 @@ converted c = record {
   buckets = λ _. faults_of c.buckets;
   schedule = λ _. faults_of c.schedule;
   judged = λ _. c.rewrites.unfailed_reads (λ e. ok_err e);
+  cubes = λ _. faults_of c.cubes;
   proof = λ _. c.rewrites.unfailed_writes (λ e. ok_err e);
   made = λ _. faults_of c.made;
   out = λ differs. c.puts.unfailed (verdict_ok c.verdict c.printed (λ e. differs (c.ends ∙ e)));
 }
 
-untrimmed : {converting : Type 0} {tells : Bool} {old new : Streams} {files : Files} {task : ToRewrite} {status : Status}
+untrimmed : {converting : Type 0} {tells : Bool} {old new : Streams} {files : Files} {task : ToTrim} {status : Status}
     → Untrimmed tells old new files task status → Told converting old new status
 untrimmed u = record {
   quiet = λ _. record {
@@ -443,6 +471,7 @@ untrimmed u = record {
     buckets = written_of u.buckets;
     schedule = written_of u.schedule;
     judged = u.trims.written;
+    cubes = written_of u.cubes;
     made = written_of u.made;
     out = written_of u.out;
   };
@@ -452,6 +481,7 @@ untrimmed u = record {
   buckets = λ _. faults_of u.buckets;
   schedule = λ _. faults_of u.schedule;
   judged = λ differs. u.trims.unfailed (λ e. differs (u.ends ∙ ap status_of_check (same_error e)));
+  cubes = λ _. faults_of u.cubes;
   proof = λ _. faults_of u.proof;
   made = λ _. faults_of u.made;
   out = λ _. faults_of u.out;
@@ -466,7 +496,7 @@ show_told : {tells : Bool} {old new : Channel} {text : List ℕ} {verdict : Verd
     → ShowsVerdict tells old new text verdict status → status ≢ WriteFault → new.faults ≡ old.faults
 show_told {verdict = verdict} s differs = s.puts.unfailed (verdict_ok verdict s.printed (λ e. differs (s.ends ∙ e)))
 
-rejected : {converting : Type 0} {tells : Bool} {old new : Streams} {files : Files} {task : ToRewrite} {status : Status}
+rejected : {converting : Type 0} {tells : Bool} {old new : Streams} {files : Files} {task : ToTrim} {status : Status}
     → Rejected tells old new files task status → Told converting old new status
 rejected r = record {
   quiet = λ e. absurd (show_read r.shows e);
@@ -476,25 +506,51 @@ rejected r = record {
   buckets = λ _. faults_of r.buckets;
   schedule = λ _. faults_of r.schedule;
   judged = λ _. r.trims.unfailed (λ e. ok_err e);
+  cubes = λ _. faults_of r.cubes;
   proof = λ _. faults_of r.proof;
   made = λ _. faults_of r.made;
   out = λ differs. show_told r.shows differs;
 }
 
--- the calls of the two streams that a trimmed proof and the verdict are written to
-keep_told : {tells : Bool} {old new old_out out : Channel} {file text : List ℕ} {kept total : ℕ} {status : Status}
-    → CameToKeep tells old new old_out out file text kept total status → AnswerTold old new old_out out status
-keep_told (inl u) = record { unread = no_writing u.ends; proof = λ differs. absurd (differs u.ends); out = λ _. faults_of u.same }
-keep_told (inr k) = record {
+-- the calls of the three streams that a trimmed proof, its core and the verdict are written to
+record KeepTold (old new old_made new_made old_out new_out : Channel) (status : Status) : Type 0 where
+  pub unread : status ≡ ReadFault → ⊥
+  pub proof : status ≢ WriteFault → new.faults ≡ old.faults
+  pub made : status ≢ WriteFault → new_made.faults ≡ old_made.faults
+  pub out : status ≢ WriteFault → new_out.faults ≡ old_out.faults
+
+named_told : {tells : Bool} {old new : Channel} {core : List ℕ} {answer : Result ⊤ Failed} (named : Option (List ℕ))
+    → PutsNamed tells old new named core answer → IsOk answer → new.faults ≡ old.faults
+named_told None puts ok = faults_of (puts.unasked refl).0
+named_told (Some file) puts ok = (puts.asked file refl).unfailed ok
+
+keep_told : {tells : Bool} {old new old_made made old_out out : Channel} {file text : List ℕ} (named : Option (List ℕ)) {core : List ℕ}
+    {kept total : ℕ} {status : Status}
+    → CameToKeep tells old new old_made made old_out out file text named core kept total status
+    → KeepTold old new old_made made old_out out status
+keep_told named (inl u) = record {
+  unread = no_writing u.ends;
+  proof = λ differs. absurd (differs u.ends);
+  made = λ _. faults_of u.unmade;
+  out = λ _. faults_of u.same;
+}
+keep_told named (inr (inl u)) = record {
+  unread = no_writing u.ends;
+  proof = λ differs. absurd (differs u.ends);
+  made = λ differs. absurd (differs u.ends);
+  out = λ _. faults_of u.same;
+}
+keep_told named (inr (inr k)) = record {
   unread = show_read k.shows;
   proof = λ _. k.puts.unfailed k.done;
+  made = λ _. named_told named k.cored k.core_done;
   out = λ differs. show_told k.shows differs;
 }
 
-trimmed : {converting : Type 0} {tells : Bool} {old new : Streams} {files : Files} {task : ToRewrite} {status : Status}
+trimmed : {converting : Type 0} {tells : Bool} {old new : Streams} {files : Files} {task : ToTrim} {status : Status}
     → Trimmed tells old new files task status → Told converting old new status
-trimmed c =
-    let answer = keep_told c.came in
+trimmed {task = task} c =
+    let answer = keep_told task.core c.came in
     record {
       quiet = λ e. absurd (answer.unread e);
       quiet_proof = λ e. absurd (answer.unread e);
@@ -503,10 +559,88 @@ trimmed c =
       buckets = λ _. faults_of c.buckets;
       schedule = λ _. faults_of c.schedule;
       judged = λ _. c.trims.unfailed (λ e. ok_err e);
+      cubes = λ _. faults_of c.cubes;
       proof = answer.proof;
-      made = λ _. faults_of c.made;
+      made = answer.made;
       out = answer.out;
     }
+
+uncubed : {converting : Type 0} {tells : Bool} {old new : Streams} {files : Files} {task : ToAsk} {status : Status}
+    → Uncubed tells old new files task status → Told converting old new status
+uncubed {task = task} u =
+    let orders = order_served task.order u.orders in
+    record {
+      quiet = λ _. record {
+        cnf = u.takes.written;
+        order = orders.written;
+        buckets = written_of u.buckets;
+        schedule = written_of u.schedule;
+        judged = written_of u.judged;
+        cubes = u.cubed.written;
+        made = written_of u.made;
+        out = written_of u.out;
+      };
+      quiet_proof = λ _. inl (written_of u.proof);
+      cnf = λ _. u.takes.unfailed (λ e. ok_err e);
+      order = λ _. orders.unfailed (λ e. ok_err e);
+      buckets = λ _. faults_of u.buckets;
+      schedule = λ _. faults_of u.schedule;
+      judged = λ _. faults_of u.judged;
+      cubes = λ differs. u.cubed.unfailed (λ e. differs (u.ends ∙ ap status_of_cubes (same_error e)));
+      proof = λ _. faults_of u.proof;
+      made = λ _. faults_of u.made;
+      out = λ _. faults_of u.out;
+    }
+
+replies_read : {status : Status} (found : Replies) (printed : Result ⊤ Failed) → status ≡ status_after_replies found printed
+    → status ≡ ReadFault → ⊥
+replies_read {status = status} found (Ok x) ends e = (accepts_replies status found ends).read e
+replies_read found (Err f) ends e = cc
+
+replies_ok : (found : Replies) (printed : Result ⊤ Failed) → status_after_replies found printed ≢ WriteFault → IsOk printed
+replies_ok found (Ok x) differs = refl
+replies_ok found (Err e) differs = absurd (differs refl)
+
+-- the calls of the two streams that the answers to cubes are written to
+reply_told : {tells : Bool} {old new old_out out : Channel} {problem : Formula} {order : List ℕ} {cubes : List (List ℤ)} {job : Job}
+    {status : Status}
+    → CameToReply tells old new old_out out problem order cubes job status → AnswerTold old new old_out out status
+reply_told (inl u) = record { unread = no_writing u.ends; proof = λ differs. absurd (differs u.ends); out = λ _. faults_of u.same }
+reply_told (inr (inl u)) = record {
+  unread = run_read u.error u.ends;
+  proof = λ differs. u.writes.unfailed (λ e. differs (u.ends ∙ ap status_of_run (same_error e))) ∙ u.opens.faults.unfailed u.done;
+  out = λ _. faults_of u.same;
+}
+reply_told (inr (inr a)) = record {
+  unread = replies_read a.found a.printed a.ends;
+  proof = λ _. a.writes.unfailed (λ e. ok_err e) ∙ a.opens.faults.unfailed a.done;
+  out = λ differs. a.puts.unfailed (replies_ok a.found a.printed (λ e. differs (a.ends ∙ e)));
+}
+
+questioned : {converting : Type 0} {tells : Bool} {old new : Streams} {files : Files} {task : ToAsk} {status : Status}
+    → Questioned tells old new files task status → Told converting old new status
+questioned {task = task} q =
+    let answer = reply_told q.came in
+    record {
+      quiet = λ e. absurd (answer.unread e);
+      quiet_proof = λ e. absurd (answer.unread e);
+      cnf = λ _. q.takes.unfailed (λ e. ok_err e);
+      order = λ _. (order_served task.order q.orders).unfailed (λ e. ok_err e);
+      buckets = λ _. faults_of q.buckets;
+      schedule = λ _. faults_of q.schedule;
+      judged = λ _. faults_of q.judged;
+      cubes = λ _. q.cubed.unfailed (λ e. ok_err e);
+      proof = answer.proof;
+      made = λ _. faults_of q.made;
+      out = answer.out;
+    }
+
+came_to_ask : {converting : Type 0} {tells : Bool} {old new : Streams} {files : Files} {task : ToAsk} {status : Status}
+    → CameToAsk tells old new files task status → Told converting old new status
+came_to_ask (inl u) = untaken u
+came_to_ask (inr (inl u)) = unordered u
+came_to_ask (inr (inr (inl u))) = uncubed u
+came_to_ask (inr (inr (inr q))) = questioned q
 
 came : {converting : Type 0} {tells : Bool} {old new : Streams} {files : Files} {task : ToSolve} {status : Status} → Came tells old new files task status
     → Told converting old new status
@@ -538,14 +672,14 @@ came_to_arrange (inl u) = untaken u
 came_to_arrange {task = task} (inr (inl u)) = formula_and_text task.mode u.takes u.alone (no_memory u.ends) (λ _. faults_of u.made)
 came_to_arrange {task = task} (inr (inr a)) = formula_and_text task.mode a.takes a.alone (write_unread a.came) (write_told a.came)
 
-came_to_convert : {tells : Bool} (words : List (List ℕ)) {old new : Streams} {files : Files} {task : ToRewrite} {status : Status}
+came_to_convert : {tells : Bool} (words : List (List ℕ)) {old new : Streams} {files : Files} {task : ToConvert} {status : Status}
     → command words ≡ Some (Convert task) → CameToConvert tells old new files task status
     → Told (IsConverting words old new status) old new status
 came_to_convert words asked (inl u) = untaken u
 came_to_convert words asked (inr (inl u)) = unconverted words asked u
 came_to_convert words asked (inr (inr c)) = converted c
 
-came_to_trim : {converting : Type 0} {tells : Bool} {old new : Streams} {files : Files} {task : ToRewrite} {status : Status}
+came_to_trim : {converting : Type 0} {tells : Bool} {old new : Streams} {files : Files} {task : ToTrim} {status : Status}
     → CameToTrim tells old new files task status → Told converting old new status
 came_to_trim (inl u) = untaken u
 came_to_trim (inr (inl u)) = untrimmed u
@@ -562,7 +696,8 @@ told (inr (inr (inr (inr (inl b))))) = came_to_bench b.came
 told (inr (inr (inr (inr (inr (inl m)))))) = came_to_make m.came
 told (inr (inr (inr (inr (inr (inr (inl a))))))) = came_to_arrange a.came
 told {words = words} (inr (inr (inr (inr (inr (inr (inr (inl d)))))))) = came_to_convert words d.asked d.came
-told (inr (inr (inr (inr (inr (inr (inr (inr d)))))))) = came_to_trim d.came
+told (inr (inr (inr (inr (inr (inr (inr (inr (inl d))))))))) = came_to_trim d.came
+told (inr (inr (inr (inr (inr (inr (inr (inr (inr a))))))))) = came_to_ask a.came
 
 pub failures : (run : Run) → Told (ConvertsAsItReads run) (streams_of run.before) (streams_of run.after) run.status → FailuresAreTold run
 failures run counts = record { read = read; write = write } where
@@ -572,6 +707,7 @@ failures run counts = record { read = read; write = write } where
   read differs Buckets is = counts.buckets differs
   read differs Schedule is = counts.schedule differs
   read differs ProofIn is = counts.judged differs
+  read differs Cubes is = counts.cubes differs
   read differs ProofOut is = absurd is
   read differs Made is = absurd is
   read differs Out is = absurd is
@@ -587,7 +723,9 @@ failures run counts = record { read = read; write = write } where
   write differs Schedule (inl is) = absurd is
   write differs Schedule (inr is) = cc
   write differs ProofIn (inl is) = absurd is
+  write differs Cubes (inl is) = absurd is
   write differs ProofIn (inr is) = cc
+  write differs Cubes (inr is) = cc
   write differs ProofOut is = counts.proof differs
   write differs Made is = counts.made differs
   write differs Out is = counts.out differs
@@ -605,6 +743,7 @@ quiet run counts fault t = each where
   each Buckets other = inl (none Buckets (counts.quiet fault).buckets)
   each Schedule other = inl (none Schedule (counts.quiet fault).schedule)
   each ProofIn other = inl (none ProofIn (counts.quiet fault).judged)
+  each Cubes other = inl (none Cubes (counts.quiet fault).cubes)
   each ProofOut other = elim (counts.quiet_proof fault) [
     | inl same ↦ inl (none ProofOut same)
     | inr converting ↦ inr (refl, converting)

@@ -16,14 +16,14 @@ use Rattle.solver_cli.specs.ExitCode.{status_of_check}
 use Rattle.solver_cli.specs.Format.{verdict_in}
 use Rattle.solver_cli.specs.Verdict.{status_of_verdict}
 use Rattle.solver_cli.specs.Phases.{JudgesText, JudgesProof}
-use Rattle.solver_cli.specs.Headline.{IsLongProof, CallsFor, IsComplete, WrittenStands}
+use Rattle.solver_cli.specs.Headline.{IsLongProof, CallsFor, IsComplete, MadeStands, WrittenStands}
 use Rattle.solver_cli.specs.Run.{Run, taken_in, IsUnharmed, AsksOver, AsksToJudge, HasVerdict, GivesConversion, OutputFailed, name_given}
 use Rattle.solver_cli.specs.Faults.{IsOpenProof}
 use Rattle.solver_cli.proofs.Facts.{one_proof, not_unasked, decided_unjudged, judged_apart, only_misuse, only_help}
 use Rattle.solver_cli.proofs.Facts.{same_command, same_formula}
 use Rattle.solver_cli.proofs.CallsFor.{same_text}
 use Rattle.solver_cli.proofs.VerdictLaws.{Laws}
-use Rattle.solver_cli.proofs.Promised.{Core, LeftAlone, left_proof, refused, short, unread}
+use Rattle.solver_cli.proofs.Promised.{Core, LeftAlone, left_proof, no_text, refused, short, unread}
 use Rattle.solver_cli.proofs.Deciding.{deciding}
 
 -- the words name one formula and one proof, which has one verdict
@@ -48,7 +48,7 @@ pub record Judging (run : Run) (problem : Formula) : Type 0 where
   pub named : name_given ProofIn asked ≡ Some file
   pub read : IsTrue run.tells → AsksOver run asked (formula problem)
   pub literals : AreClausesOf problem.vars problem.clauses
-  pub made : run.after Made ≡ run.before Made
+  pub made : MadeStands run
   pub stands : WrittenStands run
 
 -- the command is `check`
@@ -62,7 +62,7 @@ checks run task asked read literals made proof = record {
   named = refl;
   read = read;
   literals = literals;
-  made = made;
+  made = no_text run made;
   stands = left_proof run proof;
 }
 
@@ -79,6 +79,7 @@ check_complete run j uncalled judges = record {
   unasked = λ none _. absurd (not_unasked j.gives none);
   answers = λ other asks. let given = deciding run other asks in
       absurd (judged_apart j.gives j.named given.1 (decided_unjudged given.0 given.2));
+  replies = λ other order cubes asks. absurd (judged_apart j.gives j.named asks.asks.command refl);
   judges = judges;
   makes = λ given. absurd (judged_apart j.gives j.named given.1 refl);
   arranges = λ task problem asks. absurd (judged_apart j.gives j.named asks.command refl);
@@ -86,14 +87,15 @@ check_complete run j uncalled judges = record {
 }
 
 -- the proof was not judged
-pub unjudged : Laws → (run : Run) {problem : Formula} (j : Judging run problem) → run.after Out ≡ run.before Out → (e : CheckError)
+pub unjudged : Laws → (run : Run) {problem : Formula} (j : Judging run problem) → run.after Made ≡ run.before Made
+    → run.after Out ≡ run.before Out → (e : CheckError)
     → JudgesProof (format_of j.asked) run.tells (run.before ProofIn) (run.after ProofIn) run.files j.file problem.clauses (Err e)
     → run.status ≡ status_of_check e → Core run
-unjudged laws run {problem = problem} j out = go where
+unjudged laws run {problem = problem} j made out = go where
   alone : (status : Status) → LeftAlone run status
   alone status = record {
     proof = j.stands;
-    made = j.made;
+    made = made;
     out = out;
     makes = λ make. absurd (judged_apart j.gives j.named make.1 refl);
   }
@@ -106,7 +108,7 @@ unjudged laws run {problem = problem} j out = go where
       → run.status ≡ status_of_check e → Core run
   go error.ReadFault judges ends = unread run j.asked j.gives (alone ReadFault) ends
       (ProofIn, tt, judges.fault refl, j.asked, j.file, j.gives, j.named)
-      (λ t. inr (inr (inr (inr (open_proof t))))) where
+      (λ t. inr (inr (inr (inr (inl (open_proof t)))))) where
         open_proof : IsTrue run.tells → IsOpenProof run
         open_proof t = record {
           asked = j.asked;

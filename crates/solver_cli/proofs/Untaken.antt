@@ -1,11 +1,11 @@
 -- What is promised of a run that a text ended: the formula's, the order's, that of the buckets' order or the schedule's.
-use Rattle.std.proofs.Common.{◌≡◌, ℕ, false, List, [], refl, sym, ap, ◌∙◌, subst, Some, None, Ok, Err, IsTrue, inl, inr, true≢false}
+use Rattle.std.proofs.Common.{◌≡◌, ℕ, false, true, List, [], refl, sym, ap, ◌∙◌, subst, Some, None, Ok, Err, IsTrue, inl, inr, true≢false}
 use Rattle.std.specs.Prelude.{Bool, Option, Result, ◌≢◌, ◌⊎◌}
 use Rattle.cnf_base.specs.Formula.{Formula}
 use Rattle.host_io.specs.Channel.{Channel}
 use Rattle.host_io.specs.Files.{Files, IsInput}
 use Rattle.host_io.specs.declared.role.Role.{Role}
-use Rattle.host_io.specs.declared.role.Role.TheVariants.{Cnf, Order, Buckets, Schedule, ProofIn, ProofOut, Made, Out, Err as ErrRole}
+use Rattle.host_io.specs.declared.role.Role.TheVariants.{Cnf, Order, Buckets, Schedule, ProofIn, Cubes, ProofOut, Made, Out, Err as ErrRole}
 use Rattle.dimacs_reader.specs.Cnf.{CnfText, formula, cnf}
 use Rattle.dimacs_reader.specs.declared.mode.Mode.{Mode}
 use Rattle.dimacs_reader.specs.declared.error.CnfError.{CnfError}
@@ -29,14 +29,14 @@ use Rattle.solver_cli.specs.Phases.{ReadsText, TakesFormula, TakesOrder, TakesSc
 use Rattle.solver_cli.specs.Phases.{WantsRead, buckets_file, order_wants, schedule_wants}
 use Rattle.solver_cli.specs.Stages.{streams_of, Untaken, Unordered, Unbucketed, Unplanned}
 use Rattle.solver_cli.specs.Headline.{IsRefusedBy, OrderIsRefusedBy, BucketsAreRefusedBy, ScheduleIsRefusedBy, MemoryIsWanted}
-use Rattle.solver_cli.specs.Run.{Run, taken_in, AsksOver, schedule_file}
+use Rattle.solver_cli.specs.Run.{Run, taken_in, AsksOver, goes_by_order, name_given, schedule_file}
 use Rattle.solver_cli.specs.Faults.{IsOpenFormula}
 use Rattle.solver_cli.proofs.Reading.{text_read, ok_err, same_error}
 use Rattle.solver_cli.proofs.Facts.{same_command, decided_apart}
 use Rattle.solver_cli.proofs.Promised.{Core, LeftAlone, left_proof, refused, short, unread, untouched}
 
 -- a reader that wants no memory before the first byte
-not_early : {A B : Type 0} → (IsTrue false × A) ⊎ B → B
+pub not_early : {A B : Type 0} → (IsTrue false × A) ⊎ B → B
 not_early (inl early) = absurd (true≢false (sym early.0))
 not_early (inr wants) = wants
 
@@ -83,6 +83,7 @@ untaken run asked file gives named u = go u.error u.takes u.ends where
     others Buckets is other = untouched run Buckets u.buckets
     others Schedule is other = untouched run Schedule u.schedule
     others ProofIn is other = untouched run ProofIn u.judged
+    others Cubes is other = untouched run Cubes u.cubes
     others ProofOut is other = absurd is
     others Made is other = absurd is
     others Out is other = absurd is
@@ -94,6 +95,7 @@ untaken run asked file gives named u = go u.error u.takes u.ends where
   rest Buckets other _ = u.buckets
   rest Schedule other _ = u.schedule
   rest ProofIn other _ = u.judged
+  rest Cubes other _ = u.cubes
   rest ProofOut other _ = u.proof
   rest Made other _ = u.made
   rest Out other _ = u.out
@@ -192,30 +194,38 @@ planned {tells = tells} {old_buckets = old_buckets} {new_buckets = new_buckets} 
       by (Err error) takes e = absurd (ok_err e)
 planned Found bucketed has t = (has.found refl).found
 
--- the order was not had
-pub unordered : (run : Run) (task : ToSolve) → command run.words ≡ Some (Solve task)
-    → Unordered run.tells (streams_of run.before) (streams_of run.after) run.files task run.status → Core run
-unordered run task gives u = by task.order refl u.orders where
-  asks : IsTrue run.tells → AsksOver run (Solve task) (formula u.problem)
-  asks = took run (Solve task) task.file u.problem gives refl u.takes
+-- the order was not had, by a command that goes by one
+pub unordered : (run : Run) (asked : Command) (own : List ℕ) (order : Option (List ℕ)) → command run.words ≡ Some asked
+    → formula_file asked ≡ Some own → name_given Order asked ≡ order → goes_by_order asked ≡ true
+    → Unordered (mode_of asked) run.tells (streams_of run.before) (streams_of run.after) run.files own order run.status → Core run
+unordered run asked own order gives called is goes u = by order refl u.orders where
+  asks : IsTrue run.tells → AsksOver run asked (formula u.problem)
+  asks = took run asked own u.problem gives called u.takes
 
   alone : (status : Status) → LeftAlone run status
-  alone = solve_alone run task gives u.proof u.made u.out
+  alone status = record {
+    proof = left_proof run u.proof;
+    made = u.made;
+    out = u.out;
+    makes = λ make. absurd (true≢false (sym goes ∙ ap goes_by_order (same_command gives make.1)));
+  }
 
-  wanted : (IsTrue run.tells → (file : List ℕ) → task.order ≡ Some file
+  wanted : (IsTrue run.tells → (file : List ℕ) → name_given Order asked ≡ Some file
       → WantsRead (order_wants u.problem.vars) run.files file (taken_in run Order)) → MemoryIsWanted run
   wanted wants = inr (inr (inl (record {
-    task = task;
+    asked = asked;
     given = gives;
+    by_order = goes;
     problem = u.problem;
     asks = asks;
     wants = wants;
     before_buckets = u.buckets;
     before_schedule = u.schedule;
+    before_cubes = u.cubes;
     before_proof = u.proof;
   })))
 
-  go : (file : List ℕ) → task.order ≡ Some file → (error : OrderError)
+  go : (file : List ℕ) → name_given Order asked ≡ Some file → (error : OrderError)
       → TakesOrder u.problem.vars run.tells (run.before Order) (run.after Order) run.files file (Err error) → run.status
       ≡ status_of_order error → Core run
   go file named error takes ends = by_error error takes ends where
@@ -227,7 +237,7 @@ unordered run task gives u = by task.order refl u.orders where
     text t says told decided = record {
       problem = u.problem;
       asks = record {
-        task = task;
+        asked = asked;
         asks = asks t;
         file = file;
         named = named;
@@ -239,14 +249,14 @@ unordered run task gives u = by task.order refl u.orders where
     by_error : (error : OrderError) → TakesOrder u.problem.vars run.tells (run.before Order) (run.after Order) run.files file (Err error)
         → run.status ≡ status_of_order error → Core run
     by_error (order_error.Refused kind line) takes ends =
-        refused run (Solve task) gives (alone (OrderRefused kind line)) ends refl (λ e. cc)
-        ((task, gives, file, named), λ t. let says = text_read (λ e. cc) takes t in text t says says.told says.decided)
+        refused run asked gives (alone (OrderRefused kind line)) ends refl (λ e. cc)
+        ((asked, gives, file, named), λ t. let says = text_read (λ e. cc) takes t in text t says says.told says.decided)
     by_error order_error.TooLong takes ends =
-        refused run (Solve task) gives (alone (TooLong Order)) ends refl (λ e. cc)
-        ((task, gives, file, named), λ t. let says = text_read (λ e. cc) takes t in text t says says.told says.decided)
-    by_error order_error.ReadFault takes ends = unread run (Solve task) gives (alone ReadFault) ends
-        (Order, tt, takes.failed refl, Solve task, file, gives, named) (λ t. inr (inl (record {
-          task = task;
+        refused run asked gives (alone (TooLong Order)) ends refl (λ e. cc)
+        ((asked, gives, file, named), λ t. let says = text_read (λ e. cc) takes t in text t says says.told says.decided)
+    by_error order_error.ReadFault takes ends = unread run asked gives (alone ReadFault) ends
+        (Order, tt, takes.failed refl, asked, file, gives, named) (λ t. inr (inl (record {
+          asked = asked;
           problem = u.problem;
           asks = asks t;
           file = file;
@@ -255,16 +265,17 @@ unordered run task gives u = by task.order refl u.orders where
           undecided = takes.undecided t refl;
           before_schedule = untouched run Schedule u.schedule;
           before_buckets = untouched run Buckets u.buckets;
+          before_cubes = untouched run Cubes u.cubes;
         })))
-    by_error order_error.OutOfMemory takes ends = short run (Solve task) gives (alone OutOfMemory)
+    by_error order_error.OutOfMemory takes ends = short run asked gives (alone OutOfMemory)
         (wanted (λ t other same. subst (λ (f : List ℕ). WantsRead (order_wants u.problem.vars) run.files f (taken_in run Order))
         (some_same named same) (not_early (takes.memory t refl)))) ends
 
-  by : (file : Option (List ℕ)) → task.order ≡ file → HasOrder u.problem.vars file run.tells (run.before Order) (run.after Order) run.files
+  by : (file : Option (List ℕ)) → order ≡ file → HasOrder u.problem.vars file run.tells (run.before Order) (run.after Order) run.files
       (Err u.error) → Core run
-  by None named has = short run (Solve task) gives (alone OutOfMemory) (wanted (λ t other same. absurd (none_given named same)))
+  by None named has = short run asked gives (alone OutOfMemory) (wanted (λ t other same. absurd (none_given (is ∙ named) same)))
       (u.ends ∙ ap status_of_order (has.natural refl).refused)
-  by (Some file) named has = go file named u.error (has.named file refl) u.ends
+  by (Some file) named has = go file (is ∙ named) u.error (has.named file refl) u.ends
 
 -- the order of the buckets was not had
 pub unbucketed : (run : Run) (task : ToSolve) → command run.words ≡ Some (Solve task)

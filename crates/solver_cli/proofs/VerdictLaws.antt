@@ -6,6 +6,7 @@ use Rattle.lrat_rules.specs.Run.{Refutes, verdict}
 use Rattle.lrat_rules.specs.declared.outcome.Reason.{Reason}
 use Rattle.lrat_checker.specs.TextVerdict.{max_bytes, text_verdict}
 use Rattle.lrat_checker.specs.declared.verdict.Verdict.TheVariants as judgement
+use Rattle.proof_trim.specs.Core.{RefutesFrom, clauses_at, core, core_start}
 use Rattle.proof_trim.specs.Trimmed.{each_named, trim, trimmed}
 use Rattle.drat_text.specs.declared.step.DratStep.{DratStep}
 use Rattle.drat_text.specs.DratText.{drat_lines}
@@ -44,6 +45,10 @@ pub record TrimLaws : Type 0 where
       → length (trim clauses bytes) ≤ max_bytes → text_verdict clauses (trim clauses bytes) ≡ Some judgement.Verified
   pub again : (clauses : List (List ℤ)) (bytes : List ℕ) → text_verdict clauses bytes ≡ Some judgement.Verified
       → length (trim clauses bytes) ≤ max_bytes → trim clauses (trim clauses bytes) ≡ trim clauses bytes
+  pub core_refuted : (clauses : List (List ℤ)) (bytes : List ℕ) → text_verdict clauses bytes ≡ Some judgement.Verified
+      → RefutesFrom (core_start clauses (core clauses bytes)) (trimmed clauses bytes)
+  pub core_unsatisfiable : (vars : ℕ) (clauses : List (List ℤ)) (bytes : List ℕ) → AreClausesOf vars clauses
+      → text_verdict clauses bytes ≡ Some judgement.Verified → (a : Assignment) → Satisfies a (clauses_at clauses (core clauses bytes)) → ⊥
 
 -- those of a format
 pub record Laws : Type 0 where

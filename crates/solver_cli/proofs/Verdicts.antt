@@ -40,8 +40,8 @@ no_write judgement.Verified e = cc
 no_write (judgement.Refused line reason) e = cc
 
 pub accepts_verdict : (status : Status) (judged : Verdict) → status ≡ status_of_verdict judged → Accepts status
-accepts_verdict status judgement.Verified is = record { help = λ e. cc; read = λ e. cc; done = λ e. cc }
-accepts_verdict status (judgement.Refused line reason) is = record { help = λ e. cc; read = λ e. cc; done = λ e. cc }
+accepts_verdict status judgement.Verified is = record { help = λ e. cc; read = λ e. cc; done = λ e. cc; answered = λ e. cc }
+accepts_verdict status (judgement.Refused line reason) is = record { help = λ e. cc; read = λ e. cc; done = λ e. cc; answered = λ e. cc }
 
 record Undecided (status : Status) : Type 0 where
   pub unsat : status ≡ Unsat → ⊥
@@ -146,6 +146,7 @@ judged laws run {problem = problem} j verdict judges rewrites {text = text} says
         unsatisfiable = λ e. absurd (undecided.unsat e);
         satisfiable = λ e. absurd (undecided.sat e);
         undecided = λ why e. absurd (undecided.unknown why e);
+        answered = λ e. absurd (accepts.answered e);
         verdict = record {
           verified = λ e. (
             (j.asked, j.gives, j.file, j.named),
@@ -180,7 +181,7 @@ judged laws run {problem = problem} j verdict judges rewrites {text = text} says
           );
         };
         made = λ e. absurd (undecided.done e);
-        made_file = no_text run j.made;
+        made_file = j.made;
         refusals = verdict_due run verdict ends;
         faults = λ quiet. record {
           read = λ e. absurd (accepts.read e);
@@ -218,9 +219,10 @@ judged laws run {problem = problem} j verdict judges rewrites {text = text} says
         unsatisfiable = λ d. absurd (no_answer unanswered refl d);
         satisfiable = λ d. absurd (no_answer unanswered refl d);
         undecided = λ why d. absurd (no_answer unanswered refl d);
+        answered = λ d. absurd (no_answer unanswered refl d);
         verdict = no_verdict run unanswered;
         made = λ d. absurd (accepts.done d);
-        made_file = no_text run j.made;
+        made_file = j.made;
         refusals = due run ends tt;
         faults = λ quiet. record {
           read = λ d. absurd (accepts.read d);

@@ -4,13 +4,13 @@ use Rattle.std.specs.Prelude.{Option}
 use Rattle.host_io.specs.Channel.{Channel}
 use Rattle.host_io.specs.Files.{Files, Others, Kept}
 use Rattle.host_io.specs.declared.role.Role.{Role}
-use Rattle.host_io.specs.declared.role.Role.TheVariants.{Cnf, Order, Buckets, Schedule, ProofIn, ProofOut, Made, Out, Err as ErrRole}
+use Rattle.host_io.specs.declared.role.Role.TheVariants.{Cnf, Order, Buckets, Schedule, ProofIn, Cubes, ProofOut, Made, Out, Err as ErrRole}
 use Rattle.cnf_base.specs.Formula.{Formula}
 use Rattle.schedule_plan.specs.declared.plan.Move.{Move}
 use Rattle.solver_cli.specs.Phases.{Complains}
-use Rattle.command_line.specs.Command.{ToRewrite, Solve, Check, Bench, Make, Arrange, Convert, Trim, command, progress_asked}
+use Rattle.command_line.specs.Command.{ToConvert, ToTrim, Solve, Ask, Check, Bench, Make, Arrange, Convert, Trim, command, progress_asked}
 use Rattle.solver_cli.specs.Stages.{Streams, FilesBeside, Job, streams_of, Came, CameToAnswer, CameToArrange, CameToBench, CameToCheck}
-use Rattle.solver_cli.specs.Stages.{CameToConvert, CameToMake, CameToTrim, Stages}
+use Rattle.solver_cli.specs.Stages.{CameToAsk, CameToConvert, CameToMake, CameToTrim, Stages}
 use Rattle.solver_cli.specs.Headline.{ErrorStands, Promises}
 use Rattle.solver_cli.specs.Progress.{IsTold}
 use Rattle.solver_cli.specs.Run.{Run}
@@ -26,6 +26,7 @@ use Rattle.solver_cli.proofs.VerdictLaws.{Laws}
 use Rattle.solver_cli.proofs.Unjudged.{checks, unjudged}
 use Rattle.solver_cli.proofs.Conversions.{converted, unconverted}
 use Rattle.solver_cli.proofs.Trimmings.{rejected, trimmed, untrimmed}
+use Rattle.solver_cli.proofs.Questions.{questioned, uncubed}
 use Rattle.solver_cli.proofs.Verdicts.{judged, plainly}
 use Rattle.solver_cli.proofs.Texts.{arranged, made, unarranged, unmade}
 use Rattle.solver_cli.proofs.Named.{stream_names, names, error_stands}
@@ -44,7 +45,7 @@ core law run (inr (inl h)) = helped run h
 core law run (inr (inr (inl t))) = came t.came where
   came : Came run.tells (streams_of run.before) (streams_of run.after) run.files t.task run.status → Core run
   came (inl u) = untaken run (Solve t.task) t.task.file t.asked refl u
-  came (inr (inl u)) = unordered run t.task t.asked u
+  came (inr (inl u)) = unordered run (Solve t.task) t.task.file t.task.order t.asked refl refl refl u
   came (inr (inr (inl u))) = unbucketed run t.task t.asked u
   came (inr (inr (inr (inl u)))) = unplanned run t.task t.asked u
   came (inr (inr (inr (inr s)))) = answers run (posed_by_files run t.task t.asked s.prepared) s.came
@@ -53,7 +54,7 @@ core law run (inr (inr (inr (inl c)))) = came c.came where
   came (inl u) = untaken run (Check c.task) c.task.file c.asked refl u
   came (inr (inl u)) =
       let asks = took run (Check c.task) c.task.file u.problem c.asked refl u.takes in
-      unjudged law run (checks run c.task c.asked asks u.takes.fits.literals u.made u.proof) u.out u.error u.judges u.ends
+      unjudged law run (checks run c.task c.asked asks u.takes.fits.literals u.made u.proof) u.made u.out u.error u.judges u.ends
   came (inr (inr j)) =
       let asks = took run (Check c.task) c.task.file j.problem c.asked refl j.takes in
       judged law run (checks run c.task c.asked asks j.takes.fits.literals j.made j.proof) j.verdict j.judges
@@ -62,10 +63,10 @@ core law run (inr (inr (inr (inl c)))) = came c.came where
         trimmed = λ _ given. absurd (no_trimming (same_command c.asked given.1));
       })
       (λ t bytes stands. plainly run j.problem bytes c.asked refl j.verdict) j.printed j.puts j.ends where
-        no_conversion : {other : ToRewrite} → Check c.task ≡ Convert other → ⊥
+        no_conversion : {other : ToConvert} → Check c.task ≡ Convert other → ⊥
         no_conversion e = cc
 
-        no_trimming : {other : ToRewrite} → Check c.task ≡ Trim other → ⊥
+        no_trimming : {other : ToTrim} → Check c.task ≡ Trim other → ⊥
         no_trimming e = cc
 core law run (inr (inr (inr (inr (inl b))))) = came b.came where
   came : CameToBench run.tells (streams_of run.before) (streams_of run.after) b.task run.status → Core run
@@ -85,12 +86,18 @@ core law run (inr (inr (inr (inr (inr (inr (inr (inl d)))))))) = came d.came whe
   came (inl u) = untaken run (Convert d.task) d.task.file d.asked refl u
   came (inr (inl u)) = unconverted law run d.task d.asked u
   came (inr (inr had)) = converted law run d.task d.asked had
-core law run (inr (inr (inr (inr (inr (inr (inr (inr d)))))))) = came d.came where
+core law run (inr (inr (inr (inr (inr (inr (inr (inr (inl d))))))))) = came d.came where
   came : CameToTrim run.tells (streams_of run.before) (streams_of run.after) run.files d.task run.status → Core run
   came (inl u) = untaken run (Trim d.task) d.task.file d.asked refl u
   came (inr (inl u)) = untrimmed law run d.task d.asked u
   came (inr (inr (inl r))) = rejected law run d.task d.asked r
   came (inr (inr (inr had))) = trimmed law run d.task d.asked had
+core law run (inr (inr (inr (inr (inr (inr (inr (inr (inr a))))))))) = came a.came where
+  came : CameToAsk run.tells (streams_of run.before) (streams_of run.after) run.files a.task run.status → Core run
+  came (inl u) = untaken run (Ask a.task) a.task.file a.asked refl u
+  came (inr (inl u)) = unordered run (Ask a.task) a.task.file a.task.order a.asked refl refl refl u
+  came (inr (inr (inl u))) = uncubed run a.task a.asked u
+  came (inr (inr (inr had))) = questioned run a.task a.asked had
 
 whole : Laws → (run : Run) → ((role : Role) → (run.before role).name ≡ None)
     → Stages run.tells run.words (streams_of run.before) (streams_of run.after) run.files run.status
@@ -103,6 +110,7 @@ whole law run unnamed stages error files stands =
       unsatisfiable = c.unsatisfiable;
       satisfiable = c.satisfiable;
       undecided = c.undecided;
+      answered = c.answered;
       verdict = c.verdict;
       made = c.made;
       made_file = c.made_file;
@@ -124,6 +132,7 @@ streams_kept old new beside = λ i. record {
   buckets = beside Buckets refl i;
   schedule = beside Schedule refl i;
   judged = beside ProofIn refl i;
+  cubes = beside Cubes refl i;
   proof = beside ProofOut refl i;
   made = beside Made refl i;
   out = beside Out refl i;

@@ -4,7 +4,7 @@ use Rattle.host_io.specs.declared.role.Role.TheVariants.{ProofOut}
 use Rattle.lrat_checker.specs.TextVerdict.{max_bytes}
 use Rattle.solver_cli.specs.declared.status.Status.TheVariants.{Verified}
 use Rattle.command_line.specs.declared.format.ProofFormat.TheVariants.{Drat}
-use Rattle.command_line.specs.Command.{ToCheck, ToRewrite, Check, Convert, command}
+use Rattle.command_line.specs.Command.{ToCheck, ToConvert, Check, Convert, command}
 use Rattle.solver_cli.specs.Run.{Run, written_in}
 
 -- One run verified an LRAT proof over a formula, and wrote it as a DRAT proof that is no longer than is looked at. Another judges a
@@ -13,7 +13,7 @@ pub record ChecksConverted (converted checked : Run) : Type 0 where
   pub converted_tells : IsTrue converted.tells
   pub checked_tells : IsTrue checked.tells
   pub verified : converted.status ≡ Verified
-  pub drat : ToRewrite
+  pub drat : ToConvert
   pub drat_asked : command converted.words ≡ Some (Convert drat)
   pub task : ToCheck
   pub check_asked : command checked.words ≡ Some (Check task)

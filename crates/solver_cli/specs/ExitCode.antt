@@ -4,7 +4,9 @@ use Rattle.std.specs.Prelude.{ℕ}
 use Rattle.dimacs_reader.specs.declared.error.CnfError.{CnfError}
 use Rattle.dimacs_reader.specs.declared.error.CnfError.TheVariants.{Refused, ReadFault as CnfReadFault, TooLong as CnfTooLong}
 use Rattle.dimacs_reader.specs.declared.error.CnfError.TheVariants.{OutOfMemory as CnfOutOfMemory}
-use Rattle.host_io.specs.declared.role.Role.TheVariants.{Cnf, Order, Buckets, Schedule, ProofIn}
+use Rattle.cube_text.specs.declared.error.CubeError.{CubeError}
+use Rattle.cube_text.specs.declared.error.CubeError.TheVariants as cubes
+use Rattle.host_io.specs.declared.role.Role.TheVariants.{Cnf, Order, Buckets, Schedule, ProofIn, Cubes}
 use Rattle.lrat_checker.specs.declared.verdict.CheckError.{CheckError}
 use Rattle.lrat_checker.specs.declared.verdict.CheckError.TheVariants.{ReadFault as CheckReadFault, TooLong as CheckTooLong}
 use Rattle.lrat_checker.specs.declared.verdict.CheckError.TheVariants.{OutOfMemory as CheckOutOfMemory}
@@ -20,13 +22,14 @@ use Rattle.schedule_plan.specs.declared.schedule.error.PlanError.TheVariants.{To
 use Rattle.term_runner.specs.declared.error.RunError.{RunError}
 use Rattle.term_runner.specs.declared.error.RunError.TheVariants.{OutOfMemory as RunOutOfMemory, WriteFault as RunWriteFault}
 use Rattle.solver_cli.specs.declared.status.Status.{Status}
-use Rattle.solver_cli.specs.declared.status.Status.TheVariants.{Sat, Unsat, Unknown, Verified, NotVerified, Done, Help, Usage, CnfRefused}
-use Rattle.solver_cli.specs.declared.status.Status.TheVariants.{OrderRefused, BucketsRefused, PlanRefused, TooLong, ReadFault, WriteFault, OutOfMemory}
+use Rattle.solver_cli.specs.declared.status.Status.TheVariants.{Sat, Unsat, Unknown, Answered, Verified, NotVerified, Done, Help, Usage, CnfRefused}
+use Rattle.solver_cli.specs.declared.status.Status.TheVariants.{OrderRefused, BucketsRefused, PlanRefused, CubeRefused, TooLong, ReadFault, WriteFault, OutOfMemory}
 
 abbrev pub exit_code : Status → ℕ
 exit_code Sat = 10
 exit_code Unsat = 20
 exit_code (Unknown why) = 0
+exit_code Answered = 0
 exit_code Verified = 0
 exit_code (NotVerified line reason) = 1
 exit_code Done = 0
@@ -36,6 +39,7 @@ exit_code (CnfRefused kind line) = 2
 exit_code (OrderRefused kind line) = 2
 exit_code (BucketsRefused kind line) = 2
 exit_code (PlanRefused kind line) = 2
+exit_code (CubeRefused kind line) = 2
 exit_code (TooLong role) = 2
 exit_code ReadFault = 3
 exit_code WriteFault = 4
@@ -65,6 +69,12 @@ status_of_plan (PlanIsRefused kind line) = PlanRefused kind line
 status_of_plan PlanReadFault = ReadFault
 status_of_plan PlanTooLong = TooLong Schedule
 status_of_plan PlanOutOfMemory = OutOfMemory
+
+abbrev pub status_of_cubes : CubeError → Status
+status_of_cubes (cubes.Refused kind line) = CubeRefused kind line
+status_of_cubes cubes.ReadFault = ReadFault
+status_of_cubes cubes.TooLong = TooLong Cubes
+status_of_cubes cubes.OutOfMemory = OutOfMemory
 
 abbrev pub status_of_check : CheckError → Status
 status_of_check CheckReadFault = ReadFault

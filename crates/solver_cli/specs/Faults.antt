@@ -1,32 +1,34 @@
 -- What the program promises of calls of the host that fail: when a run ends with a fault, and what is written then.
-use Rattle.std.specs.Prelude.{◌≡◌, ◌≢◌, ◌⊎◌, ℕ, Bool, true, false, List, [], None, Some, IsTrue}
+use Rattle.std.specs.Prelude.{◌≡◌, ◌≢◌, ◌⊎◌, ℕ, ℤ, Bool, true, false, List, [], None, Some, IsTrue}
 use Rattle.cnf_base.specs.Formula.{Formula}
 use Rattle.host_io.specs.declared.role.Role.{Role}
-use Rattle.host_io.specs.declared.role.Role.TheVariants.{Cnf, Order, Buckets, Schedule, ProofIn, ProofOut, Made, Out, Err}
+use Rattle.host_io.specs.declared.role.Role.TheVariants.{Cnf, Order, Buckets, Schedule, ProofIn, Cubes, ProofOut, Made, Out, Err}
 use Rattle.host_io.specs.Files.{IsInput, IsCreated}
 use Rattle.dimacs_reader.specs.Cnf.{formula, overlong, cnf_so_far}
 use Rattle.lrat_checker.specs.declared.verdict.Verdict.{Verdict}
 use Rattle.schedule_plan.specs.OrderText.{overlong as overlong_order, order_so_far}
 use Rattle.schedule_plan.specs.ScheduleText.{overlong as overlong_schedule, schedule_so_far}
-use Rattle.command_line.specs.Command.{Command, ToSolve, ToOrder, Solve, Arrange, ByFile, ByBuckets}
+use Rattle.cube_text.specs.CubeText.{cubes as given_cubes, overlong as overlong_cubes, cubes_so_far}
+use Rattle.command_line.specs.Command.{Command, ToSolve, ToAsk, ToOrder, Solve, Ask, Arrange, ByFile, ByBuckets}
 use Rattle.command_line.specs.Command.{AsksHelp, MayMean, command, format_of, mode_of}
 use Rattle.solver_cli.specs.declared.status.Status.{Status}
-use Rattle.solver_cli.specs.declared.status.Status.TheVariants.{Sat, Unsat, Unknown, Verified, NotVerified, Done, Help, Usage, CnfRefused}
-use Rattle.solver_cli.specs.declared.status.Status.TheVariants.{OrderRefused, BucketsRefused, PlanRefused, TooLong, ReadFault, WriteFault}
+use Rattle.solver_cli.specs.declared.status.Status.TheVariants.{Sat, Unsat, Unknown, Answered, Verified, NotVerified, Done, Help, Usage, CnfRefused}
+use Rattle.solver_cli.specs.declared.status.Status.TheVariants.{OrderRefused, BucketsRefused, PlanRefused, CubeRefused, TooLong, ReadFault, WriteFault}
 use Rattle.solver_cli.specs.declared.status.Status.TheVariants.{OutOfMemory}
 use Rattle.solver_cli.specs.Answer.{IsOrdered}
 use Rattle.solver_cli.specs.Format.{so_far_in}
 use Rattle.solver_cli.specs.Run.{Run, written_in, taken_in, HasFault, InputFailed, OutputFailed, GivesCommand, GivesMake, GivesConversion}
-use Rattle.solver_cli.specs.Run.{name_given, AsksOver, AsksFor, HasVerdict, AsksToConvert}
+use Rattle.solver_cli.specs.Run.{name_given, AsksOver, AsksFor, AsksByCubes, HasVerdict, AsksToConvert}
 
 -- the formula that is to be decided was accepted, or the proof was judged, or none is read, or the formula was accepted of which an order is
--- to be made, or over which a proof is to be converted
+-- to be made, or over which a proof is to be converted, or cubes over it were
 abbrev pub TextsAreRead : Run → Type 0
 TextsAreRead run = ((problem : Formula) × AsksFor run problem)
     ⊎ (((problem : Formula) × (bytes : List ℕ) × (judged : Verdict) × HasVerdict run problem bytes judged)
     ⊎ (GivesMake run
     ⊎ (((task : ToOrder) × (problem : Formula) × AsksOver run (Arrange task) (formula problem))
-    ⊎ AsksToConvert run)))
+    ⊎ (AsksToConvert run
+    ⊎ ((problem : Formula) × (order : List ℕ) × (cubes : List (List ℤ)) × AsksByCubes run problem order (given_cubes cubes))))))
 
 -- A call on the formula's file failed where the bytes taken of it decide nothing yet, and none of another file was taken.
 pub record IsOpenFormula (run : Run) : Type 0 where
@@ -36,18 +38,19 @@ pub record IsOpenFormula (run : Run) : Type 0 where
   pub undecided : cnf_so_far (mode_of asked) (taken_in run Cnf) ≡ overlong
   pub before_others : (role : Role) → IsInput role → role ≢ Cnf → taken_in run role ≡ []
 
--- The words give `solve` with an order's file, the formula was accepted, and a call on that file failed where the bytes
--- taken of it decide nothing yet. The file may be missing: then none was taken. None of a schedule was, and none of the buckets' order.
+-- The words give `solve` or `ask` with an order's file, the formula was accepted, and a call on that file failed where the bytes taken
+-- of it decide nothing yet. The file may be missing: then none was taken. None of a later text was.
 pub record IsOpenOrder (run : Run) : Type 0 where
-  pub task : ToSolve
+  pub asked : Command
   pub problem : Formula
-  pub asks : AsksOver run (Solve task) (formula problem)
+  pub asks : AsksOver run asked (formula problem)
   pub file : List ℕ
-  pub named : task.order ≡ Some file
+  pub named : name_given Order asked ≡ Some file
   pub failed : HasFault run Order
   pub undecided : order_so_far problem.vars (taken_in run Order) ≡ overlong_order
   pub before_schedule : taken_in run Schedule ≡ []
   pub before_buckets : taken_in run Buckets ≡ []
+  pub before_cubes : taken_in run Cubes ≡ []
 
 -- The same of the buckets' order, where the order is given too.
 pub record AreOpenBuckets (run : Run) : Type 0 where
@@ -85,10 +88,21 @@ pub record IsOpenProof (run : Run) : Type 0 where
   pub failed : HasFault run ProofIn
   pub undecided : so_far_in (format_of asked) problem.clauses (taken_in run ProofIn) ≡ None
 
+-- The words give `ask`, formula and order are given, and a call on the cubes' file failed where the bytes taken of it decide nothing yet.
+pub record AreOpenCubes (run : Run) : Type 0 where
+  pub task : ToAsk
+  pub problem : Formula
+  pub asks : AsksOver run (Ask task) (formula problem)
+  pub order : List ℕ
+  pub ordered : IsOrdered run.files task.order problem order
+  pub failed : HasFault run Cubes
+  pub undecided : cubes_so_far problem.vars (taken_in run Cubes) ≡ overlong_cubes
+
 -- What was taken decides nothing yet: of the formula's text, or, where the texts before it were accepted, of the order's,
--- the buckets' order's, the schedule's or the proof's.
+-- the buckets' order's, the schedule's, the proof's or the cubes'.
 abbrev pub IsStillOpen : Run → Type 0
-IsStillOpen run = IsOpenFormula run ⊎ (IsOpenOrder run ⊎ (AreOpenBuckets run ⊎ (IsOpenSchedule run ⊎ IsOpenProof run)))
+IsStillOpen run = IsOpenFormula run ⊎ (IsOpenOrder run ⊎ (AreOpenBuckets run ⊎ (IsOpenSchedule run ⊎ (IsOpenProof run
+    ⊎ AreOpenCubes run))))
 
 -- a call on a file that is read and that the words name failed
 abbrev pub NamedInputFailed : Run → Type 0
@@ -105,6 +119,7 @@ abbrev pub ends_in_proof : Status → Bool
 ends_in_proof Sat = false
 ends_in_proof Unsat = false
 ends_in_proof (Unknown why) = false
+ends_in_proof Answered = false
 ends_in_proof Verified = true
 ends_in_proof (NotVerified line reason) = true
 ends_in_proof Done = false
@@ -114,11 +129,13 @@ ends_in_proof (CnfRefused kind line) = false
 ends_in_proof (OrderRefused kind line) = false
 ends_in_proof (BucketsRefused kind line) = false
 ends_in_proof (PlanRefused kind line) = false
+ends_in_proof (CubeRefused kind line) = false
 ends_in_proof (TooLong Cnf) = false
 ends_in_proof (TooLong Order) = false
 ends_in_proof (TooLong Buckets) = false
 ends_in_proof (TooLong Schedule) = false
 ends_in_proof (TooLong ProofIn) = true
+ends_in_proof (TooLong Cubes) = false
 ends_in_proof (TooLong ProofOut) = false
 ends_in_proof (TooLong Made) = false
 ends_in_proof (TooLong Out) = false

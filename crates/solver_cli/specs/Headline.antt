@@ -1,21 +1,28 @@
 -- What the program promises, over one run of it: its words, the host before and after, and how it ended. What it
 -- says of bytes is said of hosts that tell their bytes. What `solve` and `bench` are given is one sentence (`AreGiven`). Sentences that say
 -- more of other commands than of `drat` have a second case (`ConvertsAsItReads`), and `trim` creates its file after the verdict.
-use Rattle.std.specs.Prelude.{◌≡◌, ◌≢◌, ◌⊎◌, ◌++◌, ◌<◌, ℕ, Bool, true, false, List, [], None, Some, length, IsTrue, IsFalse}
+use Rattle.std.specs.Prelude.{◌≡◌, ◌≢◌, ◌⊎◌, ◌++◌, ◌<◌, ℕ, ℤ, Bool, true, false, List, [], None, Some, length, IsTrue, IsFalse}
 use Rattle.std.specs.Prelude.{⊤}
 use Rattle.cnf_base.specs.Truth.{Satisfies, assignment_of}
 use Rattle.cnf_base.specs.Formula.{Formula}
 use Rattle.host_io.specs.declared.role.Role.{Role}
-use Rattle.host_io.specs.declared.role.Role.TheVariants.{Cnf, Order, Buckets, Schedule, ProofIn, ProofOut, Made, Out, Err}
+use Rattle.host_io.specs.declared.role.Role.TheVariants.{Cnf, Order, Buckets, Schedule, ProofIn, Cubes, ProofOut, Made, Out, Err}
 use Rattle.dimacs_reader.specs.Cnf.{CnfText, formula, refusal, overlong, cnf}
 use Rattle.lrat_rules.specs.Run.{Refutes}
 use Rattle.lrat_rules.specs.declared.outcome.Reason.{Reason}
 use Rattle.lrat_checker.specs.TextVerdict.{max_bytes}
 use Rattle.lrat_checker.specs.declared.verdict.Verdict.{Verdict}
 use Rattle.lrat_checker.specs.declared.verdict.Verdict.TheVariants as judgement
-use Rattle.drat_proof.specs.Drat.{drat, drat_steps}
+use Rattle.drat_proof.specs.Drat.{named_drat, named_drat_steps}
 use Rattle.drat_proof.specs.Conversion.{AreFirstLines}
+use Rattle.proof_trim.specs.Core.{core, core_text}
 use Rattle.proof_trim.specs.Trimmed.{trim}
+use Rattle.cube_text.specs.CubeText.{CubeText, cube_text, cubes as given_cubes, refusal as cube_refusal, overlong as overlong_cubes}
+use Rattle.cube_queries.specs.declared.answer.Answer.{Answer}
+use Rattle.cube_queries.specs.declared.answer.Outcome.{Outcome as Replies}
+use Rattle.cube_queries.specs.Answers.{AreShown, AreTrue}
+use Rattle.cube_queries.specs.Width.{IsPaid, NeedsAtMost}
+use Rattle.cube_queries.specs.Ends.{AnyState, Says as SaysOfCubes, Shows as ShowsOfCubes}
 use Rattle.schedule_plan.specs.OrderText.{OrderText, order as given_order, refusal as order_refusal, overlong as overlong_order}
 use Rattle.schedule_plan.specs.OrderText.{order_text}
 use Rattle.schedule_plan.specs.ScheduleText.{ScheduleText, refusal as schedule_refusal, overlong as overlong_schedule, schedule}
@@ -29,22 +36,24 @@ use Rattle.term_runner.specs.Width.{HasWidth}
 use Rattle.term_runner.specs.Ends.{Says, Shows}
 use Rattle.term_runner.specs.Recovered.{IsRecovered}
 use Rattle.answer_text.specs.Status.{refused_text}
-use Rattle.command_line.specs.Command.{Command, ToSolve, ToMake, ToOrder, Solve, Make}
+use Rattle.command_line.specs.Command.{Command, ToSolve, ToAsk, ToMake, ToOrder, Solve, Ask, Make}
 use Rattle.command_line.specs.Command.{Arrange, ByFile, ByBuckets, format_of, formula_file, mode_of, AsksHelp, Misuse, MayMean, CanOnlyMean, command}
 use Rattle.command_line.specs.Command.{progress_asked}
 use Rattle.solver_cli.specs.declared.status.Why.{Why}
 use Rattle.solver_cli.specs.declared.status.Status.{Status}
-use Rattle.solver_cli.specs.declared.status.Status.TheVariants.{Sat, Unsat, Unknown, Verified, NotVerified, Done, Help, Usage, CnfRefused}
-use Rattle.solver_cli.specs.declared.status.Status.TheVariants.{OrderRefused, BucketsRefused, PlanRefused, TooLong, ReadFault, WriteFault}
+use Rattle.solver_cli.specs.declared.status.Status.TheVariants.{Sat, Unsat, Unknown, Answered, Verified, NotVerified, Done, Help, Usage, CnfRefused}
+use Rattle.solver_cli.specs.declared.status.Status.TheVariants.{OrderRefused, BucketsRefused, PlanRefused, CubeRefused, TooLong, ReadFault, WriteFault}
 use Rattle.solver_cli.specs.declared.status.Status.TheVariants.{OutOfMemory}
 use Rattle.solver_cli.specs.Comments.{are_comments, are_comments_so_far}
 use Rattle.solver_cli.specs.ErrorText.{error_text, is_answer}
 use Rattle.solver_cli.specs.Answer.{IsRead, IsOrdered, IsOrderOf, Holds, outcome_at, status_of}
 use Rattle.solver_cli.specs.Format.{verdict_in, RefutesIn, IsRefusedIn}
 use Rattle.solver_cli.specs.MadeText.{made_text, order_line}
-use Rattle.solver_cli.specs.Phases.{WantsProof, WantsRead, cnf_wants, order_wants, schedule_wants}
+use Rattle.solver_cli.specs.Phases.{WantsProof, WantsRead, cnf_wants, cubes_wants, order_wants, schedule_wants}
 use Rattle.solver_cli.specs.Verdict.{status_of_verdict}
+use Rattle.solver_cli.specs.Replies.{answers_from, replies_at, replies_text, status_of_replies}
 use Rattle.solver_cli.specs.Run.{Run, written_in, taken_in, limits_given, HasFault, InputFailed, OutputFailed, IsUnharmed, GivesMake}
+use Rattle.solver_cli.specs.Run.{AsksByCubes, GivesAsk, goes_by_order, has_new_names}
 use Rattle.solver_cli.specs.Run.{GivesConversion, GivesDecision, GivesTrimming, name_given, GivesFormula, GivesProof, GivesOrder, GivesBuckets}
 use Rattle.solver_cli.specs.Run.{GivesSchedule, AsksOver, AsksByOrder, AsksByBuckets, AsksBySchedule, AsksBy, IsBoardAsked, IsPlanAsked}
 use Rattle.solver_cli.specs.Run.{AsksFor, AsksToJudge, HasVerdict, AsksToConvert, IsConverted, IsTrimmed, text_for, verdict_text_for}
@@ -113,8 +122,44 @@ pub record IsUndecided (run : Run) (why : Why) : Type 0 where
       → AreAmple (limits_given run) problem moves width price → ⊥
   pub shown : IsTrue run.tells → IsShownUndecided run why problem order moves
 
+-- Or the words give `ask`: more nodes are needed than are allowed, where that is the limit. It is the formula that is asked for, by its order
+-- and cubes; the proof's bytes show that the limit is reached, and it was printed.
+pub record IsShownUnanswered (run : Run) (why : Why) (problem : Formula) (order : List ℕ) (cubes : List (List ℤ)) : Type 0 where
+  pub asked : AsksByCubes run problem order (given_cubes cubes)
+  pub reached : ShowsOfCubes problem order cubes (limits_given run) (written_in run ProofOut) (replies_at why)
+  pub printed : written_in run Out ≡ replies_text (limits_given run) (replies_at why)
+
+pub record IsUnanswered (run : Run) (why : Why) : Type 0 where
+  pub given : GivesAsk run
+  pub problem : Formula
+  pub order : List ℕ
+  pub cubes : List (List ℤ)
+  pub needs : SaysOfCubes problem order cubes (limits_given run) (replies_at why)
+  pub shown : IsTrue run.tells → IsShownUnanswered run why problem order cubes
+
 abbrev pub LimitsAreReached : Run → Type 0
-LimitsAreReached run = (why : Why) → run.status ≡ Unknown why → IsUndecided run why
+LimitsAreReached run = (why : Why) → run.status ≡ Unknown why → IsUndecided run why ⊎ IsUnanswered run why
+
+-- Answered: the words give `ask`, and what is answered of each cube is true of the formula and the cube: no assignment satisfies both, or
+-- these values are those of the least one that does, in the order that is asked for. They are the formula and the cubes that are asked for.
+-- The proof's bytes are the lines of good steps from the formula, each of them conservative, one of which adds the clause that forbids each
+-- cube that no assignment satisfies. The answers were printed, in turn.
+pub record IsShownAnswered (run : Run) (problem : Formula) (order : List ℕ) (cubes : List (List ℤ)) (answers : List Answer) : Type 0 where
+  pub asked : AsksByCubes run problem order (given_cubes cubes)
+  pub shown : AreShown problem order cubes answers (written_in run ProofOut)
+  pub printed : written_in run Out ≡ answers_from 1 answers
+
+pub record IsAnswered (run : Run) : Type 0 where
+  pub given : GivesAsk run
+  pub problem : Formula
+  pub order : List ℕ
+  pub cubes : List (List ℤ)
+  pub answers : List Answer
+  pub is_true : AreTrue problem order cubes answers
+  pub shown : IsTrue run.tells → IsShownAnswered run problem order cubes answers
+
+abbrev pub CubesAreAnswered : Run → Type 0
+CubesAreAnswered run = run.status ≡ Answered → IsAnswered run
 
 -- Verified: the very bytes of the proof's file refute the formula's clauses, by the rules of LRAT, or with `check --format drat` by those of
 -- DRAT, so that no assignment satisfies them. With `drat` the proof was converted, whole; with `trim` it was trimmed.
@@ -182,8 +227,17 @@ pub record IsFrontOfOrder (run : Run) : Type 0 where
   pub rest : List ℕ
   pub front : order_line order ≡ written_in run Made ++ rest
 
+-- or of the core of a verified proof that `trim` trimmed
+pub record IsFrontOfCore (run : Run) : Type 0 where
+  pub given : GivesTrimming run
+  pub problem : Formula
+  pub bytes : List ℕ
+  pub has : HasVerdict run problem bytes judgement.Verified
+  pub rest : List ℕ
+  pub front : core_text (core problem.clauses bytes) ≡ written_in run Made ++ rest
+
 abbrev pub MadeStands : Run → Type 0
-MadeStands run = IsTrue run.tells → (written_in run Made ≡ []) ⊎ (IsFrontOfMade run ⊎ IsFrontOfOrder run)
+MadeStands run = IsTrue run.tells → (written_in run Made ≡ []) ⊎ (IsFrontOfMade run ⊎ (IsFrontOfOrder run ⊎ IsFrontOfCore run))
 
 -- a refusal of the formula is that of the named file's whole text, and already that of the bytes taken
 pub record IsRefusedBy (run : Run) (text : CnfText) : Type 0 where
@@ -191,7 +245,7 @@ pub record IsRefusedBy (run : Run) (text : CnfText) : Type 0 where
   pub asks : AsksOver run asked text
   pub decided : cnf (mode_of asked) (taken_in run Cnf) ≡ text
 
--- and so is one of the order, one of the buckets' order, and one of the schedule, of a formula that was accepted
+-- and so is one of the order, one of the buckets' order, one of the cubes, and one of the schedule, of a formula that was accepted
 pub record OrderIsRefusedBy (run : Run) (text : OrderText) : Type 0 where
   pub problem : Formula
   pub asks : AsksByOrder run problem text
@@ -201,6 +255,12 @@ pub record BucketsAreRefusedBy (run : Run) (text : OrderText) : Type 0 where
   pub problem : Formula
   pub asks : AsksByBuckets run problem text
   pub decided : order_text problem.vars (taken_in run Buckets) ≡ text
+
+pub record CubesAreRefusedBy (run : Run) (text : CubeText) : Type 0 where
+  pub problem : Formula
+  pub order : List ℕ
+  pub asks : AsksByCubes run problem order text
+  pub decided : cube_text problem.vars (taken_in run Cubes) ≡ text
 
 pub record ScheduleIsRefusedBy (run : Run) (text : ScheduleText) : Type 0 where
   pub problem : Formula
@@ -232,14 +292,16 @@ pub record FormulaWantsMemory (run : Run) : Type 0 where
 -- For an order of the variables, where the formula was accepted: the text of the file that is named may want it, or none is named. No
 -- later text was opened, and no proof's file created.
 pub record OrderWantsMemory (run : Run) : Type 0 where
-  pub task : ToSolve
-  pub given : command run.words ≡ Some (Solve task)
+  pub asked : Command
+  pub given : command run.words ≡ Some asked
+  pub by_order : IsTrue (goes_by_order asked)
   pub problem : Formula
-  pub asks : IsTrue run.tells → AsksOver run (Solve task) (formula problem)
-  pub wants : IsTrue run.tells → (file : List ℕ) → task.order ≡ Some file
+  pub asks : IsTrue run.tells → AsksOver run asked (formula problem)
+  pub wants : IsTrue run.tells → (file : List ℕ) → name_given Order asked ≡ Some file
       → WantsRead (order_wants problem.vars) run.files file (taken_in run Order)
   pub before_buckets : run.after Buckets ≡ run.before Buckets
   pub before_schedule : run.after Schedule ≡ run.before Schedule
+  pub before_cubes : run.after Cubes ≡ run.before Cubes
   pub before_proof : run.after ProofOut ≡ run.before ProofOut
 
 -- For the buckets' order, whose text may want it, where the order is given too.
@@ -299,9 +361,30 @@ pub record ArrangingWantsMemory (run : Run) : Type 0 where
   pub asks : IsTrue run.tells → AsksOver run (Arrange task) (formula problem)
   pub before_text : run.after Made ≡ run.before Made
 
+-- For the cubes, whose text may want it, where the order is given too. Or for answering them, once all texts were accepted and the proof's
+-- file was created.
+pub record CubesWantMemory (run : Run) : Type 0 where
+  pub task : ToAsk
+  pub given : command run.words ≡ Some (Ask task)
+  pub problem : Formula
+  pub asks : IsTrue run.tells → AsksOver run (Ask task) (formula problem)
+  pub order : List ℕ
+  pub ordered : IsTrue run.tells → IsOrdered run.files task.order problem order
+  pub wants : IsTrue run.tells → WantsRead (cubes_wants problem.vars) run.files task.cubes (taken_in run Cubes)
+  pub before_proof : run.after ProofOut ≡ run.before ProofOut
+
+pub record AnswersWantMemory (run : Run) : Type 0 where
+  pub given : GivesAsk run
+  pub problem : Formula
+  pub order : List ℕ
+  pub cubes : List (List ℤ)
+  pub asks : IsTrue run.tells → AsksByCubes run problem order (given_cubes cubes)
+  pub created : (run.after ProofOut).name ≢ None
+  pub before_answer : run.after Out ≡ run.before Out
+
 abbrev pub MemoryIsWanted : Run → Type 0
 MemoryIsWanted run = IsIdle run ⊎ (FormulaWantsMemory run ⊎ (OrderWantsMemory run ⊎ (BucketsWantMemory run ⊎ (PlanWantsMemory run
-    ⊎ (DecisionWantsMemory run ⊎ (VerdictWantsMemory run ⊎ ArrangingWantsMemory run))))))
+    ⊎ (DecisionWantsMemory run ⊎ (VerdictWantsMemory run ⊎ (ArrangingWantsMemory run ⊎ (CubesWantMemory run ⊎ AnswersWantMemory run))))))))
 
 -- Refusals, of words, or by help, only where they may mean that; of a text only where the words name it, its format refuses it, and
 -- the texts before it were accepted. Want of memory only where it was wanted for what isn't decided.
@@ -309,6 +392,7 @@ abbrev pub IsDue : Run → Status → Type 0
 IsDue run Sat = ⊤
 IsDue run Unsat = ⊤
 IsDue run (Unknown why) = ⊤
+IsDue run Answered = ⊤
 IsDue run Verified = ⊤
 IsDue run (NotVerified line reason) = ⊤
 IsDue run Done = ⊤
@@ -318,11 +402,13 @@ IsDue run (CnfRefused kind line) = GivesFormula run × (IsTrue run.tells → IsR
 IsDue run (OrderRefused kind line) = GivesOrder run × (IsTrue run.tells → OrderIsRefusedBy run (order_refusal kind line))
 IsDue run (BucketsRefused kind line) = GivesBuckets run × (IsTrue run.tells → BucketsAreRefusedBy run (order_refusal kind line))
 IsDue run (PlanRefused kind line) = GivesSchedule run × (IsTrue run.tells → ScheduleIsRefusedBy run (schedule_refusal kind line))
+IsDue run (CubeRefused kind line) = GivesAsk run × (IsTrue run.tells → CubesAreRefusedBy run (cube_refusal kind line))
 IsDue run (TooLong Cnf) = GivesFormula run × (IsTrue run.tells → IsRefusedBy run overlong)
 IsDue run (TooLong Order) = GivesOrder run × (IsTrue run.tells → OrderIsRefusedBy run overlong_order)
 IsDue run (TooLong Buckets) = GivesBuckets run × (IsTrue run.tells → BucketsAreRefusedBy run overlong_order)
 IsDue run (TooLong Schedule) = GivesSchedule run × (IsTrue run.tells → ScheduleIsRefusedBy run overlong_schedule)
 IsDue run (TooLong ProofIn) = GivesProof run × (IsTrue run.tells → IsLongProof run)
+IsDue run (TooLong Cubes) = GivesAsk run × (IsTrue run.tells → CubesAreRefusedBy run overlong_cubes)
 IsDue run (TooLong ProofOut) = ⊥
 IsDue run (TooLong Made) = ⊥
 IsDue run (TooLong Out) = ⊥
@@ -334,10 +420,11 @@ IsDue run OutOfMemory = MemoryIsWanted run
 abbrev pub RefusalsAreDue : Run → Type 0
 RefusalsAreDue run = IsDue run run.status
 
--- what was found: the outcome of a formula, or the verdict on a proof over one
+-- what was found: the outcome of a formula, the verdict on a proof over one, or what a session of cubes over one comes to, by an order
 pub data Finding : Type 0 where
   AnswerTo : Formula → Outcome → Finding
   VerdictOn : Formula → List ℕ → Verdict → Finding
+  RepliesTo : Formula → List ℕ → List (List ℤ) → Replies → Finding
 
 -- a true answer to the formula that the words ask for, after a flushed proof of whole lines
 pub record IsAnswerTo (run : Run) (problem : Formula) (outcome : Outcome) : Type 0 where
@@ -353,18 +440,29 @@ pub record IsJudged (run : Run) (problem : Formula) (bytes : List ℕ) (judged :
   pub converted : GivesConversion run → IsConverted run problem bytes
   pub trimmed : judged ≡ judgement.Verified → GivesTrimming run → IsTrimmed run problem bytes
 
+-- true answers to the cubes that the words name, or a limit that was reached, after a flushed proof of whole lines
+pub record AreRepliesTo (run : Run) (problem : Formula) (order : List ℕ) (cubes : List (List ℤ)) (found : Replies) : Type 0 where
+  pub asked : AsksByCubes run problem order (given_cubes cubes)
+  pub says : SaysOfCubes problem order cubes (limits_given run) found
+  pub shows : ShowsOfCubes problem order cubes (limits_given run) (written_in run ProofOut) found
+  pub proof : IsProofOfKind problem.clauses AnyState (written_in run ProofOut)
+  pub flushed : (run.after ProofOut).flushed ≡ length (run.after ProofOut).written
+
 -- it is true, and is what the words ask for
 abbrev pub IsFound : Run → Finding → Type 0
 IsFound run (AnswerTo problem outcome) = IsAnswerTo run problem outcome
 IsFound run (VerdictOn problem bytes judged) = IsJudged run problem bytes judged
+IsFound run (RepliesTo problem order cubes found) = AreRepliesTo run problem order cubes found
 
 abbrev pub text_found : Run → Finding → List ℕ
 text_found run (AnswerTo problem outcome) = text_for run problem outcome
 text_found run (VerdictOn problem bytes judged) = verdict_text_for run problem bytes judged
+text_found run (RepliesTo problem order cubes found) = replies_text (limits_given run) found
 
 abbrev pub status_found : Finding → Status
 status_found (AnswerTo problem outcome) = status_of outcome
 status_found (VerdictOn problem bytes judged) = status_of_verdict judged
+status_found (RepliesTo problem order cubes found) = status_of_replies found
 
 -- a true answer to the question that the words ask, as far as it was written
 pub record IsTrueAnswer (run : Run) (finding : Finding) : Type 0 where
@@ -423,20 +521,20 @@ pub record ProofStands (run : Run) : Type 0 where
       × ((width price : ℕ) → HasWidth problem asked.order asked.moves width → IsMovePrice problem.vars (limits_given run).cache width price
       → IsProofSoFarOfKind problem.clauses (IsPaidFor problem (limits_given run) asked.moves width price) (written_in run ProofOut)))
 
--- The DRAT proof that `drat` writes: nothing, or what the first lines of the proof become, in turn. A front of one more line may stand
--- behind it only after a failed write.
+-- The DRAT proof that `drat` writes: nothing, or what the first lines of the proof become, in turn, by new names where the words ask for
+-- them. A front of one more line may stand behind it only after a failed write.
 pub record IsFrontOfDrat (run : Run) : Type 0 where
   pub problem : Formula
   pub bytes : List ℕ
   pub asked : AsksToJudge run problem bytes
   pub rest : List ℕ
-  pub front : drat problem.clauses bytes ≡ written_in run ProofOut ++ rest
+  pub front : named_drat (has_new_names run) problem bytes ≡ written_in run ProofOut ++ rest
 
 pub record AreLinesOfDrat (run : Run) : Type 0 where
   pub problem : Formula
   pub bytes : List ℕ
   pub asked : AsksToJudge run problem bytes
-  pub lines : AreFirstLines (written_in run ProofOut) (drat_steps problem.clauses bytes)
+  pub lines : AreFirstLines (written_in run ProofOut) (named_drat_steps (has_new_names run) problem bytes)
 
 pub record DratStands (run : Run) : Type 0 where
   pub so_far : IsTrue run.tells → (written_in run ProofOut ≡ []) ⊎ IsFrontOfDrat run
@@ -456,11 +554,26 @@ pub record TrimStands (run : Run) : Type 0 where
   pub whole : run.status ≢ WriteFault → IsTrue run.tells → (written_in run ProofOut ≡ [])
       ⊎ ((trimmed : IsFrontOfTrimmed run) × (trimmed.rest ≡ []))
 
--- what stands in a written proof: of `drat`, of `trim`, and of every other command
+-- The proof that `ask` writes: nothing, or exactly the lines of good steps from the clauses of the formula that is asked for. A front of one
+-- more such line may stand behind them only after a failed write. However the run ends, its numbers keep within the price of conjoining the
+-- clauses and of each cube, by the width.
+pub record AskStands (run : Run) : Type 0 where
+  pub so_far : IsTrue run.tells → (written_in run ProofOut ≡ []) ⊎ ((problem : Formula) × (order : List ℕ) × (cubes : List (List ℤ))
+      × AsksByCubes run problem order (given_cubes cubes) × IsProofSoFarOfKind problem.clauses AnyState (written_in run ProofOut))
+  pub whole : run.status ≢ WriteFault → IsTrue run.tells → (written_in run ProofOut ≡ [])
+      ⊎ ((problem : Formula) × (order : List ℕ) × (cubes : List (List ℤ)) × AsksByCubes run problem order (given_cubes cubes)
+      × IsProofOfKind problem.clauses AnyState (written_in run ProofOut))
+  pub price : IsTrue run.tells → (written_in run ProofOut ≡ []) ⊎ ((problem : Formula) × (order : List ℕ) × (cubes : List (List ℤ))
+      × AsksByCubes run problem order (given_cubes cubes) × ((width price : ℕ) → NeedsAtMost problem order cubes width
+      → IsMovePrice problem.vars (limits_given run).cache width price
+      → IsProofSoFarOfKind problem.clauses (IsPaid problem cubes price) (written_in run ProofOut)))
+
+-- what stands in a written proof: of `drat`, of `trim`, of `ask`, and of every other command
 pub record WrittenStands (run : Run) : Type 0 where
   pub converted : GivesConversion run → DratStands run
   pub trimmed : GivesTrimming run → TrimStands run
-  pub proved : (GivesConversion run → ⊥) → (GivesTrimming run → ⊥) → ProofStands run
+  pub asked : GivesAsk run → AskStands run
+  pub proved : (GivesConversion run → ⊥) → (GivesTrimming run → ⊥) → (GivesAsk run → ⊥) → ProofStands run
 
 -- a status with which a run ends that creates no file, or before it does; but `drat` creates its own before it reads the proof, and `trim`
 -- once that is verified
@@ -468,6 +581,7 @@ abbrev pub ends_before_proof : Status → Bool
 ends_before_proof Sat = false
 ends_before_proof Unsat = false
 ends_before_proof (Unknown why) = false
+ends_before_proof Answered = false
 ends_before_proof Verified = true
 ends_before_proof (NotVerified line reason) = true
 ends_before_proof Done = true
@@ -477,6 +591,7 @@ ends_before_proof (CnfRefused kind line) = true
 ends_before_proof (OrderRefused kind line) = true
 ends_before_proof (BucketsRefused kind line) = true
 ends_before_proof (PlanRefused kind line) = true
+ends_before_proof (CubeRefused kind line) = true
 ends_before_proof (TooLong role) = true
 ends_before_proof ReadFault = true
 ends_before_proof WriteFault = false
@@ -485,7 +600,8 @@ ends_before_proof OutOfMemory = false
 -- Names: a role has none, or the one that the words give it. Files: none changed but the proof's, which is created only
 -- once all reading is over and all texts were accepted, however the run ends, and the made one, which is created only
 -- where its text was written or a call of it failed. `drat` creates its proof once the formula was accepted and the proof opened, `trim`
--- once the proof is verified; from then on only a failed write ends it otherwise than with that verdict.
+-- once the proof is verified; from then on only a failed write ends it otherwise than with that verdict, and the core's file is made behind
+-- the trimmed proof.
 pub record NamesAreGiven (run : Run) : Type 0 where
   pub names : (role : Role) → ((run.after role).name ≡ None) ⊎ ((asked : Command) × (command run.words ≡ Some asked)
       × ((run.after role).name ≡ name_given role asked))
@@ -495,16 +611,20 @@ pub record NamesAreGiven (run : Run) : Type 0 where
       ⊎ (GivesTrimming run × (run.status ≡ Verified)))
   pub accepted : (run.after ProofOut).name ≢ None → (GivesDecision run × (IsTrue run.tells → (problem : Formula) × AsksFor run problem))
       ⊎ ((GivesConversion run × (IsTrue run.tells → AsksToConvert run))
-      ⊎ (GivesTrimming run × (IsTrue run.tells → (problem : Formula) × (bytes : List ℕ) × HasVerdict run problem bytes judgement.Verified)))
+      ⊎ ((GivesTrimming run × (IsTrue run.tells → (problem : Formula) × (bytes : List ℕ) × HasVerdict run problem bytes judgement.Verified))
+      ⊎ (GivesAsk run × (IsTrue run.tells → (problem : Formula) × (order : List ℕ) × (cubes : List (List ℤ))
+      × AsksByCubes run problem order (given_cubes cubes)))))
   pub opened : (run.after ProofOut).name ≢ None → GivesConversion run → (run.after ProofIn).name ≢ None
   pub trimmed : (run.after ProofOut).name ≢ None → GivesTrimming run → (run.status ≡ Verified) ⊎ (run.status ≡ WriteFault)
-  pub made : (run.after Made).name ≢ None → (run.status ≡ Done) ⊎ (run.status ≡ WriteFault)
+  pub made : (run.after Made).name ≢ None → (run.status ≡ Done)
+      ⊎ ((run.status ≡ WriteFault) ⊎ (GivesTrimming run × (run.status ≡ Verified)))
 
 -- The words and the texts call for this refusal: it is that of the first text in turn that isn't accepted.
 abbrev pub CallsFor : Run → Status → Type 0
 CallsFor run Sat = ⊥
 CallsFor run Unsat = ⊥
 CallsFor run (Unknown why) = ⊥
+CallsFor run Answered = ⊥
 CallsFor run Verified = ⊥
 CallsFor run (NotVerified line reason) = ⊥
 CallsFor run Done = ⊥
@@ -514,12 +634,14 @@ CallsFor run (CnfRefused kind line) = (asked : Command) × AsksOver run asked (r
 CallsFor run (OrderRefused kind line) = (problem : Formula) × AsksByOrder run problem (order_refusal kind line)
 CallsFor run (BucketsRefused kind line) = (problem : Formula) × AsksByBuckets run problem (order_refusal kind line)
 CallsFor run (PlanRefused kind line) = (problem : Formula) × AsksBySchedule run problem (schedule_refusal kind line)
+CallsFor run (CubeRefused kind line) = (problem : Formula) × (order : List ℕ) × AsksByCubes run problem order (cube_refusal kind line)
 CallsFor run (TooLong Cnf) = (asked : Command) × AsksOver run asked overlong
 CallsFor run (TooLong Order) = (problem : Formula) × AsksByOrder run problem overlong_order
 CallsFor run (TooLong Buckets) = (problem : Formula) × AsksByBuckets run problem overlong_order
 CallsFor run (TooLong Schedule) = (problem : Formula) × AsksBySchedule run problem overlong_schedule
 CallsFor run (TooLong ProofIn) = (problem : Formula) × (bytes : List ℕ) × (asks : AsksToJudge run problem bytes)
     × (verdict_in (format_of asks.asked) problem.clauses bytes ≡ None)
+CallsFor run (TooLong Cubes) = (problem : Formula) × (order : List ℕ) × AsksByCubes run problem order overlong_cubes
 CallsFor run (TooLong ProofOut) = ⊥
 CallsFor run (TooLong Made) = ⊥
 CallsFor run (TooLong Out) = ⊥
@@ -538,6 +660,8 @@ pub record IsComplete (run : Run) : Type 0 where
       ⊎ ((run.status ≡ Help) ⊎ (run.status ≡ OutOfMemory))
   pub answers : (problem : Formula) → AsksFor run problem → IsTrue run.tells → IsUnharmed run → IsTrue (is_answer run.status)
       ⊎ (run.status ≡ OutOfMemory)
+  pub replies : (problem : Formula) (order : List ℕ) (cubes : List (List ℤ)) → AsksByCubes run problem order (given_cubes cubes)
+      → IsTrue run.tells → IsUnharmed run → IsTrue (is_answer run.status) ⊎ (run.status ≡ OutOfMemory)
   pub judges : (problem : Formula) (bytes : List ℕ) (judged : Verdict) → HasVerdict run problem bytes judged → IsTrue run.tells
       → IsUnharmed run
       → (run.status ≡ status_of_verdict judged) ⊎ (run.status ≡ OutOfMemory)
@@ -552,6 +676,7 @@ pub record Promises (run : Run) : Type 0 where
   pub unsatisfiable : UnsatisfiableIsProved run
   pub satisfiable : SatisfiableIsTrue run
   pub undecided : LimitsAreReached run
+  pub answered : CubesAreAnswered run
   pub verdict : VerdictIsTrue run
   pub made : TextIsMade run
   pub made_file : MadeStands run

@@ -2,6 +2,7 @@ pub mod ErrorText
 pub mod ExitCode
 pub mod Answer
 pub mod MadeText
+pub mod Replies
 pub mod Verdict
 pub mod Format
 pub mod Run

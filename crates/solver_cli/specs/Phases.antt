@@ -28,6 +28,10 @@ use Rattle.schedule_plan.specs.declared.order_error.OrderError.{OrderError}
 use Rattle.schedule_plan.specs.declared.order_error.OrderError.TheVariants.{ReadFault as OrderReadFault, OutOfMemory as OrderOutOfMemory}
 use Rattle.schedule_plan.specs.declared.schedule.error.PlanError.{PlanError}
 use Rattle.schedule_plan.specs.declared.schedule.error.PlanError.TheVariants.{ReadFault as PlanReadFault, OutOfMemory as PlanOutOfMemory}
+use Rattle.cube_text.specs.CubeText.{AreCubes, overlong as unread_cubes, cube_text, cubes_so_far}
+use Rattle.cube_text.specs.CubeReader.{Answers as CubeAnswers, WantsMemory as CubesWantMemory}
+use Rattle.cube_text.specs.declared.error.CubeError.{CubeError}
+use Rattle.cube_text.specs.declared.error.CubeError.TheVariants.{ReadFault as CubesReadFault, OutOfMemory as CubesOutOfMemory}
 use Rattle.schedule_plan.specs.Plan.{IsAdmissible}
 use Rattle.schedule_plan.specs.declared.plan.Move.{Move}
 use Rattle.command_line.specs.declared.format.ProofFormat.{ProofFormat}
@@ -103,12 +107,16 @@ pub record TakesText {Text T E : Type 0} (whole so_far : List ℕ → Text) (unr
   pub name : (new.name ≡ Some file) ⊎ (new.name ≡ None)
   pub faults : old.faults ≤ new.faults
 
--- which texts of a formula in a mode may want memory, of an order of so many variables, and of a schedule (99 is `c`, 35 `#`)
+-- which texts of a formula in a mode may want memory, of an order of so many variables, of cubes over them, and of a schedule (99 is
+-- `c`, 35 `#`)
 abbrev pub cnf_wants : Mode → List ℕ → Type 0
 cnf_wants mode bytes = CnfWantsMemory mode (items 99 max_bytes bytes)
 
 abbrev pub order_wants : ℕ → List ℕ → Type 0
 order_wants vars bytes = OrderWantsMemory vars (items 35 max_bytes bytes)
+
+abbrev pub cubes_wants : ℕ → List ℕ → Type 0
+cubes_wants vars bytes = CubesWantMemory vars (items 35 max_bytes bytes)
 
 abbrev pub schedule_wants : Formula → List ℕ → Type 0
 schedule_wants problem bytes = IsTrue (may_want_memory problem bytes)
@@ -119,6 +127,9 @@ cnf_wanting mode = record { early = false; answer = CnfOutOfMemory; texts = cnf_
 
 abbrev pub order_wanting : ℕ → Wanting OrderError
 order_wanting vars = record { early = false; answer = OrderOutOfMemory; texts = order_wants vars }
+
+abbrev pub cubes_wanting : ℕ → Wanting CubeError
+cubes_wanting vars = record { early = false; answer = CubesOutOfMemory; texts = cubes_wants vars }
 
 abbrev pub schedule_wanting : Formula → Wanting PlanError
 schedule_wanting problem = record { early = true; answer = PlanOutOfMemory; texts = schedule_wants problem }
@@ -145,6 +156,15 @@ ReadsSchedule problem = ReadsOpened (schedule problem) (schedule_so_far problem)
 abbrev pub TakesSchedule : Formula → Bool → Channel → Channel → Files → List ℕ → Result (List Move) PlanError → Type 0
 TakesSchedule problem = TakesText (schedule problem) (schedule_so_far problem) unread_schedule ScheduleAnswers
     (IsAdmissible problem) PlanReadFault (schedule_wanting problem)
+
+-- and the text of cubes over the formula's variables
+abbrev pub ReadsCubes : ℕ → Bool → Channel → Channel → Result (List (List ℤ)) CubeError → Type 0
+ReadsCubes vars = ReadsOpened (cube_text vars) (cubes_so_far vars) unread_cubes CubeAnswers (AreCubes vars) CubesReadFault
+    (cubes_wanting vars)
+
+abbrev pub TakesCubes : ℕ → Bool → Channel → Channel → Files → List ℕ → Result (List (List ℤ)) CubeError → Type 0
+TakesCubes vars = TakesText (cube_text vars) (cubes_so_far vars) unread_cubes CubeAnswers (AreCubes vars) CubesReadFault
+    (cubes_wanting vars)
 
 -- A value was made without a file, unless memory ran out.
 pub record Makes {T E : Type 0} (value : T) (memory : E) (old new : Channel) (result : Result T E) : Type 0 where

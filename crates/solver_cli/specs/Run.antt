@@ -1,8 +1,9 @@
 -- One run of the program, and what its words ask for.
 use Rattle.std.specs.Prelude.{◌≡◌, ◌⊎◌, ◌≤◌, ℕ, Bool, true, false, List, Option, None, Some, length, drop, IsTrue}
 use Rattle.cnf_base.specs.Formula.{Formula}
+use Rattle.cnf_base.specs.Truth.{Assignment, Satisfies}
 use Rattle.host_io.specs.declared.role.Role.{Role}
-use Rattle.host_io.specs.declared.role.Role.TheVariants.{Cnf, Order, Buckets, Schedule, ProofIn, ProofOut, Made, Out, Err}
+use Rattle.host_io.specs.declared.role.Role.TheVariants.{Cnf, Order, Buckets, Schedule, ProofIn, Cubes, ProofOut, Made, Out, Err}
 use Rattle.host_io.specs.Channel.{Channel, Rose}
 use Rattle.host_io.specs.Files.{Files, IsInput, IsCreated}
 use Rattle.dimacs_reader.specs.Cnf.{CnfText, formula, cnf}
@@ -10,14 +11,16 @@ use Rattle.lrat_rules.specs.Run.{Refutes}
 use Rattle.lrat_checker.specs.TextVerdict.{max_bytes, text_verdict}
 use Rattle.lrat_checker.specs.declared.verdict.Verdict.{Verdict}
 use Rattle.lrat_checker.specs.declared.verdict.Verdict.TheVariants as judgement
-use Rattle.drat_proof.specs.Drat.{drat}
+use Rattle.drat_proof.specs.Drat.{named_drat}
+use Rattle.proof_trim.specs.Core.{RefutesFrom, clauses_at, core, core_start, core_text}
 use Rattle.proof_trim.specs.Trimmed.{each_named, trim, trimmed}
 use Rattle.schedule_plan.specs.OrderText.{OrderText, order_text}
 use Rattle.schedule_plan.specs.ScheduleText.{ScheduleText, schedule}
 use Rattle.schedule_plan.specs.declared.plan.Move.{Move}
+use Rattle.cube_text.specs.CubeText.{CubeText, cube_text}
 use Rattle.schedule_plan.specs.declared.limits.Limits.{Limits}
 use Rattle.term_runner.specs.declared.outcome.Outcome.{Outcome}
-use Rattle.command_line.specs.Command.{Command, ToSolve, ToBench, ToMake, ToRewrite, Solve, Check, Bench, Make}
+use Rattle.command_line.specs.Command.{Command, ToSolve, ToAsk, ToBench, ToMake, ToConvert, ToTrim, Solve, Check, Bench, Make, Ask}
 use Rattle.command_line.specs.Command.{Arrange, Convert, Trim, Planned, ByName, ByFile, ByBuckets, Found}
 use Rattle.command_line.specs.Command.{command, format_of, formula_file, limits_asked, mode_of}
 use Rattle.solver_cli.specs.declared.status.Status.{Status}
@@ -64,7 +67,7 @@ OutputFailed run = (role : Role) × (IsCreated role ⊎ (role ≡ Out)) × HasFa
 abbrev pub IsUnharmed : Run → Type 0
 IsUnharmed run = (InputFailed run → ⊥) × (OutputFailed run → ⊥)
 
--- the words give a command; they give `solve`; they give `make`; they give `drat`; they give `trim`
+-- the words give a command; they give `solve`; they give `make`; they give `drat`; they give `trim`; they give `ask`
 abbrev pub GivesCommand : Run → Type 0
 GivesCommand run = (asked : Command) × (command run.words ≡ Some asked)
 
@@ -75,10 +78,13 @@ abbrev pub GivesMake : Run → Type 0
 GivesMake run = (task : ToMake) × (command run.words ≡ Some (Make task))
 
 abbrev pub GivesConversion : Run → Type 0
-GivesConversion run = (task : ToRewrite) × (command run.words ≡ Some (Convert task))
+GivesConversion run = (task : ToConvert) × (command run.words ≡ Some (Convert task))
 
 abbrev pub GivesTrimming : Run → Type 0
-GivesTrimming run = (task : ToRewrite) × (command run.words ≡ Some (Trim task))
+GivesTrimming run = (task : ToTrim) × (command run.words ≡ Some (Trim task))
+
+abbrev pub GivesAsk : Run → Type 0
+GivesAsk run = (task : ToAsk) × (command run.words ≡ Some (Ask task))
 
 -- they give `solve` or `bench`, which decide a formula
 abbrev pub decides : Command → Bool
@@ -87,8 +93,20 @@ decides (Check task) = false
 decides (Bench task) = true
 decides (Make task) = false
 decides (Arrange task) = false
+decides (Ask task) = false
 decides (Convert task) = false
 decides (Trim task) = false
+
+-- they go by an order of the formula's variables, which may stand in a file: those and `ask`
+abbrev pub goes_by_order : Command → Bool
+goes_by_order (Solve task) = true
+goes_by_order (Check task) = false
+goes_by_order (Bench task) = false
+goes_by_order (Make task) = false
+goes_by_order (Arrange task) = false
+goes_by_order (Ask task) = true
+goes_by_order (Convert task) = false
+goes_by_order (Trim task) = false
 
 abbrev pub GivesDecision : Run → Type 0
 GivesDecision run = (asked : Command) × (command run.words ≡ Some asked) × IsTrue (decides asked)
@@ -104,6 +122,7 @@ schedule_file Found = None
 abbrev pub name_given : Role → Command → Option (List ℕ)
 name_given Cnf asked = formula_file asked
 name_given Order (Solve task) = task.order
+name_given Order (Ask task) = task.order
 name_given Order _ = None
 name_given Buckets (Solve task) = buckets_file task.plan
 name_given Buckets _ = None
@@ -113,18 +132,23 @@ name_given ProofIn (Check task) = Some task.proof
 name_given ProofIn (Convert task) = Some task.proof
 name_given ProofIn (Trim task) = Some task.proof
 name_given ProofIn _ = None
+name_given Cubes (Ask task) = Some task.cubes
+name_given Cubes _ = None
 name_given ProofOut (Solve task) = Some task.proof
 name_given ProofOut (Bench task) = Some task.proof
+name_given ProofOut (Ask task) = Some task.proof
 name_given ProofOut (Convert task) = Some task.out
 name_given ProofOut (Trim task) = Some task.out
 name_given ProofOut _ = None
 name_given Made (Make task) = Some task.file
 name_given Made (Arrange task) = Some task.out
+name_given Made (Trim task) = task.core
 name_given Made _ = None
 name_given Out asked = None
 name_given Err asked = None
 
--- they name a formula's file; with `solve` they name the file of an order, that of an order of the buckets, or a schedule's
+-- They name a formula's file. With `solve` and `ask` they name the file of an order; with `solve` that of an order of the buckets, or a
+-- schedule's; with `ask` that of cubes.
 abbrev pub GivesFormula : Run → Type 0
 GivesFormula run = (asked : Command) × (command run.words ≡ Some asked) × (file : List ℕ) × (formula_file asked ≡ Some file)
 
@@ -133,7 +157,7 @@ abbrev pub GivesProof : Run → Type 0
 GivesProof run = (asked : Command) × (command run.words ≡ Some asked) × (file : List ℕ) × (name_given ProofIn asked ≡ Some file)
 
 abbrev pub GivesOrder : Run → Type 0
-GivesOrder run = (task : ToSolve) × (command run.words ≡ Some (Solve task)) × (file : List ℕ) × (task.order ≡ Some file)
+GivesOrder run = (asked : Command) × (command run.words ≡ Some asked) × (file : List ℕ) × (name_given Order asked ≡ Some file)
 
 abbrev pub GivesBuckets : Run → Type 0
 GivesBuckets run = (task : ToSolve) × (command run.words ≡ Some (Solve task)) × (file : List ℕ) × (task.plan ≡ ByBuckets file)
@@ -148,12 +172,12 @@ pub record AsksOver (run : Run) (asked : Command) (text : CnfText) : Type 0 wher
   pub named : formula_file asked ≡ Some file
   pub read : IsRead run.files file (cnf (mode_of asked)) text
 
--- They ask to decide this formula by an order that stands in a file, whose text says this.
+-- They ask to decide this formula, or cubes over it, by an order that stands in a file, whose text says this.
 pub record AsksByOrder (run : Run) (problem : Formula) (text : OrderText) : Type 0 where
-  pub task : ToSolve
-  pub asks : AsksOver run (Solve task) (formula problem)
+  pub asked : Command
+  pub asks : AsksOver run asked (formula problem)
   pub file : List ℕ
-  pub named : task.order ≡ Some file
+  pub named : name_given Order asked ≡ Some file
   pub read : IsRead run.files file (order_text problem.vars) text
 
 -- They ask to decide this formula by buckets of an order that stands in a file, and the order is given; the text of that file says this.
@@ -175,6 +199,13 @@ pub record AsksBySchedule (run : Run) (problem : Formula) (text : ScheduleText) 
   pub file : List ℕ
   pub named : task.plan ≡ ByFile file
   pub read : IsRead run.files file (schedule problem) text
+
+-- They ask about cubes over this formula, by this order of its variables; the text of the cubes' file says this.
+pub record AsksByCubes (run : Run) (problem : Formula) (order : List ℕ) (text : CubeText) : Type 0 where
+  pub task : ToAsk
+  pub asks : AsksOver run (Ask task) (formula problem)
+  pub ordered : IsOrdered run.files task.order problem order
+  pub read : IsRead run.files task.cubes (cube_text problem.vars) text
 
 -- They ask to decide this formula by this order of its variables and these moves: those of the files that are named, those of a board,
 -- or, where they are to be found, any order and the moves of the bucket plan by any order.
@@ -211,16 +242,33 @@ pub record HasVerdict (run : Run) (problem : Formula) (bytes : List ℕ) (verdic
 
 -- They ask to judge a proof over this formula, and to write it as a DRAT proof.
 abbrev pub AsksToConvert : Run → Type 0
-AsksToConvert run = (task : ToRewrite) × (problem : Formula) × AsksOver run (Convert task) (formula problem)
+AsksToConvert run = (task : ToConvert) × (problem : Formula) × AsksOver run (Convert task) (formula problem)
 
--- the file that the DRAT proof goes to gained exactly what this proof over the formula becomes, and that is flushed
+-- `drat` is to give new names to the variables above the formula's
+abbrev pub asks_new_names : Option Command → Bool
+asks_new_names (Some (Convert task)) = task.fresh
+asks_new_names _ = false
+
+abbrev pub has_new_names : Run → Bool
+has_new_names run = asks_new_names (command run.words)
+
+-- The file that the DRAT proof goes to gained exactly what this proof over the formula becomes, by new names where the words ask for them,
+-- and that is flushed.
 pub record IsConverted (run : Run) (problem : Formula) (bytes : List ℕ) : Type 0 where
-  pub written : written_in run ProofOut ≡ drat problem.clauses bytes
+  pub written : written_in run ProofOut ≡ named_drat (has_new_names run) problem bytes
   pub flushed : (run.after ProofOut).flushed ≡ length (run.after ProofOut).written
+
+-- The file that the core goes to gained exactly the numbers of those of the formula's clauses that the trimmed proof names, a line each, and
+-- that is flushed. No assignment satisfies these clauses, and the trimmed proof's steps refute them alone, under those numbers.
+pub record IsCored (run : Run) (problem : Formula) (bytes : List ℕ) : Type 0 where
+  pub written : written_in run Made ≡ core_text (core problem.clauses bytes)
+  pub flushed : (run.after Made).flushed ≡ length (run.after Made).written
+  pub refuted : RefutesFrom (core_start problem.clauses (core problem.clauses bytes)) (trimmed problem.clauses bytes)
+  pub unsatisfiable : (a : Assignment) → Satisfies a (clauses_at problem.clauses (core problem.clauses bytes)) → ⊥
 
 -- The file that the trimmed proof goes to gained exactly the trimmed form of this proof over the formula, and that is flushed. It refutes
 -- the formula; each of its additions but that of the empty clause is named by a later step; and unless it is longer than is looked at, it
--- is verified, and trimming it again gives the same bytes.
+-- is verified, and trimming it again gives the same bytes. Where the words name a file for its core, that was written.
 pub record IsTrimmed (run : Run) (problem : Formula) (bytes : List ℕ) : Type 0 where
   pub written : written_in run ProofOut ≡ trim problem.clauses bytes
   pub flushed : (run.after ProofOut).flushed ≡ length (run.after ProofOut).written
@@ -229,6 +277,8 @@ pub record IsTrimmed (run : Run) (problem : Formula) (bytes : List ℕ) : Type 0
   pub verified : length (written_in run ProofOut) ≤ max_bytes
       → text_verdict problem.clauses (written_in run ProofOut) ≡ Some judgement.Verified
   pub again : length (written_in run ProofOut) ≤ max_bytes → trim problem.clauses (written_in run ProofOut) ≡ written_in run ProofOut
+  pub cored : (asked : Command) → command run.words ≡ Some asked → (file : List ℕ) → name_given Made asked ≡ Some file
+      → IsCored run problem bytes
 
 -- what is printed for the verdict on this proof over the formula
 abbrev pub verdict_text_for : Run → Formula → List ℕ → Verdict → List ℕ

@@ -3,8 +3,8 @@ use Rattle.std.specs.Prelude.{◌≡◌, ◌<◌, ℕ, List, Some, length, IsTru
 use Rattle.host_io.specs.declared.role.Role.TheVariants.{ProofIn, ProofOut}
 use Rattle.lrat_checker.specs.TextVerdict.{max_bytes}
 use Rattle.solver_cli.specs.declared.status.Status.{Status}
-use Rattle.solver_cli.specs.declared.status.Status.TheVariants.{Sat, Unsat, Unknown, Verified, NotVerified, Done, Help, Usage, CnfRefused}
-use Rattle.solver_cli.specs.declared.status.Status.TheVariants.{OrderRefused, BucketsRefused, PlanRefused, TooLong, ReadFault, WriteFault, OutOfMemory}
+use Rattle.solver_cli.specs.declared.status.Status.TheVariants.{Sat, Unsat, Unknown, Answered, Verified, NotVerified, Done, Help, Usage, CnfRefused}
+use Rattle.solver_cli.specs.declared.status.Status.TheVariants.{OrderRefused, BucketsRefused, PlanRefused, CubeRefused, TooLong, ReadFault, WriteFault, OutOfMemory}
 use Rattle.command_line.specs.declared.format.ProofFormat.TheVariants.{Lrat}
 use Rattle.command_line.specs.Command.{ToSolve, ToCheck, Solve, Check, command}
 use Rattle.solver_cli.specs.Run.{Run, written_in, InputFailed, OutputFailed}
@@ -30,6 +30,7 @@ abbrev pub MayEnd : Run → List ℕ → Status → Type 0
 MayEnd run bytes Sat = ⊥
 MayEnd run bytes Unsat = ⊥
 MayEnd run bytes (Unknown why) = ⊥
+MayEnd run bytes Answered = ⊥
 MayEnd run bytes Verified = ⊤
 MayEnd run bytes (NotVerified line reason) = ⊥
 MayEnd run bytes Done = ⊥
@@ -39,6 +40,7 @@ MayEnd run bytes (CnfRefused kind line) = ⊥
 MayEnd run bytes (OrderRefused kind line) = ⊥
 MayEnd run bytes (BucketsRefused kind line) = ⊥
 MayEnd run bytes (PlanRefused kind line) = ⊥
+MayEnd run bytes (CubeRefused kind line) = ⊥
 MayEnd run bytes (TooLong role) = (role ≡ ProofIn) × (max_bytes < length bytes)
 MayEnd run bytes ReadFault = InputFailed run
 MayEnd run bytes WriteFault = OutputFailed run

@@ -1,15 +1,16 @@
 -- How far a run came, over the streams that it serves.
-use Rattle.std.specs.Prelude.{◌≡◌, ◌≢◌, ◌⊎◌, ℕ, Bool, List, Option, None, Some, Result, Ok, Err, IsOk, IsErr, ⊤}
+use Rattle.std.specs.Prelude.{◌≡◌, ◌≢◌, ◌⊎◌, ℕ, ℤ, Bool, List, Option, None, Some, Result, Ok, Err, IsOk, IsErr, IsFalse, ⊤}
 use Rattle.cnf_base.specs.Formula.{Formula}
 use Rattle.host_io.specs.declared.role.Role.{Role}
-use Rattle.host_io.specs.declared.role.Role.TheVariants.{Cnf, Order, Buckets, Schedule, ProofIn, ProofOut, Made, Out}
+use Rattle.host_io.specs.declared.role.Role.TheVariants.{Cnf, Order, Buckets, Schedule, ProofIn, Cubes, ProofOut, Made, Out}
 use Rattle.host_io.specs.declared.source.Failed.{Failed}
 use Rattle.host_io.specs.Channel.{Channel}
-use Rattle.host_io.specs.Files.{Files, Opens}
+use Rattle.host_io.specs.Files.{Files, Opens, same_role}
 use Rattle.lrat_checker.specs.declared.verdict.Verdict.{Verdict}
 use Rattle.lrat_checker.specs.declared.verdict.CheckError.{CheckError}
 use Rattle.lrat_checker.specs.declared.verdict.Verdict.TheVariants as judgement
 use Rattle.lrat_rules.specs.declared.outcome.Reason.{Reason}
+use Rattle.drat_proof.specs.Drat.{named_drat_steps}
 use Rattle.drat_proof.specs.declared.error.ConvertError.{ConvertError}
 use Rattle.proof_trim.specs.declared.text.Trimmed.TheVariants.{Steps, Refused as IsRefused}
 use Rattle.answer_text.specs.Status.{trimmed_text}
@@ -17,6 +18,9 @@ use Rattle.solver_cli.specs.declared.answer.Shape.{Shape}
 use Rattle.solver_cli.specs.declared.job.Job.{Job as HeldJob}
 use Rattle.solver_cli.specs.declared.status.Status.{Status}
 use Rattle.solver_cli.specs.declared.status.Status.TheVariants.{Help, Usage, Done, WriteFault, OutOfMemory}
+use Rattle.cube_text.specs.declared.error.CubeError.{CubeError}
+use Rattle.cube_queries.specs.declared.answer.Outcome.{Outcome as Replies}
+use Rattle.cube_queries.specs.Ends.{Ends as WritesReplies}
 use Rattle.term_runner.specs.declared.outcome.Run.{Run as Ending}
 use Rattle.term_runner.specs.declared.error.RunError.{RunError}
 use Rattle.dimacs_reader.specs.declared.mode.Mode.{Mode}
@@ -27,30 +31,33 @@ use Rattle.schedule_plan.specs.declared.order_error.OrderError.{OrderError}
 use Rattle.schedule_plan.specs.declared.schedule.error.PlanError.{PlanError}
 use Rattle.solver_cli.specs.Answer.{AreOfBoard, IsOrderOf, ending_text, shape_of, status_of}
 use Rattle.solver_cli.specs.MadeText.{made_text, order_line}
+use Rattle.solver_cli.specs.Replies.{replies_text, status_of_replies}
 use Rattle.solver_cli.specs.Verdict.{verdict_text, status_of_verdict}
-use Rattle.solver_cli.specs.ExitCode.{status_of_buckets, status_of_check, status_of_error, status_of_order, status_of_plan}
+use Rattle.solver_cli.specs.ExitCode.{status_of_buckets, status_of_check, status_of_cubes, status_of_error, status_of_order, status_of_plan}
 use Rattle.solver_cli.specs.ExitCode.{status_of_convert, status_of_run}
-use Rattle.command_line.specs.Reading.{rewrite_of, text_of, planned_of}
+use Rattle.command_line.specs.Reading.{text_of, planned_of}
+use Rattle.command_line.specs.declared.ask.AskTask.{AskTask}
 use Rattle.command_line.specs.declared.words.SolveTask.{SolveTask}
 use Rattle.command_line.specs.declared.words.CheckTask.{CheckTask}
 use Rattle.command_line.specs.declared.order.OrderTask.{OrderTask}
 use Rattle.command_line.specs.declared.board.BenchTask.{BenchTask}
 use Rattle.command_line.specs.declared.board.MakeTask.{MakeTask}
-use Rattle.command_line.specs.Command.{ToSolve, ToCheck, ToBench, ToMake, ToOrder, ToRewrite, Solve, Check, Bench, Make, Arrange}
+use Rattle.command_line.specs.Command.{ToSolve, ToAsk, ToCheck, ToBench, ToMake, ToOrder, ToConvert, ToTrim, Solve, Ask, Check, Bench, Make, Arrange}
 use Rattle.command_line.specs.Command.{Convert, Trim, AsksHelp, Misuse}
 use Rattle.command_line.specs.Command.{MayMean, command}
-use Rattle.solver_cli.specs.Phases.{TakesFormula, HasOrder, HasBuckets, HasPlan, JudgesProof, WritesProof, PutsText, basis_of, buckets_file}
+use Rattle.solver_cli.specs.Phases.{TakesCubes, TakesFormula, HasOrder, HasBuckets, HasPlan, JudgesProof, WritesProof, PutsText, basis_of, buckets_file}
 use Rattle.solver_cli.specs.DratProof.{RewritesProof}
-use Rattle.solver_cli.specs.TrimmedProof.{PutsFile, TrimsProof}
+use Rattle.solver_cli.specs.TrimmedProof.{PutsFile, PutsNamed, TrimsProof}
 
--- the files of the formula, of its order, of the buckets' order and of a schedule, the proof that is judged, the proof that is written, the text
--- that is made, and standard output
+-- the files of the formula, of its order, of the buckets' order and of a schedule, the proof that is judged, the cubes, the proof that is
+-- written, the text that is made, and standard output
 pub record Streams : Type 0 where
   pub cnf : Channel
   pub order : Channel
   pub buckets : Channel
   pub schedule : Channel
   pub judged : Channel
+  pub cubes : Channel
   pub proof : Channel
   pub made : Channel
   pub out : Channel
@@ -63,6 +70,7 @@ streams_of channel =
       buckets = channel Buckets;
       schedule = channel Schedule;
       judged = channel ProofIn;
+      cubes = channel Cubes;
       proof = channel ProofOut;
       made = channel Made;
       out = channel Out;
@@ -94,6 +102,7 @@ pub record Helped (tells : Bool) (words : List (List ℕ)) (old new : Streams) (
   pub buckets : new.buckets ≡ old.buckets
   pub schedule : new.schedule ≡ old.schedule
   pub judged : new.judged ≡ old.judged
+  pub cubes : new.cubes ≡ old.cubes
   pub proof : new.proof ≡ old.proof
   pub made : new.made ≡ old.made
 
@@ -105,20 +114,23 @@ pub record Untaken (mode : Mode) (tells : Bool) (old new : Streams) (files : Fil
   pub buckets : new.buckets ≡ old.buckets
   pub schedule : new.schedule ≡ old.schedule
   pub judged : new.judged ≡ old.judged
+  pub cubes : new.cubes ≡ old.cubes
   pub proof : new.proof ≡ old.proof
   pub made : new.made ≡ old.made
   pub out : new.out ≡ old.out
   pub ends : status ≡ status_of_error error
 
--- the formula was taken, and the order was not had
-pub record Unordered (tells : Bool) (old new : Streams) (files : Files) (task : ToSolve) (status : Status) : Type 0 where
+-- the formula was taken, in a mode, and the order was not had, which stands in a file, if one is named
+pub record Unordered (mode : Mode) (tells : Bool) (old new : Streams) (files : Files) (file : List ℕ) (named : Option (List ℕ))
+    (status : Status) : Type 0 where
   pub problem : Formula
-  pub takes : TakesFormula task.mode tells old.cnf new.cnf files task.file (Ok problem)
+  pub takes : TakesFormula mode tells old.cnf new.cnf files file (Ok problem)
   pub error : OrderError
-  pub orders : HasOrder problem.vars task.order tells old.order new.order files (Err error)
+  pub orders : HasOrder problem.vars named tells old.order new.order files (Err error)
   pub buckets : new.buckets ≡ old.buckets
   pub schedule : new.schedule ≡ old.schedule
   pub judged : new.judged ≡ old.judged
+  pub cubes : new.cubes ≡ old.cubes
   pub proof : new.proof ≡ old.proof
   pub made : new.made ≡ old.made
   pub out : new.out ≡ old.out
@@ -134,6 +146,7 @@ pub record Unbucketed (tells : Bool) (old new : Streams) (files : Files) (task :
   pub bucketed : HasBuckets problem.vars (buckets_file task.plan) tells old.buckets new.buckets files (Err error)
   pub schedule : new.schedule ≡ old.schedule
   pub judged : new.judged ≡ old.judged
+  pub cubes : new.cubes ≡ old.cubes
   pub proof : new.proof ≡ old.proof
   pub made : new.made ≡ old.made
   pub out : new.out ≡ old.out
@@ -150,6 +163,7 @@ pub record Unplanned (tells : Bool) (old new : Streams) (files : Files) (task : 
   pub error : PlanError
   pub plans : HasPlan problem given named task.plan tells old.schedule new.schedule files (Err error)
   pub judged : new.judged ≡ old.judged
+  pub cubes : new.cubes ≡ old.cubes
   pub proof : new.proof ≡ old.proof
   pub made : new.made ≡ old.made
   pub out : new.out ≡ old.out
@@ -165,6 +179,7 @@ pub record Prepared (tells : Bool) (old new : Streams) (files : Files) (task : T
   pub bucketed : HasBuckets problem.vars (buckets_file task.plan) tells old.buckets new.buckets files (Ok named)
   pub plans : HasPlan problem given named task.plan tells old.schedule new.schedule files (Ok (basis_of order moves))
   pub judged : new.judged ≡ old.judged
+  pub cubes : new.cubes ≡ old.cubes
   pub made : new.made ≡ old.made
 
 -- no file is read
@@ -174,6 +189,7 @@ pub record NoneRead (old new : Streams) : Type 0 where
   pub buckets : new.buckets ≡ old.buckets
   pub schedule : new.schedule ≡ old.schedule
   pub judged : new.judged ≡ old.judged
+  pub cubes : new.cubes ≡ old.cubes
 
 -- What is done with a formula, an order and moves: the proof's file, the limits, and the board that they are of, if any.
 pub record Job : Type 0 where
@@ -253,13 +269,20 @@ pub record LeavesInputs (old new : Role → Channel) : Type 0 where
   pub buckets : new Buckets ≡ old Buckets
   pub schedule : new Schedule ≡ old Schedule
   pub judged : new ProofIn ≡ old ProofIn
+  pub cubes : new Cubes ≡ old Cubes
   pub made : new Made ≡ old Made
 
 -- no file but those of these two names changed
 abbrev pub FilesBeside : Option (List ℕ) → Option (List ℕ) → Files → Files → Type 0
 FilesBeside one other old new = (file : List ℕ) → one ≢ Some file → other ≢ Some file → new file ≡ old file
 
--- what `solve` is asked to do, what `check` is, and what `order` is
+-- what `trim` leaves alone: the other roles, and the files but those of these two names
+pub record KeptButThree (one other : Option (List ℕ)) (old new : Role → Channel) (old_files new_files : Files) : Type 0 where
+  pub others : (role : Role) → IsFalse (same_role role ProofOut) → IsFalse (same_role role Made) → IsFalse (same_role role Out)
+      → new role ≡ old role
+  pub files : FilesBeside one other old_files new_files
+
+-- what `solve` is asked to do, what `ask` is, what `check` is, and what `order` is
 abbrev pub task_of : SolveTask → ToSolve
 task_of task = record {
   file = task.files.formula.now;
@@ -269,6 +292,16 @@ task_of task = record {
   plan = planned_of task.plan;
   limits = task.limits;
   progress = task.progress;
+}
+
+abbrev pub ask_of : AskTask → ToAsk
+ask_of task = record {
+  file = task.files.formula.now;
+  cubes = task.cubes.now;
+  proof = task.files.proof.now;
+  mode = task.mode;
+  order = text_of task.order;
+  limits = task.limits;
 }
 
 abbrev pub check_of : CheckTask → ToCheck
@@ -286,10 +319,87 @@ arrange_of task = record { file = task.formula.now; method = task.method; mode =
 -- how far `solve` came
 abbrev pub Came : Bool → Streams → Streams → Files → ToSolve → Status → Type 0
 Came tells old new files task status = Untaken task.mode tells old new files task.file status
-    ⊎ (Unordered tells old new files task status
+    ⊎ (Unordered task.mode tells old new files task.file task.order status
     ⊎ (Unbucketed tells old new files task status
     ⊎ (Unplanned tells old new files task status
     ⊎ Solved tells old new files task status)))
+
+-- the order was had, and the cubes were not taken
+pub record Uncubed (tells : Bool) (old new : Streams) (files : Files) (task : ToAsk) (status : Status) : Type 0 where
+  pub problem : Formula
+  pub takes : TakesFormula task.mode tells old.cnf new.cnf files task.file (Ok problem)
+  pub given : List ℕ
+  pub orders : HasOrder problem.vars task.order tells old.order new.order files (Ok given)
+  pub error : CubeError
+  pub cubed : TakesCubes problem.vars tells old.cubes new.cubes files task.cubes (Err error)
+  pub buckets : new.buckets ≡ old.buckets
+  pub schedule : new.schedule ≡ old.schedule
+  pub judged : new.judged ≡ old.judged
+  pub proof : new.proof ≡ old.proof
+  pub made : new.made ≡ old.made
+  pub out : new.out ≡ old.out
+  pub ends : status ≡ status_of_cubes error
+
+-- the cubes were not answered
+pub record Unreplied (tells : Bool) (old new old_out out : Channel) (problem : Formula) (order : List ℕ) (cubes : List (List ℤ)) (job : Job)
+    (status : Status) : Type 0 where
+  pub created : Channel
+  pub created_answer : Result ⊤ Failed
+  pub done : IsOk created_answer
+  pub opens : Opens old created job.proof created_answer
+  pub error : RunError
+  pub writes : WritesReplies tells created new problem order cubes job.limits (Err error)
+  pub same : out ≡ old_out
+  pub ends : status ≡ status_of_run error
+
+-- how printing the answers ends the run
+abbrev pub status_after_replies : Replies → Result ⊤ Failed → Status
+status_after_replies found (Ok x) = status_of_replies found
+status_after_replies found (Err e) = WriteFault
+
+-- they were answered, or a limit was reached, and that was printed or not
+pub record Replied (tells : Bool) (old new old_out out : Channel) (problem : Formula) (order : List ℕ) (cubes : List (List ℤ)) (job : Job)
+    (status : Status) : Type 0 where
+  pub created : Channel
+  pub created_answer : Result ⊤ Failed
+  pub done : IsOk created_answer
+  pub opens : Opens old created job.proof created_answer
+  pub found : Replies
+  pub writes : WritesReplies tells created new problem order cubes job.limits (Ok found)
+  pub printed : Result ⊤ Failed
+  pub puts : PutsText tells old_out out (replies_text job.limits found) printed
+  pub ends : status ≡ status_after_replies found printed
+
+-- how far answering cubes came
+abbrev pub CameToReply : Bool → Channel → Channel → Channel → Channel → Formula → List ℕ → List (List ℤ) → Job → Status → Type 0
+CameToReply tells old new old_out out problem order cubes job status = Uncreated old new old_out out job status
+    ⊎ (Unreplied tells old new old_out out problem order cubes job status
+    ⊎ Replied tells old new old_out out problem order cubes job status)
+
+-- what `ask` does with what it is given
+abbrev pub ask_job : ToAsk → Job
+ask_job task = record { proof = task.proof; limits = task.limits; shape = None }
+
+-- `ask` had all that it answers by
+pub record Questioned (tells : Bool) (old new : Streams) (files : Files) (task : ToAsk) (status : Status) : Type 0 where
+  pub problem : Formula
+  pub takes : TakesFormula task.mode tells old.cnf new.cnf files task.file (Ok problem)
+  pub given : List ℕ
+  pub orders : HasOrder problem.vars task.order tells old.order new.order files (Ok given)
+  pub cubes : List (List ℤ)
+  pub cubed : TakesCubes problem.vars tells old.cubes new.cubes files task.cubes (Ok cubes)
+  pub buckets : new.buckets ≡ old.buckets
+  pub schedule : new.schedule ≡ old.schedule
+  pub judged : new.judged ≡ old.judged
+  pub made : new.made ≡ old.made
+  pub came : CameToReply tells old.proof new.proof old.out new.out problem given cubes (ask_job task) status
+
+-- how far `ask` came
+abbrev pub CameToAsk : Bool → Streams → Streams → Files → ToAsk → Status → Type 0
+CameToAsk tells old new files task status = Untaken task.mode tells old new files task.file status
+    ⊎ (Unordered task.mode tells old new files task.file task.order status
+    ⊎ (Uncubed tells old new files task status
+    ⊎ Questioned tells old new files task status))
 
 -- the proof was not judged
 pub record Unjudged (tells : Bool) (old new : Streams) (files : Files) (task : ToCheck) (status : Status) : Type 0 where
@@ -300,6 +410,7 @@ pub record Unjudged (tells : Bool) (old new : Streams) (files : Files) (task : T
   pub schedule : new.schedule ≡ old.schedule
   pub error : CheckError
   pub judges : JudgesProof task.format tells old.judged new.judged files task.proof problem.clauses (Err error)
+  pub cubes : new.cubes ≡ old.cubes
   pub proof : new.proof ≡ old.proof
   pub made : new.made ≡ old.made
   pub out : new.out ≡ old.out
@@ -319,6 +430,7 @@ pub record Judged (tells : Bool) (old new : Streams) (files : Files) (task : ToC
   pub schedule : new.schedule ≡ old.schedule
   pub verdict : Verdict
   pub judges : JudgesProof task.format tells old.judged new.judged files task.proof problem.clauses (Ok verdict)
+  pub cubes : new.cubes ≡ old.cubes
   pub proof : new.proof ≡ old.proof
   pub made : new.made ≡ old.made
   pub printed : Result ⊤ Failed
@@ -331,39 +443,43 @@ CameToCheck tells old new files task status = Untaken task.mode tells old new fi
     ⊎ (Unjudged tells old new files task status ⊎ Judged tells old new files task status)
 
 -- the proof was not converted
-pub record Unconverted (tells : Bool) (old new : Streams) (files : Files) (task : ToRewrite) (status : Status) : Type 0 where
+pub record Unconverted (tells : Bool) (old new : Streams) (files : Files) (task : ToConvert) (status : Status) : Type 0 where
   pub problem : Formula
   pub takes : TakesFormula task.mode tells old.cnf new.cnf files task.file (Ok problem)
   pub order : new.order ≡ old.order
   pub buckets : new.buckets ≡ old.buckets
   pub schedule : new.schedule ≡ old.schedule
   pub error : ConvertError
-  pub rewrites : RewritesProof tells old.judged new.judged old.proof new.proof files task.proof task.out problem.clauses (Err error)
+  pub rewrites : RewritesProof tells old.judged new.judged old.proof new.proof files task.proof task.out problem.clauses
+      (named_drat_steps task.fresh problem) (Err error)
+  pub cubes : new.cubes ≡ old.cubes
   pub made : new.made ≡ old.made
   pub out : new.out ≡ old.out
   pub ends : status ≡ status_of_convert error
 
 -- it was converted, and the verdict was printed or not
-pub record Converted (tells : Bool) (old new : Streams) (files : Files) (task : ToRewrite) (status : Status) : Type 0 where
+pub record Converted (tells : Bool) (old new : Streams) (files : Files) (task : ToConvert) (status : Status) : Type 0 where
   pub problem : Formula
   pub takes : TakesFormula task.mode tells old.cnf new.cnf files task.file (Ok problem)
   pub order : new.order ≡ old.order
   pub buckets : new.buckets ≡ old.buckets
   pub schedule : new.schedule ≡ old.schedule
   pub verdict : Verdict
-  pub rewrites : RewritesProof tells old.judged new.judged old.proof new.proof files task.proof task.out problem.clauses (Ok verdict)
+  pub rewrites : RewritesProof tells old.judged new.judged old.proof new.proof files task.proof task.out problem.clauses
+      (named_drat_steps task.fresh problem) (Ok verdict)
+  pub cubes : new.cubes ≡ old.cubes
   pub made : new.made ≡ old.made
   pub printed : Result ⊤ Failed
   pub puts : PutsText tells old.out new.out (verdict_text verdict) printed
   pub ends : status ≡ status_of_printed verdict printed
 
 -- how far `drat` came
-abbrev pub CameToConvert : Bool → Streams → Streams → Files → ToRewrite → Status → Type 0
+abbrev pub CameToConvert : Bool → Streams → Streams → Files → ToConvert → Status → Type 0
 CameToConvert tells old new files task status = Untaken task.mode tells old new files task.file status
     ⊎ (Unconverted tells old new files task status ⊎ Converted tells old new files task status)
 
 -- the proof was not judged to be trimmed
-pub record Untrimmed (tells : Bool) (old new : Streams) (files : Files) (task : ToRewrite) (status : Status) : Type 0 where
+pub record Untrimmed (tells : Bool) (old new : Streams) (files : Files) (task : ToTrim) (status : Status) : Type 0 where
   pub problem : Formula
   pub takes : TakesFormula task.mode tells old.cnf new.cnf files task.file (Ok problem)
   pub order : new.order ≡ old.order
@@ -371,6 +487,7 @@ pub record Untrimmed (tells : Bool) (old new : Streams) (files : Files) (task : 
   pub schedule : new.schedule ≡ old.schedule
   pub error : CheckError
   pub trims : TrimsProof tells old.judged new.judged files task.proof problem.clauses (Err error)
+  pub cubes : new.cubes ≡ old.cubes
   pub proof : new.proof ≡ old.proof
   pub made : new.made ≡ old.made
   pub out : new.out ≡ old.out
@@ -383,7 +500,7 @@ pub record ShowsVerdict (tells : Bool) (old new : Channel) (text : List ℕ) (ve
   pub ends : status ≡ status_of_printed verdict printed
 
 -- it was judged, and is not verified
-pub record Rejected (tells : Bool) (old new : Streams) (files : Files) (task : ToRewrite) (status : Status) : Type 0 where
+pub record Rejected (tells : Bool) (old new : Streams) (files : Files) (task : ToTrim) (status : Status) : Type 0 where
   pub problem : Formula
   pub takes : TakesFormula task.mode tells old.cnf new.cnf files task.file (Ok problem)
   pub order : new.order ≡ old.order
@@ -392,47 +509,69 @@ pub record Rejected (tells : Bool) (old new : Streams) (files : Files) (task : T
   pub line : ℕ
   pub reason : Reason
   pub trims : TrimsProof tells old.judged new.judged files task.proof problem.clauses (Ok (IsRefused line reason))
+  pub cubes : new.cubes ≡ old.cubes
   pub proof : new.proof ≡ old.proof
   pub made : new.made ≡ old.made
   pub shows : ShowsVerdict tells old.out new.out (verdict_text (judgement.Refused line reason)) (judgement.Refused line reason) status
 
--- What comes of the steps of a trimmed proof is told of the stream that it is written to and of standard output, before and after.
+-- What comes of the steps of a trimmed proof, and of its core, is told of the streams that they are written to and of standard output, before
+-- and after.
 
--- its file was not created, or the steps not written
-pub record Unkept (tells : Bool) (old new old_out out : Channel) (file text : List ℕ) (status : Status) : Type 0 where
+-- the steps' file was not created, or they were not written
+pub record Unkept (tells : Bool) (old new old_made made old_out out : Channel) (file text : List ℕ) (status : Status) : Type 0 where
   pub error : Failed
   pub puts : PutsFile tells old new file text (Err error)
+  pub unmade : made ≡ old_made
   pub same : out ≡ old_out
   pub ends : status ≡ WriteFault
 
--- they were written, and the verdict was printed or not
-pub record Keeps (tells : Bool) (old new old_out out : Channel) (file text : List ℕ) (kept total : ℕ) (status : Status) : Type 0 where
+-- they were written, and the core that is asked for was not
+pub record Uncored (tells : Bool) (old new old_made made old_out out : Channel) (file text : List ℕ) (named : Option (List ℕ))
+    (core : List ℕ) (status : Status) : Type 0 where
   pub answer : Result ⊤ Failed
   pub done : IsOk answer
   pub puts : PutsFile tells old new file text answer
+  pub error : Failed
+  pub cored : PutsNamed tells old_made made named core (Err error)
+  pub same : out ≡ old_out
+  pub ends : status ≡ WriteFault
+
+-- all that is asked for was written, and the verdict was printed or not
+pub record Keeps (tells : Bool) (old new old_made made old_out out : Channel) (file text : List ℕ) (named : Option (List ℕ))
+    (core : List ℕ) (kept total : ℕ) (status : Status) : Type 0 where
+  pub answer : Result ⊤ Failed
+  pub done : IsOk answer
+  pub puts : PutsFile tells old new file text answer
+  pub core_answer : Result ⊤ Failed
+  pub core_done : IsOk core_answer
+  pub cored : PutsNamed tells old_made made named core core_answer
   pub shows : ShowsVerdict tells old_out out (trimmed_text kept total) judgement.Verified status
 
 -- how far that came
-abbrev pub CameToKeep : Bool → Channel → Channel → Channel → Channel → List ℕ → List ℕ → ℕ → ℕ → Status → Type 0
-CameToKeep tells old new old_out out file text kept total status = Unkept tells old new old_out out file text status
-    ⊎ Keeps tells old new old_out out file text kept total status
+abbrev pub CameToKeep : Bool → Channel → Channel → Channel → Channel → Channel → Channel → List ℕ → List ℕ → Option (List ℕ) → List ℕ
+    → ℕ → ℕ → Status → Type 0
+CameToKeep tells old new old_made made old_out out file text named core kept total status =
+    Unkept tells old new old_made made old_out out file text status
+    ⊎ (Uncored tells old new old_made made old_out out file text named core status
+    ⊎ Keeps tells old new old_made made old_out out file text named core kept total status)
 
 -- the proof was verified, and its trimmed form written or not
-pub record Trimmed (tells : Bool) (old new : Streams) (files : Files) (task : ToRewrite) (status : Status) : Type 0 where
+pub record Trimmed (tells : Bool) (old new : Streams) (files : Files) (task : ToTrim) (status : Status) : Type 0 where
   pub problem : Formula
   pub takes : TakesFormula task.mode tells old.cnf new.cnf files task.file (Ok problem)
   pub order : new.order ≡ old.order
   pub buckets : new.buckets ≡ old.buckets
   pub schedule : new.schedule ≡ old.schedule
   pub lines : List ℕ
+  pub core : List ℕ
   pub kept : ℕ
   pub total : ℕ
-  pub trims : TrimsProof tells old.judged new.judged files task.proof problem.clauses (Ok (Steps lines kept total))
-  pub made : new.made ≡ old.made
-  pub came : CameToKeep tells old.proof new.proof old.out new.out task.out lines kept total status
+  pub trims : TrimsProof tells old.judged new.judged files task.proof problem.clauses (Ok (Steps lines core kept total))
+  pub cubes : new.cubes ≡ old.cubes
+  pub came : CameToKeep tells old.proof new.proof old.made new.made old.out new.out task.out lines task.core core kept total status
 
 -- how far `trim` came
-abbrev pub CameToTrim : Bool → Streams → Streams → Files → ToRewrite → Status → Type 0
+abbrev pub CameToTrim : Bool → Streams → Streams → Files → ToTrim → Status → Type 0
 CameToTrim tells old new files task status = Untaken task.mode tells old new files task.file status
     ⊎ (Untrimmed tells old new files task status
     ⊎ (Rejected tells old new files task status
@@ -507,6 +646,7 @@ pub record FormulaAlone (old new : Streams) : Type 0 where
   pub buckets : new.buckets ≡ old.buckets
   pub schedule : new.schedule ≡ old.schedule
   pub judged : new.judged ≡ old.judged
+  pub cubes : new.cubes ≡ old.cubes
   pub proof : new.proof ≡ old.proof
   pub out : new.out ≡ old.out
 
@@ -564,15 +704,21 @@ pub record Arranging (tells : Bool) (words : List (List ℕ)) (old new : Streams
 
 -- `drat` was tried
 pub record Converting (tells : Bool) (words : List (List ℕ)) (old new : Streams) (files : Files) (status : Status) : Type 0 where
-  pub task : ToRewrite
+  pub task : ToConvert
   pub asked : command words ≡ Some (Convert task)
   pub came : CameToConvert tells old new files task status
 
 -- `trim` was tried
 pub record Trimming (tells : Bool) (words : List (List ℕ)) (old new : Streams) (files : Files) (status : Status) : Type 0 where
-  pub task : ToRewrite
+  pub task : ToTrim
   pub asked : command words ≡ Some (Trim task)
   pub came : CameToTrim tells old new files task status
+
+-- `ask` was tried
+pub record Asking (tells : Bool) (words : List (List ℕ)) (old new : Streams) (files : Files) (status : Status) : Type 0 where
+  pub task : ToAsk
+  pub asked : command words ≡ Some (Ask task)
+  pub came : CameToAsk tells old new files task status
 
 abbrev pub Stages : Bool → List (List ℕ) → Streams → Streams → Files → Status → Type 0
 Stages tells words old new files status = Misused words old new status
@@ -583,4 +729,5 @@ Stages tells words old new files status = Misused words old new status
     ⊎ (Making tells words old new status
     ⊎ (Arranging tells words old new files status
     ⊎ (Converting tells words old new files status
-    ⊎ Trimming tells words old new files status)))))))
+    ⊎ (Trimming tells words old new files status
+    ⊎ Asking tells words old new files status))))))))

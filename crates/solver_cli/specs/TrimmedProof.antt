@@ -1,5 +1,5 @@
 -- What `trim` leaves of the proof that it reads, and of the one that it writes.
-use Rattle.std.specs.Prelude.{◌≡◌, ◌≢◌, ◌⊎◌, ◌≤◌, ◌++◌, ℕ, ℤ, Bool, List, None, Some, Result, Err, length, IsTrue, IsOk, IsErr, ⊤}
+use Rattle.std.specs.Prelude.{◌≡◌, ◌≢◌, ◌⊎◌, ◌≤◌, ◌++◌, ℕ, ℤ, Bool, List, Option, None, Some, Result, Err, length, IsTrue, IsOk, IsErr, ⊤}
 use Rattle.host_io.specs.declared.source.Failed.{Failed}
 use Rattle.host_io.specs.Channel.{Channel, Rose}
 use Rattle.host_io.specs.Files.{Files}
@@ -9,12 +9,13 @@ use Rattle.lrat_checker.specs.declared.verdict.CheckError.{CheckError}
 use Rattle.lrat_checker.specs.declared.verdict.CheckError.TheVariants.{ReadFault}
 use Rattle.drat_proof.specs.TwoRoles.{added}
 use Rattle.proof_trim.specs.Answer.{Trims}
+use Rattle.proof_trim.specs.Core.{core}
 use Rattle.proof_trim.specs.Trimmed.{additions_of_text, trimmed}
 use Rattle.proof_trim.specs.declared.text.Trimmed.{Trimmed}
 
 -- the answer is what trimming this text gives
 abbrev pub TrimsBytes : Result Trimmed CheckError → List (List ℤ) → List ℕ → Type 0
-TrimsBytes result clauses bytes = Trims result (text_verdict clauses bytes) (trimmed clauses bytes) (additions_of_text bytes)
+TrimsBytes result clauses bytes = Trims result (text_verdict clauses bytes) (trimmed clauses bytes) (core clauses bytes) (additions_of_text bytes)
 
 -- The answer is that of the text in the opened proof's file, and already of the bytes taken; where a call on it failed, these decide
 -- nothing yet.
@@ -55,3 +56,8 @@ pub record PutsFile (tells : Bool) (old new : Channel) (file text : List ℕ) (r
   pub fault : IsErr result → Rose old.faults new.faults
   pub unfailed : IsOk result → new.faults ≡ old.faults
   pub name : (new.name ≡ Some file) ⊎ (new.name ≡ None)
+
+-- so for a further file, if one is named; nothing is done without a name
+pub record PutsNamed (tells : Bool) (old new : Channel) (named : Option (List ℕ)) (text : List ℕ) (result : Result ⊤ Failed) : Type 0 where
+  pub unasked : named ≡ None → (new ≡ old) × IsOk result
+  pub asked : (file : List ℕ) → named ≡ Some file → PutsFile tells old new file text result

@@ -3,10 +3,11 @@ ghost use Rattle.std.specs.Prelude.{◌≡◌, ◌++◌, codes, decimal};
 ghost use Rattle.host_io.specs.declared.role.Role.TheVariants.{Err as ErrRole};
 ghost use Rattle.host_io.specs.Channel.{WritesAll};
 ghost use Rattle.host_io.specs.Files.{Kept};
-ghost use Rattle.solver_cli.specs.ErrorText.{kind_name, order_kind_name, plan_kind_name, role_word, error_text};
+ghost use Rattle.solver_cli.specs.ErrorText.{cube_kind_name, kind_name, order_kind_name, plan_kind_name, role_word, error_text};
 ghost use Rattle.solver_cli.specs.Phases.{Complains};
 
 use crate::status::Status;
+use cube_text::CubeKind;
 use dimacs_reader::CnfKind;
 use host_io::{Failed, Host, HostSink, Role, Sink, beside_kept, write_all};
 use itoa::Buffer;
@@ -33,6 +34,7 @@ fn write_status<S: Sink>(sink: &mut S, status: Status) -> Result<(), Failed>
         Status::Sat
         | Status::Unsat
         | Status::Unknown(_)
+        | Status::Answered
         | Status::Verified
         | Status::NotVerified(..)
         | Status::Done
@@ -49,6 +51,9 @@ fn write_status<S: Sink>(sink: &mut S, status: Status) -> Result<(), Failed>
         }
         Status::PlanRefused(kind, line) => {
             write_refused(sink, "error: schedule line ", line, plan_kind(kind))
+        }
+        Status::CubeRefused(kind, line) => {
+            write_refused(sink, "error: cubes line ", line, cube_kind(kind))
         }
         Status::TooLong(role) => write_all(sink, too_long(role).as_bytes()),
         Status::ReadFault => write_all(sink, b"error: read failed\n"),
@@ -109,6 +114,18 @@ fn plan_kind(kind: PlanKind) -> &'static str
     }
 }
 
+fn cube_kind(kind: CubeKind) -> &'static str
+    ensures { result.now ≡ codes ": " ++ cube_kind_name kind ++ codes "\n" }
+{
+    match kind {
+        CubeKind::BadToken => ": BadToken\n",
+        CubeKind::LiteralRange => ": LiteralRange\n",
+        CubeKind::BothSigns => ": BothSigns\n",
+        CubeKind::NoEndingZero => ": NoEndingZero\n",
+        CubeKind::Limit => ": Limit\n",
+    }
+}
+
 // The line about a text that is too long.
 fn too_long(role: Role) -> &'static str
     ensures { result.now ≡ codes "error: " ++ role_word role ++ codes " too long\n" }
@@ -119,6 +136,7 @@ fn too_long(role: Role) -> &'static str
         Role::Buckets => "error: buckets too long\n",
         Role::Schedule => "error: schedule too long\n",
         Role::ProofIn | Role::ProofOut => "error: proof too long\n",
+        Role::Cubes => "error: cubes too long\n",
         Role::Made => "error: made too long\n",
         Role::Out => "error: out too long\n",
         Role::Err => "error: err too long\n",

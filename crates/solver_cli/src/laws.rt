@@ -12,7 +12,7 @@ ghost use Rattle.solver_cli.specs.DratThenCheck.{ChecksConverted};
 
 use cnf_base::number_laws;
 use dimacs_reader::cnf_law;
-use drat_law::drat_law;
+use drat_law::{drat_law, fresh_drat_law};
 use lrat_checker::check_law;
 use text_scan::short_text_law;
 
@@ -25,7 +25,7 @@ pub fn solve_then_check_law()
     check_law();
 }
 
-/// The DRAT proof that `drat` leaves of a verified proof is verified by `check --format drat`, where both read the formula in the same
+/// The DRAT proof that `drat` leaves of a verified proof, by new names or not, is verified by `check --format drat`, where both read the formula in the same
 /// mode, unless it is longer than is looked at, memory runs out or a call of the host fails. It holds of any two runs that keep what `run`
 /// promises.
 pub fn drat_then_check_law()
@@ -34,6 +34,7 @@ pub fn drat_then_check_law()
 {
     cnf_law();
     drat_law();
+    fresh_drat_law();
 }
 
 /// The text that `order` writes is read, by `--order` and `--buckets` of a formula of as many variables, as the order that was written.

@@ -1,16 +1,18 @@
 //! The program as a library. `run` does all that it does, over any host: it reads the words, decides a formula and writes the
-//! proof, or judges a proof, and prints the answer, and may write that proof in DRAT, or trimmed; or it makes a workload's texts, or
-//! an order of a formula's variables. Its contract, `Promises` of `specs/Headline.antt`, is what the program is worth; `run_with` is that over the
+//! proof, or judges a proof, and prints the answer, and may write that proof in DRAT, or trimmed; or it answers cubes over a formula, by one
+//! proof; or it makes a workload's texts, or an order of a formula's variables. Its contract, `Promises` of `specs/Headline.antt`, is what the program is worth; `run_with` is that over the
 //! words as the system gives them. It stands on `command_line`, `term_runner`, `plan_search`, `variable_order`, `lrat_checker`,
-//! `drat_checker`, `drat_proof`, `proof_trim`, `dimacs_reader` and `answer_text`.
+//! `drat_checker`, `drat_proof`, `proof_trim`, `cube_queries`, `cube_text`, `dimacs_reader` and `answer_text`.
 #![tactic(auto)]
 
 mod answer;
 mod arrangement;
+mod asking;
 mod basis;
 mod comment;
 mod complaint;
 mod conversion;
+mod cubes;
 mod formula;
 mod job;
 mod judgement;
@@ -23,6 +25,7 @@ mod output;
 mod plan;
 mod program;
 mod proof;
+mod replies;
 mod reporting_search;
 mod reporting_sink;
 mod reporting_source;
@@ -33,8 +36,8 @@ mod verdict;
 
 pub use answer::Shape;
 pub use command_line::{
-    Asked, BenchTask, BoardText, CheckTask, FileNames, MakeTask, OrderMethod, OrderTask, PlanName,
-    PlanSource, ProofFormat, Refusal, RewriteTask, SolveTask, gather, read_words,
+    AskTask, Asked, BenchTask, BoardText, CheckTask, ConvertTask, FileNames, MakeTask, OrderMethod,
+    OrderTask, PlanName, PlanSource, ProofFormat, Refusal, SolveTask, TrimTask, gather, read_words,
 };
 pub use complaint::complain;
 pub use laws::{drat_then_check_law, order_line_law, solve_then_check_law};

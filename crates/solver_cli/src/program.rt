@@ -7,11 +7,10 @@ ghost use Rattle.host_io.specs.declared.role.Role.{Role};
 ghost use Rattle.host_io.specs.declared.role.Role.TheVariants.{ProofOut, Made, Out, Err as ErrRole};
 ghost use Rattle.host_io.specs.Files.{FilesBut, Kept};
 ghost use Rattle.host_io.specs.Memory.{channel_of, files_of};
-ghost use Rattle.drat_proof.specs.TwoRoles.{KeptButTwo};
 ghost use Rattle.schedule_plan.specs.Limits.{AreLimits};
 ghost use Rattle.schedule_plan.specs.Plan.{IsAdmissible};
 ghost use Rattle.command_line.specs.Command.{IsSize, command, progress_asked};
-ghost use Rattle.command_line.specs.Reading.{rewrite_of};
+ghost use Rattle.command_line.specs.Reading.{convert_of, text_of, trim_of};
 ghost use Rattle.solver_cli.specs.Headline.{Promises};
 ghost use Rattle.solver_cli.specs.Progress.{IsTold};
 ghost use Rattle.solver_cli.specs.ExitCode.{exit_code};
@@ -20,11 +19,12 @@ ghost use Rattle.solver_cli.specs.Verdict.{verdict_text};
 ghost use Rattle.solver_cli.specs.declared.status.Status.{Status};
 ghost use Rattle.solver_cli.specs.declared.status.Status.TheVariants.{OutOfMemory};
 ghost use Rattle.solver_cli.specs.Stages.{Came, CameToAnswer, CameToArrange, CameToBench, CameToCheck, CameToConvert, CameToKeep};
-ghost use Rattle.solver_cli.specs.Stages.{CameToMake, CameToTrim, FilesBeside, ShowsVerdict};
+ghost use Rattle.solver_cli.specs.Stages.{CameToMake, CameToTrim, FilesBeside, KeptButThree, ShowsVerdict};
 ghost use Rattle.solver_cli.specs.Stages.{LeavesInputs, ShowsHelp, Stages, arrange_of, bench_of, check_of, job_of, make_of, streams_of, task_of};
 
 use crate::answer::{Shape, status_of};
 use crate::arrangement::{order_by, put_order};
+use crate::asking::ask;
 use crate::complaint::complain;
 use crate::conversion::rewrite;
 use crate::formula::take_formula;
@@ -36,18 +36,18 @@ use crate::output::{put_answer, put_text};
 use crate::plan::{buckets_name, take_plan};
 use crate::proof::prove;
 use crate::status::{Status, buckets_status};
-use crate::trimming::{put_proof, trim_proof};
+use crate::trimming::{put_core, put_proof, trim_proof};
 use crate::verdict::{put_trimmed, put_verdict, verdict_status};
 use cnf_base::Cnf;
 use command_line::{
-    Asked, BenchTask, CheckTask, MakeTask, OrderTask, Refusal, RewriteTask, SolveTask, gather,
-    read_words,
+    Asked, BenchTask, CheckTask, ConvertTask, MakeTask, OrderTask, Refusal, SolveTask, TrimTask,
+    gather, read_words,
 };
 use drat_checker::check_drat_law;
 use host_io::{Host, MemoryHost, Role as HostRole};
 use lrat_checker::{Verdict, check_law};
 use lrat_rules::soundness_law;
-use proof_trim::{KeptSteps, Trimmed, trim_law};
+use proof_trim::{Core, KeptSteps, Trimmed, trim_law};
 use schedule_plan::{Order, Plan};
 use std::alloc::Global;
 use std::io::ErrorKind;
@@ -67,6 +67,7 @@ fn work<H: Host>(alloc: Global, words: &[String], host: &mut H) -> Status
         Ok(Asked::Bench(task)) => bench(alloc, &task, host),
         Ok(Asked::Make(task)) => make(alloc, &task, host),
         Ok(Asked::Order(task)) => arrange(alloc, &task, host),
+        Ok(Asked::Ask(task)) => ask(alloc, &task, host),
         Ok(Asked::Convert(task)) => drat(alloc, &task, host),
         Ok(Asked::Trim(task)) => trim(alloc, &task, host),
         Err(Refusal::Help(text)) => show_help(&text, host),
@@ -276,10 +277,10 @@ fn check<H: Host>(alloc: Global, asked: &CheckTask<'_>, host: &mut H) -> Status
 }
 
 // Reads the formula, judges the proof over it, writes it as a DRAT proof and prints the verdict.
-fn drat<H: Host>(alloc: Global, asked: &RewriteTask<'_>, host: &mut H) -> Status
+fn drat<H: Host>(alloc: Global, asked: &ConvertTask<'_>, host: &mut H) -> Status
     requires unnamed { (role : Role) → (H.channel host.old role).name ≡ None }
     ensures came { CameToConvert H.tells (streams_of (H.channel host.old)) (streams_of (H.channel host.new)) (H.files host.old)
-        (rewrite_of asked.now) result }
+        (convert_of asked.now) result }
     ensures error { H.channel host.new ErrRole ≡ H.channel host.old ErrRole }
     ensures files { FilesBut (H.channel host.new ProofOut).name (H.files host.old) (H.files host.new) }
 {
@@ -287,7 +288,14 @@ fn drat<H: Host>(alloc: Global, asked: &RewriteTask<'_>, host: &mut H) -> Status
         Ok(problem) => problem,
         Err(error) => return Status::from(error),
     };
-    let verdict = match rewrite(alloc, host, &problem, asked.files.proof, asked.out) {
+    let verdict = match rewrite(
+        alloc,
+        host,
+        &problem,
+        asked.files.proof,
+        asked.out,
+        asked.fresh,
+    ) {
         Ok(verdict) => verdict,
         Err(error) => return Status::from(error),
     };
@@ -297,14 +305,14 @@ fn drat<H: Host>(alloc: Global, asked: &RewriteTask<'_>, host: &mut H) -> Status
     }
 }
 
-// Reads the formula, judges the proof over it, and writes what the refutation needs of a verified one. All growth is over before the
-// file is created, so that a run out of memory leaves none.
-fn trim<H: Host>(alloc: Global, asked: &RewriteTask<'_>, host: &mut H) -> Status
+// Reads the formula, judges the proof over it, and writes what the refutation needs of a verified one, and its core, where a file is named
+// for it. All growth is over before a file is created, so that a run out of memory leaves none.
+fn trim<H: Host>(alloc: Global, asked: &TrimTask<'_>, host: &mut H) -> Status
     requires unnamed { (role : Role) → (H.channel host.old role).name ≡ None }
     ensures came { CameToTrim H.tells (streams_of (H.channel host.old)) (streams_of (H.channel host.new)) (H.files host.old)
-        (rewrite_of asked.now) result }
+        (trim_of asked.now) result }
     ensures error { H.channel host.new ErrRole ≡ H.channel host.old ErrRole }
-    ensures files { FilesBut (H.channel host.new ProofOut).name (H.files host.old) (H.files host.new) }
+    ensures files { FilesBeside (H.channel host.new ProofOut).name (H.channel host.new Made).name (H.files host.old) (H.files host.new) }
 {
     let problem = match take_formula(alloc, host, asked.files.formula, asked.mode) {
         Ok(problem) => problem,
@@ -317,23 +325,36 @@ fn trim<H: Host>(alloc: Global, asked: &RewriteTask<'_>, host: &mut H) -> Status
     match trimmed {
         Trimmed::Steps {
             mut steps,
+            mut core,
             kept,
             total,
-        } => keep(host, asked.out, &mut steps, kept, total),
+        } => keep(host, asked, &mut steps, &mut core, kept, total),
         Trimmed::Refused { line, reason } => show(host, Verdict::Refused { line, reason }),
     }
 }
 
-// Writes the steps to the file of this name, and prints that the proof was verified, with the counts.
-fn keep<H: Host>(host: &mut H, name: &str, steps: &mut KeptSteps, kept: u64, total: u64) -> Status
+// Writes the steps, and their core, where a file is named for it, and prints that the proof was verified, with the counts.
+fn keep<H: Host>(
+    host: &mut H,
+    asked: &TrimTask<'_>,
+    steps: &mut KeptSteps,
+    core: &mut Core,
+    kept: u64,
+    total: u64,
+) -> Status
     requires unwritten { (H.channel host.old ProofOut).name ≡ None }
+    requires unmade { (H.channel host.old Made).name ≡ None }
     requires unnamed { (H.channel host.old Out).name ≡ None }
-    ensures came { CameToKeep H.tells (H.channel host.old ProofOut) (H.channel host.new ProofOut) (H.channel host.old Out)
-        (H.channel host.new Out) name.now steps.old kept total result }
-    ensures beside { KeptButTwo ProofOut Out (H.channel host.new ProofOut).name (H.channel host.old) (H.channel host.new)
-        (H.files host.old) (H.files host.new) }
+    ensures came { CameToKeep H.tells (H.channel host.old ProofOut) (H.channel host.new ProofOut) (H.channel host.old Made)
+        (H.channel host.new Made) (H.channel host.old Out) (H.channel host.new Out) asked.now.out.now steps.old (text_of asked.now.core)
+        core.old kept total result }
+    ensures beside { KeptButThree (H.channel host.new ProofOut).name (H.channel host.new Made).name (H.channel host.old)
+        (H.channel host.new) (H.files host.old) (H.files host.new) }
 {
-    if put_proof(host, name, steps).is_err() {
+    if put_proof(host, asked.out, steps).is_err() {
+        return Status::WriteFault;
+    }
+    if put_core(host, asked.core, core).is_err() {
         return Status::WriteFault;
     }
     match put_trimmed(host, kept, total) {
@@ -354,7 +375,7 @@ fn show<H: Host>(host: &mut H, verdict: Verdict) -> Status
 }
 
 /// Does all that the program does: reads the words (the program's own name first), decides the formula and writes the
-/// proof, judges a proof, or writes it in DRAT, or trimmed, or makes a text, prints the answer or what went wrong, and says how the run ends.
+/// proof, answers cubes over it, judges a proof, or writes it in DRAT, or trimmed, or makes a text, prints the answer or what went wrong, and says how the run ends.
 pub fn run<H: Host>(alloc: Global, words: &[String], host: &mut H) -> Status
     requires unnamed { (role : Role) → (H.channel host.old role).name ≡ None }
     ensures promises { Promises (record {

@@ -2,6 +2,7 @@
 ghost use Rattle.std.specs.Prelude.{◌≡◌};
 ghost use Rattle.solver_cli.specs.ExitCode.{exit_code, status_of_buckets};
 
+use cube_text::{CubeError, CubeKind};
 use dimacs_reader::{CnfError, CnfKind};
 use drat_proof::ConvertError;
 use host_io::Role;
@@ -11,7 +12,7 @@ use schedule_plan::{OrderError, OrderKind, PlanError, PlanKind};
 use std::io::ErrorKind;
 use term_runner::RunError;
 
-/// Why a formula was left undecided.
+/// Why a formula was left undecided, or cubes unanswered.
 #[derive(Clone, Copy, Debug, PartialEq, Eq)]
 pub enum Why {
     /// The diagrams reached the greatest number of nodes.
@@ -27,8 +28,10 @@ pub enum Status {
     Sat,
     /// The formula has none, and the proof was written.
     Unsat,
-    /// The formula was left undecided.
+    /// The formula was left undecided, or the cubes over it unanswered.
     Unknown(Why),
+    /// Each cube was answered, and the answers were printed.
+    Answered,
     /// The proof refutes the formula.
     Verified,
     /// It doesn't: the line that was refused, and why.
@@ -47,6 +50,8 @@ pub enum Status {
     BucketsRefused(OrderKind, u64),
     /// The schedule's text is no plan for the formula.
     PlanRefused(PlanKind, u64),
+    /// The text of the cubes is none over the formula's variables.
+    CubeRefused(CubeKind, u64),
     /// The text of this role has more than 4,000,000,000 bytes.
     TooLong(Role),
     /// A file could not be opened or read.
@@ -57,20 +62,25 @@ pub enum Status {
 }
 
 impl Status {
-    /// The exit code: 10, 20 and 0 as at SAT competitions, 0 for a verified proof, a text that was made and for help too, 1 for a proof
-    /// that isn't, 2 for a refused text, 3 to 6 for what went wrong.
+    /// The exit code: 10, 20 and 0 as at SAT competitions, 0 for answered cubes, a verified proof, a text that was made and for help too, 1
+    /// for a proof that isn't, 2 for a refused text, 3 to 6 for what went wrong.
     pub fn code(self) -> u8
         ensures { result ≡ exit_code self }
     {
         match self {
             Status::Sat => 10,
             Status::Unsat => 20,
-            Status::Unknown(_) | Status::Verified | Status::Done | Status::Help => 0,
+            Status::Unknown(_)
+            | Status::Answered
+            | Status::Verified
+            | Status::Done
+            | Status::Help => 0,
             Status::NotVerified(..) => 1,
             Status::CnfRefused(..)
             | Status::OrderRefused(..)
             | Status::BucketsRefused(..)
             | Status::PlanRefused(..)
+            | Status::CubeRefused(..)
             | Status::TooLong(_) => 2,
             Status::ReadFault => 3,
             Status::WriteFault => 4,
@@ -133,6 +143,21 @@ impl From<PlanError> for Status {
             PlanError::ReadFault => Status::ReadFault,
             PlanError::TooLong => Status::TooLong(Role::Schedule),
             PlanError::OutOfMemory => Status::OutOfMemory,
+        }
+    }
+}
+
+impl From<CubeError> for Status {
+    ghost use Rattle.solver_cli.specs.ExitCode.{status_of_cubes};
+
+    ghost from_gives = { λ e status. status ≡ status_of_cubes e };
+
+    fn from(e: CubeError) -> Status {
+        match e {
+            CubeError::Refused(kind, line) => Status::CubeRefused(kind, line),
+            CubeError::ReadFault => Status::ReadFault,
+            CubeError::TooLong => Status::TooLong(Role::Cubes),
+            CubeError::OutOfMemory => Status::OutOfMemory,
         }
     }
 }

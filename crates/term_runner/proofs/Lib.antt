@@ -19,7 +19,7 @@ pub mod EmptyAdded
 pub mod Opening
 pub mod Planned
 pub mod Listed
-pub mod Parts
+pub mod FurtherParts
 pub mod NewNodes
 pub mod Leaving
 pub mod Tidied
@@ -66,3 +66,4 @@ pub mod Grown
 pub mod WeakerFound
 pub mod Weakened
 pub mod SumOver
+pub mod Counted

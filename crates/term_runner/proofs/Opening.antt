@@ -36,7 +36,7 @@ use Rattle.term_runner.specs.Held.{IsOver}
 use Rattle.term_runner.specs.Price.{IsDecision, IsLeanAtEnd, IsMovePrice, IsPaidFrom, IsPaidSince}
 use Rattle.term_runner.specs.Width.{HasWidth}
 use Rattle.term_runner.specs.Opened.{Decides, HasEmpty, IsBehind, IsWithinLimits, Leads, LeavesKind}
-use Rattle.term_runner.proofs.Parts.{is_wider, wider_less}
+use Rattle.term_runner.proofs.FurtherParts.{is_wider, wider_less}
 use Rattle.term_runner.proofs.Leaving.{went_on}
 use Rattle.term_runner.proofs.Ending.{by_outcome, torn_of, whole_of, written_of}
 use Rattle.term_runner.proofs.EmptyAdded.{NoneAbove, adds_empty, no_step}

@@ -13,6 +13,7 @@ pub mod Terms
 pub mod Moves
 pub mod Finds
 pub mod Tidy
+pub mod Counting
 pub mod Examples
 pub mod Trial
 pub mod Unused

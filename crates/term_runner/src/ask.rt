@@ -1,11 +1,14 @@
 // What a runner is asked for cubes beside its terms. The clauses of refused cubes stay; a plan that is run gives them up.
-ghost use Rattle.std.specs.Prelude.{◌≡◌, Bool, List, [], ℤ, Option, Result, IsTrue};
+ghost use Rattle.std.specs.Prelude.{◌≡◌, ◌≤◌, ◌++◌, ◌∷◌, Bool, true, false, List, [], ℤ, ℕ, Option, Result, IsTrue};
 ghost use Rattle.std.specs.List.{list_all};
 ghost use Rattle.cnf_base.specs.Cube.{is_consistent};
 ghost use Rattle.cnf_base.specs.Truth.{is_literal_of};
-ghost use Rattle.clause_ledger.specs.Book.{IsBook};
+ghost use Rattle.cnf_base.specs.declared.step.Step.{Step};
+ghost use Rattle.clause_ledger.specs.Book.{IsBook, IsTextOf, after_steps};
+ghost use Rattle.lrat_rules.specs.Derivation.{IsCutProof, IsWritten};
+ghost use Rattle.lrat_rules.specs.State.{start};
 ghost use Rattle.node_table.specs.Diagram.{levels};
-ghost use Rattle.node_table.specs.Table.{UnlessTorn};
+ghost use Rattle.node_table.specs.Table.{UnlessTorn, live_nodes};
 ghost use Rattle.term_runner.specs.declared.held.HeldTerm.{HeldTerm as HeldValue};
 ghost use Rattle.term_runner.specs.declared.runner.Runner.{Runner as RunnerValue};
 ghost use Rattle.term_runner.specs.Asked.{Asks};
@@ -48,10 +51,19 @@ impl<'a, S: Sink + Drop> Runner<'a, S> {
         self.settle_cube(found)
     }
 
-    /// For the prover alone: the steps so far prove what is live, and the sink has their lines.
+    /// For the prover alone: the steps so far prove what is live, and the sink has their lines, so that what was written is a proof,
+    /// whole or cut short in its last line; and there are no more nodes than are allowed.
     pub fn proof_law(&self)
-        ensures { IsBook S.tells S.channel S.beside self.now.terms.table.book }
+        ensures book { IsBook S.tells S.channel S.beside self.now.terms.table.book }
+        ensures written { (bytes : List ℕ) → IsTextOf true self.now.terms.table.book.steps bytes
+            → IsWritten self.now.terms.table.book.formula bytes self.now.terms.table.book.state }
+        ensures cut { (bytes : List ℕ) (earlier : List Step) (last : Step) → IsTextOf false self.now.terms.table.book.steps bytes
+            → self.now.terms.table.book.steps ≡ earlier ++ last ∷ []
+            → IsCutProof self.now.terms.table.book.formula bytes (after_steps (start self.now.terms.table.book.formula) earlier)
+            self.now.terms.table.book.state }
+        ensures few { live_nodes self.now.terms.table.graph ≤ self.now.terms.table.max_nodes }
     {
+        self.terms.table.table_law();
         self.terms.table.ledger().book_law();
     }
 

@@ -7,6 +7,7 @@
 mod ask;
 mod caches;
 mod capacity;
+mod counting;
 mod cube;
 mod decide;
 mod error;
@@ -31,12 +32,13 @@ mod unit;
 mod weaker;
 
 pub use clause_terms::{Model, Trail, push_clause, recover};
+pub use counting::counting_law;
 pub use error::RunError;
 pub use examples::width_example;
 pub use gauge::{CacheLookups, Gauge, Lookups, Reading};
 pub use outcome::{Outcome, Run};
 pub use run::{run_plan, run_plan_into, run_plan_shown};
-pub use runner::Runner;
+pub use runner::{Parts, Runner};
 pub use schedule_plan::Limits;
 pub use term::Term;
 pub use trial::{Trial, TrialEnd, try_plan};

@@ -1,8 +1,9 @@
 // A runner, from its opening to the end of its proof. A plan is run in it; or terms are asked for one by one, and what was written
 // is flushed at the end. The sink may be a lent one.
-ghost use Rattle.std.specs.Prelude.{◌≡◌, ◌≤◌, [], length, IsTrue, IfOk, IfErr, OnOk};
+ghost use Rattle.std.specs.Prelude.{◌≡◌, ◌≤◌, [], length, IsTrue, IfOk, IfErr, OnErr, OnOk};
 ghost use Rattle.std.specs.FinMap as map;
 ghost use Rattle.cnf_base.specs.Limits.{max_vars};
+ghost use Rattle.host_io.specs.Channel.{Rose};
 ghost use Rattle.schedule_plan.specs.Limits.{AreLimits};
 ghost use Rattle.schedule_plan.specs.Plan.{IsAdmissible};
 ghost use Rattle.term_runner.specs.Caches.{HaveSize, all_entries};
@@ -30,7 +31,7 @@ use std::alloc::Global;
 
 /// What a runner takes memory for when it is opened: the places of the variables, and empty caches.
 #[derive(Drop)]
-pub(crate) struct Parts {
+pub struct Parts {
     diagram: Diagram,
     caches: Caches,
 }
@@ -85,8 +86,8 @@ impl<'a, S: Sink + Drop> Runner<'a, S> {
         }
     }
 
-    /// The runner of these parts, which are those of this order.
-    pub(crate) fn new(
+    /// The runner of these parts, which are those of this order. The sink may be a lent one.
+    pub fn new(
         alloc: Global,
         formula: &'a Cnf,
         order: &Order,
@@ -195,13 +196,13 @@ impl<'a, S: Sink + Drop> Runner<'a, S> {
         ensures error { IfErr result.1 (λ e. e ≡ RunError.WriteFault) }
         ensures written { (S.channel result.0).written ≡ (S.channel self.entry.terms.table.book.sink).written }
         ensures flushed { IsTrue S.tells → OnOk result.1 ((S.channel result.0).flushed ≡ length (S.channel result.0).written) }
+        ensures unfailed { OnOk result.1 ((S.channel result.0).faults ≡ (S.channel self.entry.terms.table.book.sink).faults) }
+        ensures fault { OnErr result.1 (Rose (S.channel self.entry.terms.table.book.sink).faults (S.channel result.0).faults) }
+        ensures name { (S.channel result.0).name ≡ (S.channel self.entry.terms.table.book.sink).name }
+        ensures beside { S.beside result.0 ≡ S.beside self.entry.terms.table.book.sink }
     {
         let mut ledger = self.terms.into_ledger(false);
-        let last = ledger.last_id();
-        let result = match ledger.finish() {
-            Ok(()) => Ok(last),
-            Err(_) => Err(RunError::WriteFault),
-        };
+        let result = flush(&mut ledger);
         (ledger.close(), result)
     }
 
@@ -224,5 +225,31 @@ impl<'a, S: Sink + Drop> Runner<'a, S> {
         ensures { result.now ≡ self.now.terms.table.graph.order }
     {
         self.terms.table.order()
+    }
+}
+
+// Flushes the proof, and answers the greatest clause number.
+fn flush<S: Sink + Drop>(ledger: &mut Ledger<S>) -> Result<u64, RunError>
+    requires in_step { IsTrue ledger.old.in_step }
+    ensures last { IfOk result (λ last. last ≡ ledger.old.state.top) }
+    ensures error { IfErr result (λ e. e ≡ RunError.WriteFault) }
+    ensures written { (S.channel ledger.new.sink).written ≡ (S.channel ledger.old.sink).written }
+    ensures flushed { IsTrue S.tells → OnOk result ((S.channel ledger.new.sink).flushed ≡ length (S.channel ledger.new.sink).written) }
+    ensures unfailed { OnOk result ((S.channel ledger.new.sink).faults ≡ (S.channel ledger.old.sink).faults) }
+    ensures fault { OnErr result (Rose (S.channel ledger.old.sink).faults (S.channel ledger.new.sink).faults) }
+    ensures name { (S.channel ledger.new.sink).name ≡ (S.channel ledger.old.sink).name }
+    ensures beside { S.beside ledger.new.sink ≡ S.beside ledger.old.sink }
+{
+    ledger.book_law();
+    let last = ledger.last_id();
+    match ledger.finish() {
+        Ok(()) => {
+            ledger.book_law();
+            Ok(last)
+        }
+        Err(_) => {
+            ledger.book_law();
+            Err(RunError::WriteFault)
+        }
     }
 }

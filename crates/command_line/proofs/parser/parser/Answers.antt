@@ -12,7 +12,7 @@ up_to_bench = with_subcommand file_commands bench_app.top
 pub returns : goal.returns
 returns c =
     let bench_is : app_of c.in_ok-bench.bench ≡ up_to_bench =
-    added c.in_ok-order.order c.in_ok-bench.bench file_commands bench_app c.bench_parser.result c.in_ok-order.ensures
+    added c.in_ok-files.files c.in_ok-bench.bench file_commands bench_app c.bench_parser.result c.in_ok-files.ensures
     c.bench_parser.ensures.app c.bench_parser.ensures.local c.in_ok-bench.ensures in
     IfOk-weaker c.with_command-2.result _ _
     (λ r adds. added c.in_ok-bench.bench r up_to_bench make_app c.make_parser.result bench_is c.make_parser.ensures.app

@@ -10,8 +10,9 @@ use Rattle.command_line.proofs.rewrite.rewrite_among.Goals as goal
 pub returns-in_err-formula : goal.returns-in_err-formula
 returns-in_err-formula c =
     let lax = first_value (found_of c.args.values.now) (codes "lax") in
-    let means : rewrite_among (rows_of (found_of c.args.values.now)) ≡ None =
-    rewrite_values c.args.values.now (text_of c.get_str-file.result) (text_of c.get_str-proof.result) (text_of c.get_str-out.result) lax
+    let means : rewrite_among (text_of c.args.further) (rows_of (found_of c.args.values.now)) ≡ None =
+    rewrite_values c.args.values.now (text_of c.get_str-file.result) (text_of c.get_str-proof.result) (text_of c.get_str-out.result)
+    (text_of c.args.further) lax
     c.get_str-file.ensures c.get_str-proof.ensures c.get_str-out.ensures refl
     ∙ ap (λ (names : Option (Text × Text)). to_rewrite names (text_of c.get_str-out.result) (mode_given lax)) c.in_err-formula.ensures in
     search (rules, means)
@@ -21,8 +22,9 @@ returns-in_err-out c =
     let lax = first_value (found_of c.args.values.now) (codes "lax") in
     let names : Option (Text × Text) = Some (c.in_ok-formula.formula.now, c.in_ok-formula.proof.now) in
     let none : text_of c.get_str-out.result ≡ None = ap text_of c.in_err-out.was in
-    let means : rewrite_among (rows_of (found_of c.args.values.now)) ≡ None =
-    rewrite_values c.args.values.now (text_of c.get_str-file.result) (text_of c.get_str-proof.result) (text_of c.get_str-out.result) lax
+    let means : rewrite_among (text_of c.args.further) (rows_of (found_of c.args.values.now)) ≡ None =
+    rewrite_values c.args.values.now (text_of c.get_str-file.result) (text_of c.get_str-proof.result) (text_of c.get_str-out.result)
+    (text_of c.args.further) lax
     c.get_str-file.ensures c.get_str-proof.ensures c.get_str-out.ensures refl
     ∙ ap (λ (names : Option (Text × Text)). to_rewrite names (text_of c.get_str-out.result) (mode_given lax)) c.in_ok-formula.ensures
     ∙ ap (λ (out : Option Text). to_rewrite names out (mode_given lax)) none in
@@ -32,5 +34,5 @@ pub returns : goal.returns
 returns c =
     let some : text_of c.get_str-out.result ≡ Some c.in_ok-out.out.now = ap text_of c.in_ok-out.was in
     rewrite_values c.args.values.now (text_of c.get_str-file.result) (text_of c.get_str-proof.result) (text_of c.get_str-out.result)
-    (text_of c.get_str.result) c.get_str-file.ensures c.get_str-proof.ensures c.get_str-out.ensures c.get_str.ensures
+    (text_of c.args.further) (text_of c.get_str.result) c.get_str-file.ensures c.get_str-proof.ensures c.get_str-out.ensures c.get_str.ensures
     ∙ ap₃ to_rewrite c.in_ok-formula.ensures some (sym c.mode_given-mode.ensures)

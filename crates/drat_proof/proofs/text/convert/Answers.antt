@@ -1,5 +1,6 @@
 -- What is ahead of a new reader are the steps of the text.
-use Rattle.std.proofs.Common.{◌≡◌, ℕ, List, false, length, Err, rules, sym, ◌∙◌, ap, subst, inr, Option}
+use Rattle.std.proofs.Common.{◌≡◌, ℕ, Bool, List, true, false, refl, length, Err, rules, sym, ◌∙◌, ap, subst, inr, Option}
+use Rattle.cnf_base.specs.Formula.{Formula}
 use Rattle.text_scan.specs.Decides.{Decides-map, Decides-none}
 use Rattle.lrat_text.specs.Reader.{steps_ahead, so_far}
 use Rattle.lrat_text.specs.Steps.{steps, steps_so_far}
@@ -10,7 +11,8 @@ use Rattle.lrat_checker.specs.TextVerdict.{max_bytes, steps_verdict, text_verdic
 use Rattle.lrat_checker.specs.Memory.{reading_may_want_memory, check_may_want_memory}
 use Rattle.drat_text.specs.declared.step.DratStep.{DratStep}
 use Rattle.host_io.specs.declared.role.Role.TheVariants.{ProofIn, ProofOut}
-use Rattle.drat_proof.specs.Drat.{drat_of, drat_steps}
+use Rattle.drat_proof.specs.Drat.{drat_of, drat_steps, named_drat_steps}
+use Rattle.drat_proof.specs.Naming.{NamesAhead, names_at_first, names_ahead, named_by}
 use Rattle.drat_proof.specs.TwoRoles.{added}
 use Rattle.drat_proof.specs.Conversion.{HasVerdict, HasWritten}
 use Rattle.drat_proof.specs.declared.error.ConvertError.TheVariants.{OutOfMemory}
@@ -22,7 +24,7 @@ pub returns-in_err-judge-clause-written : goal.returns-in_err-judge-clause-writt
 returns-in_err-judge-clause-written g c =
     let is : c.from_residual.result ≡ Err OutOfMemory = first_of (search rules, cc) in
     λ told. Decides-none (g.H.Host.channel c.args.host.now ProofIn) _ (λ more. none_written c.from_residual.result
-    (g.H.Host.channel c.args.host.now ProofOut) (drat_steps c.args.formula.now.clauses more) is)
+    (g.H.Host.channel c.args.host.now ProofOut) (named_drat_steps c.args.fresh c.args.formula.now more) is)
 
 pub returns-clause-decides : goal.returns-clause-decides
 returns-clause-decides g c =
@@ -33,12 +35,25 @@ returns-clause-decides g c =
     λ told. Decides-map _ (c.convert_steps.ensures.converts.decides told) (λ bytes more answers. subst
     (λ (verdict : Option Verdict). HasVerdict c.convert_steps.result verdict) (whole bytes) answers)
 
+-- the steps of the whole text, by the names at first
+by_first_names : (fresh : Bool) (formula : Formula) (bytes : List ℕ)
+    → named_by (names_at_first fresh formula.vars) (drat_steps formula.clauses bytes) ≡ named_drat_steps fresh formula bytes
+by_first_names false formula bytes = refl
+by_first_names true formula bytes = refl
+
 pub returns-clause-written : goal.returns-clause-written
 returns-clause-written g c =
-    let whole : (bytes : List ℕ) → drat_of c.in_ok-judge.judge (steps_ahead c.new-reader.result bytes)
-    ≡ drat_steps c.args.formula.now.clauses bytes =
-    λ bytes. ap (drat_of c.in_ok-judge.judge) (c.new-reader.ensures.steps bytes)
-    ∙ ap (λ (s : State). drat_of s (steps max_bytes bytes)) c.in_ok-judge.ensures in
+    let formula : Formula = c.args.formula.now in
+    let names : names_ahead c.new-naming.result ≡ names_at_first c.args.fresh formula.vars =
+    c.new-naming.ensures ∙ ap (names_at_first c.args.fresh) c.vars.ensures in
+    let whole : (bytes : List ℕ) → named_by (names_ahead c.new-naming.result) (drat_of c.in_ok-judge.judge (steps_ahead c.new-reader.result
+    bytes))
+    ≡ named_drat_steps c.args.fresh formula bytes =
+    λ bytes. ap (λ (n : NamesAhead). named_by n (drat_of c.in_ok-judge.judge (steps_ahead c.new-reader.result bytes))) names
+    ∙ ap (λ (l : List DratStep). named_by (names_at_first c.args.fresh formula.vars) l)
+    (ap (drat_of c.in_ok-judge.judge) (c.new-reader.ensures.steps bytes)
+    ∙ ap (λ (s : State). drat_of s (steps max_bytes bytes)) c.in_ok-judge.ensures)
+    ∙ by_first_names c.args.fresh formula bytes in
     λ told. Decides-map _ (c.convert_steps.ensures.converts.written told) (λ bytes more written. subst
     (λ (steps : List DratStep). HasWritten c.convert_steps.result (added (g.H.Host.channel c.args.host.now ProofOut)
     (g.H.Host.channel c.convert_steps.new.host ProofOut)) steps) (whole bytes) written)

@@ -11,6 +11,7 @@ use Rattle.lrat_checker.specs.declared.verdict.Verdict.{Verdict}
 use Rattle.lrat_checker.specs.declared.verdict.Verdict.TheVariants.{Refused}
 use Rattle.lrat_checker.specs.TextVerdict.{end_verdict, error_answer}
 use Rattle.drat_proof.specs.declared.error.ConvertError.{ConvertError}
+use Rattle.drat_proof.specs.Naming.{names_ahead}
 use Rattle.drat_proof.specs.Conversion.{ReadsStep, Takes, ConvertsSteps, converted}
 use Rattle.drat_proof.proofs.Roles.{kept_none, kept_then_first, kept_then_second}
 use Rattle.drat_proof.proofs.Leads.{leads_start, leads_on}
@@ -18,7 +19,7 @@ use Rattle.drat_proof.proofs.Exits.{ends, refuses, stops, fails}
 use Rattle.drat_proof.proofs.text.convert_steps.Goals as goal
 
 pub steps-init : goal.steps-init
-steps-init g c = record { leads = leads_start _ _ _ _ _ c.requires.reading; kept = kept_none _ _ }
+steps-init g c = record { leads = leads_start _ _ _ _ _ _ c.requires.reading; kept = kept_none _ _ }
 
 pub steps-preserved : goal.steps-preserved
 steps-preserved g c =
@@ -31,14 +32,16 @@ steps-preserved g c =
     c.read_step.ensures.reads in
     let took : c.take_step.result ≡ Ok None = cc in
     let takes = subst (λ (r : Result (Option Reason) ConvertError). Takes g.H.Host.tells (g.H.Host.channel c.steps.host ProofOut)
-    (g.H.Host.channel c.take_step.new.host ProofOut) c.steps.judge c.take_step.new.judge c.read_step.new.step r) took
+    (g.H.Host.channel c.take_step.new.host ProofOut) c.steps.judge c.take_step.new.judge (names_ahead c.steps.naming)
+    (names_ahead c.take_step.new.naming) c.read_step.new.step r) took
     (subst (λ (o : Channel). Takes g.H.Host.tells o (g.H.Host.channel c.take_step.new.host ProofOut) c.steps.judge
-    c.take_step.new.judge c.read_step.new.step c.take_step.result) out_same c.take_step.ensures.takes) in
+    c.take_step.new.judge (names_ahead c.steps.naming) (names_ahead c.take_step.new.naming) c.read_step.new.step c.take_step.result)
+    out_same c.take_step.ensures.takes) in
     let gave = subst (λ (a : Result (Option (Step × ℕ)) StepError). Moves a c.steps.reader c.read_step.new.reader) is
     c.read_step.ensures.reads.moves in
     record {
       leads = leads_on c.steps.invariant.leads read c.read_step.new.step c.in-Ok-Some.line is takes.0 takes.1 c.or_adds_empty-has_empty.ensures
-          takes.2 gave;
+          takes.2 takes.3 gave;
       kept = kept_then_second (kept_then_first c.steps.invariant.kept c.read_step.ensures.kept) c.take_step.ensures.kept
           (ap (λ (o : Channel). o.name) out_same ∙ c.steps.invariant.leads.writes.name);
     }
@@ -55,11 +58,14 @@ returns-in-Ok-Some-take_step-clause-converts g c =
     c.read_step.ensures.reads in
     let took : c.take_step.result ≡ Ok (Some c.in-Ok-Some-take_step.reason) = cc in
     let takes = subst (λ (r : Result (Option Reason) ConvertError). Takes g.H.Host.tells (g.H.Host.channel c.steps.host ProofOut)
-    (g.H.Host.channel c.take_step.new.host ProofOut) c.steps.judge c.take_step.new.judge c.read_step.new.step r) took
+    (g.H.Host.channel c.take_step.new.host ProofOut) c.steps.judge c.take_step.new.judge (names_ahead c.steps.naming)
+    (names_ahead c.take_step.new.naming) c.read_step.new.step r) took
     (subst (λ (o : Channel). Takes g.H.Host.tells o (g.H.Host.channel c.take_step.new.host ProofOut) c.steps.judge
-    c.take_step.new.judge c.read_step.new.step c.take_step.result) out_same c.take_step.ensures.takes) in
+    c.take_step.new.judge (names_ahead c.steps.naming) (names_ahead c.take_step.new.naming) c.read_step.new.step c.take_step.result)
+    out_same c.take_step.ensures.takes) in
     subst (λ (o : Channel). ConvertsSteps g.H.Host.tells (g.H.Host.channel c.args.host.now ProofIn)
-    (g.H.Host.channel c.take_step.new.host ProofIn) (g.H.Host.channel c.args.host.now ProofOut) o c.args.judge.now c.args.reader.now
+    (g.H.Host.channel c.take_step.new.host ProofIn) (g.H.Host.channel c.args.host.now ProofOut) o c.args.judge.now
+    (names_ahead c.args.naming.now) c.args.reader.now
     (Ok (Refused c.in-Ok-Some.line c.in-Ok-Some-take_step.reason))) (sym takes.1)
     (refuses c.steps.invariant.leads read c.read_step.new.step c.in-Ok-Some.line c.in-Ok-Some-take_step.reason is takes.0)
 
@@ -75,16 +81,20 @@ returns-in-Err-take_step-clause-converts g c =
     c.read_step.ensures.reads in
     let took : c.take_step.result ≡ Err c.in-Err-take_step.error = cc in
     let takes = subst (λ (r : Result (Option Reason) ConvertError). Takes g.H.Host.tells (g.H.Host.channel c.steps.host ProofOut)
-    (g.H.Host.channel c.take_step.new.host ProofOut) c.steps.judge c.take_step.new.judge c.read_step.new.step r) took
+    (g.H.Host.channel c.take_step.new.host ProofOut) c.steps.judge c.take_step.new.judge (names_ahead c.steps.naming)
+    (names_ahead c.take_step.new.naming) c.read_step.new.step r) took
     (subst (λ (o : Channel). Takes g.H.Host.tells o (g.H.Host.channel c.take_step.new.host ProofOut) c.steps.judge
-    c.take_step.new.judge c.read_step.new.step c.take_step.result) out_same c.take_step.ensures.takes) in
-    fails c.steps.invariant.leads read c.take_step.new.judge c.read_step.new.step c.in-Ok-Some.line is c.near_law.ensures c.in-Err-take_step.error takes
+    c.take_step.new.judge (names_ahead c.steps.naming) (names_ahead c.take_step.new.naming) c.read_step.new.step c.take_step.result)
+    out_same c.take_step.ensures.takes) in
+    fails c.steps.invariant.leads read c.take_step.new.judge (names_ahead c.take_step.new.naming) c.read_step.new.step
+    c.in-Ok-Some.line is c.near_law.ensures c.in-Err-take_step.error takes
 
 -- at the end of the proof
 pub returns-in-Ok-None-clause-converts : goal.returns-in-Ok-None-clause-converts
 returns-in-Ok-None-clause-converts g c =
     subst (λ (o : Channel). ConvertsSteps g.H.Host.tells (g.H.Host.channel c.args.host.now ProofIn)
-    (g.H.Host.channel c.read_step.new.host ProofIn) (g.H.Host.channel c.args.host.now ProofOut) o c.args.judge.now c.args.reader.now
+    (g.H.Host.channel c.read_step.new.host ProofIn) (g.H.Host.channel c.args.host.now ProofOut) o c.args.judge.now
+    (names_ahead c.args.naming.now) c.args.reader.now
     (Ok c.verdict_at_end.result)) (sym (c.read_step.ensures.kept.others ProofOut refl))
     (ends c.steps.invariant.leads c.read_step.ensures.reads
     (ap (given c.read_step.new.step) c.in-Ok-None.is ∙ ap (λ r. given c.read_step.new.step (Ok r)) c.in-Ok-None.field-0-is) c.verdict_at_end.result
@@ -95,8 +105,9 @@ pub returns-in-Err-clause-converts : goal.returns-in-Err-clause-converts
 returns-in-Err-clause-converts g c =
     subst (λ (r : Result Verdict ConvertError). ConvertsSteps g.H.Host.tells (g.H.Host.channel c.args.host.now ProofIn)
     (g.H.Host.channel c.read_step.new.host ProofIn) (g.H.Host.channel c.args.host.now ProofOut)
-    (g.H.Host.channel c.read_step.new.host ProofOut) c.args.judge.now c.args.reader.now r) (sym c.answer_of.ensures)
+    (g.H.Host.channel c.read_step.new.host ProofOut) c.args.judge.now (names_ahead c.args.naming.now) c.args.reader.now r) (sym c.answer_of.ensures)
     (subst (λ (o : Channel). ConvertsSteps g.H.Host.tells (g.H.Host.channel c.args.host.now ProofIn)
-    (g.H.Host.channel c.read_step.new.host ProofIn) (g.H.Host.channel c.args.host.now ProofOut) o c.args.judge.now c.args.reader.now
+    (g.H.Host.channel c.read_step.new.host ProofIn) (g.H.Host.channel c.args.host.now ProofOut) o c.args.judge.now
+    (names_ahead c.args.naming.now) c.args.reader.now
     (converted (error_answer c.in-Err.error))) (sym (c.read_step.ensures.kept.others ProofOut refl))
     (stops c.steps.invariant.leads c.read_step.ensures.reads c.in-Err.error (ap (given c.read_step.new.step) c.in-Err.is)))

@@ -1,11 +1,12 @@
 -- What is left to show of `trim_law`.
 use Rattle.proof_trim.proofs.Least.{least}
-use Rattle.proof_trim.proofs.Theorems.{all_named, trim-refutes, trim-again}
+use Rattle.proof_trim.proofs.Theorems.{all_named, core-refutes, core-unsatisfiable, trim-again, trim-refutes}
 use Rattle.proof_trim.proofs.laws.trim_law.Goals as goal
 
 pub returns-clause-refutes : goal.returns-clause-refutes
-returns-clause-refutes c = trim-refutes c.start_law.ensures.none_above c.step_range_law.ensures.printable c.whole_text_law.ensures
-    c.steps_text_law.ensures.lines c.steps_text_law.ensures.refutes c.check_law.ensures.long
+returns-clause-refutes c = trim-refutes c.start_law.ensures.none_at_zero c.start_law.ensures.none_above
+    c.step_range_law.ensures.printable c.whole_text_law.ensures c.steps_text_law.ensures.lines c.steps_text_law.ensures.refutes
+    c.check_law.ensures.long
 
 pub returns-clause-named : goal.returns-clause-named
 returns-clause-named c = all_named
@@ -15,9 +16,23 @@ returns-clause-least c = least
 
 pub returns-clause-verified : goal.returns-clause-verified
 returns-clause-verified c = λ clauses bytes verified short. c.check_law.ensures.refutes clauses _ short
-    (trim-refutes c.start_law.ensures.none_above c.step_range_law.ensures.printable c.whole_text_law.ensures
-    c.steps_text_law.ensures.lines c.steps_text_law.ensures.refutes c.check_law.ensures.long clauses bytes verified)
+    (trim-refutes c.start_law.ensures.none_at_zero c.start_law.ensures.none_above c.step_range_law.ensures.printable
+    c.whole_text_law.ensures c.steps_text_law.ensures.lines c.steps_text_law.ensures.refutes c.check_law.ensures.long clauses bytes
+    verified)
 
 pub returns-clause-again : goal.returns-clause-again
-returns-clause-again c = trim-again c.start_law.ensures.none_above c.step_range_law.ensures.printable c.whole_text_law.ensures
-    c.steps_text_law.ensures.lines c.steps_text_law.ensures.refutes c.check_law.ensures.long
+returns-clause-again c = trim-again c.start_law.ensures.none_at_zero c.start_law.ensures.none_above
+    c.step_range_law.ensures.printable c.whole_text_law.ensures c.steps_text_law.ensures.lines c.steps_text_law.ensures.refutes
+    c.check_law.ensures.long
+
+pub returns-clause-core_refuted : goal.returns-clause-core_refuted
+returns-clause-core_refuted c = core-refutes c.start_law.ensures.none_at_zero c.start_law.ensures.none_above
+    c.step_range_law.ensures.printable c.whole_text_law.ensures c.steps_text_law.ensures.lines c.steps_text_law.ensures.refutes
+    c.check_law.ensures.long
+
+pub returns-clause-core_unsatisfiable : goal.returns-clause-core_unsatisfiable
+returns-clause-core_unsatisfiable c = λ vars clauses bytes literals verified.
+    core-unsatisfiable c.start_law.ensures.none_at_zero c.start_law.ensures.none_above c.step_range_law.ensures.printable
+    c.whole_text_law.ensures c.steps_text_law.ensures.lines c.steps_text_law.ensures.refutes c.check_law.ensures.long clauses bytes verified
+    (c.start_law.ensures.clauses clauses) c.soundness_law.ensures.addition c.soundness_law.ensures.deletion
+    c.soundness_law.ensures.nonzero_step c.soundness_law.ensures.nonzero_text (c.soundness_law.ensures.nonzero_start vars clauses literals)

@@ -11,7 +11,7 @@ use Rattle.proof_trim.proofs.lines.write_lines.Given as goal
 abbrev pub invariant-numbers : goal.invariant-numbers
 invariant-numbers g l = record {
   spells : Spells g.S.Sink.tells (g.S.Sink.channel l.fn.sink) (g.S.Sink.channel l.sink) l.held.items
-      (is_there l.count (has l.numbers)) l.place l.row (text_from (is_there l.count (has l.numbers)) Between l.fn.row);
+      (text_from (is_there l.count (has l.numbers)) l.place l.row) (text_from (is_there l.count (has l.numbers)) Between l.fn.row);
   beside : g.S.Sink.beside l.sink ≡ g.S.Sink.beside l.fn.sink;
 }
 

@@ -8,13 +8,14 @@ use Rattle.lrat_checker.specs.declared.verdict.CheckError.TheVariants.{ReadFault
 use Rattle.lrat_checker.specs.TextVerdict.{max_bytes, text_verdict}
 use Rattle.proof_trim.specs.Trimmed.{additions_of_text, cut_steps, trimmed}
 use Rattle.proof_trim.specs.Answer.{AnswersBy}
+use Rattle.proof_trim.specs.Core.{core}
 use Rattle.proof_trim.proofs.Answered.{decided_with, trims_error, trims_by, no_fault}
 use Rattle.proof_trim.proofs.text.trim.Goals as goal
 
 pub returns-clause-decides : goal.returns-clause-decides
 returns-clause-decides g c = λ told. Decides-map _ (c.in-Err.ensures.decides told)
     (λ bytes more answers. trims_error c.in-Err.error (text_verdict c.args.formula.now.clauses bytes)
-    (trimmed c.args.formula.now.clauses bytes) (additions_of_text bytes) answers)
+    (trimmed c.args.formula.now.clauses bytes) (core c.args.formula.now.clauses bytes) (additions_of_text bytes) answers)
 
 pub returns-clause-undecided : goal.returns-clause-undecided
 returns-clause-undecided g c = λ told is. let same : c.in-Err.error ≡ ReadFault = cc in c.in-Err.ensures.undecided told (ap Err same)

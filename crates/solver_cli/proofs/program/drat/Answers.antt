@@ -1,13 +1,13 @@
 -- What is left to show of `drat`.
 use Rattle.std.proofs.Common.{refl}
 use Rattle.host_io.specs.declared.role.Role.TheVariants.{Out}
-use Rattle.command_line.specs.Reading.{rewrite_of}
+use Rattle.command_line.specs.Reading.{convert_of}
 use Rattle.solver_cli.proofs.StagedConversion.{converted, error_converted, error_unconverted, files_converted, files_unconverted, unconverted}
 use Rattle.solver_cli.proofs.program.drat.Goals as goal
 
 pub returns-in-Err-rewrite-clause-came : goal.returns-in-Err-rewrite-clause-came
 returns-in-Err-rewrite-clause-came g c =
-    unconverted {task = rewrite_of c.args.asked.now} (g.H.Host.channel c.args.host.now) (g.H.Host.channel c.take_formula.new.host)
+    unconverted {task = convert_of c.args.asked.now} (g.H.Host.channel c.args.host.now) (g.H.Host.channel c.take_formula.new.host)
     (g.H.Host.channel c.rewrite.new.host) (g.H.Host.files c.args.host.now) (g.H.Host.files c.take_formula.new.host)
     (g.H.Host.files c.rewrite.new.host) c.in-Ok.ensures.takes c.in-Ok.ensures.kept c.in-Err-rewrite.ensures.rewrites c.rewrite.ensures.kept
     c.from-in-Err-rewrite.ensures
@@ -20,7 +20,7 @@ returns-in-Err-rewrite-clause-files g c = files_unconverted c.in-Ok.ensures.kept
 
 pub returns-in-Ok-put_verdict-clause-came : goal.returns-in-Ok-put_verdict-clause-came
 returns-in-Ok-put_verdict-clause-came g c =
-    converted {task = rewrite_of c.args.asked.now} (g.H.Host.channel c.args.host.now) (g.H.Host.channel c.take_formula.new.host)
+    converted {task = convert_of c.args.asked.now} (g.H.Host.channel c.args.host.now) (g.H.Host.channel c.take_formula.new.host)
     (g.H.Host.channel c.rewrite.new.host) (g.H.Host.channel c.put_verdict.new.host) (g.H.Host.files c.args.host.now)
     (g.H.Host.files c.take_formula.new.host) (g.H.Host.files c.rewrite.new.host) (g.H.Host.files c.put_verdict.new.host)
     c.in-Ok.ensures.takes c.in-Ok.ensures.kept c.in-Ok-rewrite.ensures.rewrites c.rewrite.ensures.kept c.in-Ok-put_verdict.ensures.puts
@@ -35,7 +35,7 @@ returns-in-Ok-put_verdict-clause-files g c =
 
 pub returns-clause-came : goal.returns-clause-came
 returns-clause-came g c =
-    converted {task = rewrite_of c.args.asked.now} (g.H.Host.channel c.args.host.now) (g.H.Host.channel c.take_formula.new.host)
+    converted {task = convert_of c.args.asked.now} (g.H.Host.channel c.args.host.now) (g.H.Host.channel c.take_formula.new.host)
     (g.H.Host.channel c.rewrite.new.host) (g.H.Host.channel c.put_verdict.new.host) (g.H.Host.files c.args.host.now)
     (g.H.Host.files c.take_formula.new.host) (g.H.Host.files c.rewrite.new.host) (g.H.Host.files c.put_verdict.new.host)
     c.in-Ok.ensures.takes c.in-Ok.ensures.kept c.in-Ok-rewrite.ensures.rewrites c.rewrite.ensures.kept c.in-Err-put_verdict.ensures.puts

@@ -23,6 +23,8 @@ returns g c = record {
         named = c.trim_law.ensures.named;
         verified = c.trim_law.ensures.verified;
         again = c.trim_law.ensures.again;
+        core_refuted = c.trim_law.ensures.core_refuted;
+        core_unsatisfiable = c.trim_law.ensures.core_unsatisfiable;
       }))
       _ (g.H.Host.channel c.work-status.new.host) (g.H.Host.files c.work-status.new.host) c.requires.unnamed
       c.work-status.ensures.stages c.work-status.ensures.told c.work-status.ensures.files c.complain.ensures.complains

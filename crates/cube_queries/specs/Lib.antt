@@ -1,0 +1,4 @@
+pub mod Answers
+pub mod Width
+pub mod Steps
+pub mod Ends

@@ -1,0 +1,86 @@
+// A session: the formula's term, then the cubes in turn, between which it is the only root.
+ghost use Rattle.std.specs.Prelude.{◌≡◌, [], IsTrue};
+ghost use Rattle.cnf_base.specs.Truth.{AreClausesOf, Assignment};
+ghost use Rattle.cube_text.specs.CubeText.{AreCubes};
+ghost use Rattle.node_table.specs.Diagram.{levels};
+ghost use Rattle.node_table.specs.Progress.{error_of};
+ghost use Rattle.term_runner.specs.Runner.{IsListed, IsRunner, holds_in};
+ghost use Rattle.cube_queries.specs.Steps.{CostsAll, CostsCubes, GivesBack, RepliesAll, formula_holds};
+
+use crate::answer::Answers;
+use crate::formula_term::term_of_formula;
+use crate::steps::{give_back, reply};
+use cnf_base::Cnf;
+use cube_text::Cubes;
+use host_io::Sink;
+use node_table::{TableError, growth_law, steps_law};
+use std::alloc::Global;
+use term_runner::{Runner, Term};
+
+// With fewer nodes than these none are given back between two cubes.
+const RECLAIM_FROM: u32 = 1000;
+
+/// Answers all cubes.
+pub(crate) fn reply_all<S: Sink + Drop>(
+    alloc: Global,
+    runner: &mut Runner<'_, S>,
+    formula: &Cnf,
+    cubes: &Cubes,
+) -> Result<Answers, TableError>
+    requires runner { IsRunner runner.old }
+    requires formula { runner.old.formula.now ≡ formula.now }
+    requires none_out { runner.old.terms.out.items ≡ [] }
+    requires cubes { AreCubes (levels runner.old.terms.table.graph) cubes.now }
+    ensures replies { RepliesAll cubes.now runner.old runner.new result }
+    ensures costs { CostsAll cubes.now runner.old runner.new (error_of result) }
+    ensures none_out { IsTrue runner.new.terms.table.book.in_step → runner.new.terms.out.items ≡ [] }
+{
+    steps_law::<S>();
+    formula.formula_law();
+    let term = term_of_formula(runner, formula)?;
+    let answers = reply_each(alloc, runner, &term, cubes);
+    runner.release(term);
+    answers
+}
+
+// Answers the cubes, beside the formula's term.
+fn reply_each<S: Sink + Drop>(
+    alloc: Global,
+    runner: &mut Runner<'_, S>,
+    term: &Term,
+    cubes: &Cubes,
+) -> Result<Answers, TableError>
+    requires runner { IsRunner runner.old }
+    requires alone { IsListed [] runner.old.terms.out.items term.now.held }
+    requires value { (a : Assignment) → holds_in runner.old term.now.held a ≡ formula_holds runner.old.formula.now a }
+    requires literals { AreClausesOf runner.old.formula.now.vars runner.old.formula.now.clauses }
+    requires cubes { AreCubes (levels runner.old.terms.table.graph) cubes.now }
+    ensures replies { RepliesAll cubes.now runner.old runner.new result }
+    ensures costs { CostsCubes cubes.now runner.old runner.new (error_of result) }
+    ensures out { runner.new.terms.out.items ≡ runner.old.terms.out.items }
+{
+    steps_law::<S>();
+    let mut answers = Answers::new(alloc);
+    let mut left = 0;
+    'cubes: for place in 0..cubes.len() {
+        let answer = reply(runner, term, cubes.cube(place + 1))?;
+        answers.push(answer)?;
+        left = tidied(runner, left)?;
+    }
+    Ok(answers)
+}
+
+// Gives nodes back where there are many, and answers how many the last reclamation left.
+fn tidied<S: Sink + Drop>(runner: &mut Runner<'_, S>, left: u32) -> Result<u32, TableError>
+    requires { IsRunner runner.old }
+    ensures { GivesBack runner.old runner.new result }
+{
+    growth_law();
+    steps_law::<S>();
+    let live = runner.live();
+    if live < RECLAIM_FROM || live / 2 < left {
+        return Ok(left);
+    }
+    give_back(runner)?;
+    Ok(runner.live())
+}

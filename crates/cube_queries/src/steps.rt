@@ -1,0 +1,210 @@
+// Steps of a session. One that meets the limit of nodes is tried once more behind a reclamation.
+ghost use Rattle.std.specs.Prelude.{◌≡◌, ◌≤◌, ◌&&◌, ◌↔◌, ◌∷◌, Bool, [], List, Ok, Err, IsTrue, OnOk, length};
+ghost use Rattle.std.specs.List.{list_all};
+ghost use Rattle.cnf_base.specs.Cube.{is_consistent};
+ghost use Rattle.cnf_base.specs.Truth.{AreClausesOf, Assignment, is_literal_of};
+ghost use Rattle.node_table.specs.declared.error.TableError.TheVariants.{NodeLimit};
+ghost use Rattle.node_table.specs.Diagram.{levels};
+ghost use Rattle.node_table.specs.Progress.{error_of};
+ghost use Rattle.clause_terms.specs.CubeDiagram.{cube_function};
+ghost use Rattle.schedule_plan.specs.Plan.{input as input_term, term_holds};
+ghost use Rattle.term_runner.specs.declared.held.HeldTerm.{HeldTerm as HeldValue};
+ghost use Rattle.term_runner.specs.Asked.{with_cube};
+ghost use Rattle.term_runner.specs.Runner.{IsGood, IsListed, IsRunner, holds_in, nodes_of};
+ghost use Rattle.term_runner.specs.Tidy.{LeavesReached};
+ghost use Rattle.cube_queries.specs.Steps.{Costs, GivesBack, IsTryFor, Replies, Takes, TakesAlone, TakesOver, clause_in, formula_holds};
+ghost use Rattle.cube_queries.specs.Steps.{function_in, functions_out, functions_with};
+ghost use Rattle.cube_queries.specs.Width.{functions_at};
+
+use crate::answer::Answer;
+use clause_terms::Model;
+use cnf_base::Lit;
+use host_io::Sink;
+use node_table::{TableError, growth_law, steps_law};
+use term_runner::{Runner, Term, counting_law};
+
+/// The term of the clause of this number.
+pub(crate) fn term_of<S: Sink + Drop>(
+    runner: &mut Runner<'_, S>,
+    number: u32,
+) -> Result<Term, TableError>
+    requires runner { IsRunner runner.old }
+    requires from_one { 1 ≤ number }
+    requires to_len { number ≤ length runner.old.formula.now.clauses }
+    ensures takes { Takes (λ a. term_holds runner.old.formula.now a (input_term number)) runner.old runner.new result }
+    ensures costs { Costs 1 (clause_in runner.old number ∷ functions_out runner.old) runner.old runner.new (error_of result) }
+{
+    counting_law::<S>();
+    growth_law();
+    steps_law::<S>();
+    let found = runner.term(number);
+    if !met_limit(&found) {
+        return found;
+    }
+    give_back(runner)?;
+    runner.term(number)
+}
+
+// The term that holds where both do. They stay.
+fn both_of<S: Sink + Drop>(
+    runner: &mut Runner<'_, S>,
+    u: &Term,
+    v: &Term,
+) -> Result<Term, TableError>
+    requires runner { IsRunner runner.old }
+    requires first { IsGood runner.old u.now.held }
+    requires second { IsGood runner.old v.now.held }
+    ensures takes { Takes (λ a. holds_in runner.old u.now.held a && holds_in runner.old v.now.held a) runner.old runner.new result }
+    ensures costs { Costs 1 ((λ a. function_in runner.old u.now.held a && function_in runner.old v.now.held a) ∷ functions_out runner.old)
+        runner.old runner.new (error_of result) }
+{
+    counting_law::<S>();
+    growth_law();
+    steps_law::<S>();
+    let found = runner.meet(u, v);
+    if !met_limit(&found) {
+        return found;
+    }
+    give_back(runner)?;
+    runner.meet(u, v)
+}
+
+/// The conjunction of the one term that is out, which is released, and the clause of this number.
+pub(crate) fn with_clause<S: Sink + Drop>(
+    runner: &mut Runner<'_, S>,
+    term: Term,
+    number: u32,
+) -> Result<Term, TableError>
+    requires runner { IsRunner runner.old }
+    requires alone { IsListed [] runner.old.terms.out.items term.held }
+    requires from_one { 1 ≤ number }
+    requires to_len { number ≤ length runner.old.formula.now.clauses }
+    ensures takes { TakesAlone (λ a. holds_in runner.old term.held a && term_holds runner.old.formula.now a (input_term number))
+        runner.old runner.new result }
+    ensures costs { Costs 2 (functions_with runner.old term.held number) runner.old runner.new (error_of result) }
+{
+    steps_law::<S>();
+    let both = with_term(runner, &term, number);
+    runner.release(term);
+    both
+}
+
+// The conjunction of a term, which alone is out and stays, and the clause of this number.
+fn with_term<S: Sink + Drop>(
+    runner: &mut Runner<'_, S>,
+    term: &Term,
+    number: u32,
+) -> Result<Term, TableError>
+    requires runner { IsRunner runner.old }
+    requires alone { IsListed [] runner.old.terms.out.items term.now.held }
+    requires from_one { 1 ≤ number }
+    requires to_len { number ≤ length runner.old.formula.now.clauses }
+    ensures takes { TakesOver runner.old.terms.out.items (λ a. holds_in runner.old term.now.held a
+        && term_holds runner.old.formula.now a (input_term number)) runner.old runner.new result }
+    ensures costs { Costs 2 (functions_with runner.old term.now.held number) runner.old runner.new (error_of result) }
+{
+    counting_law::<S>();
+    steps_law::<S>();
+    let clause = term_of(runner, number)?;
+    both_into(runner, term, clause)
+}
+
+// The term that holds where both do, of which the second one is released.
+fn both_into<S: Sink + Drop>(
+    runner: &mut Runner<'_, S>,
+    u: &Term,
+    v: Term,
+) -> Result<Term, TableError>
+    requires runner { IsRunner runner.old }
+    requires first { IsGood runner.old u.now.held }
+    requires second { IsGood runner.old v.held }
+    ensures takes { (own : List HeldValue) → IsListed [] own u.now.held → IsListed own runner.old.terms.out.items v.held
+        → TakesOver own (λ a. holds_in runner.old u.now.held a && holds_in runner.old v.held a) runner.old runner.new result }
+    ensures costs { Costs 1 ((λ a. function_in runner.old u.now.held a && function_in runner.old v.held a) ∷ functions_out runner.old)
+        runner.old runner.new (error_of result) }
+{
+    steps_law::<S>();
+    let both = both_of(runner, u, &v);
+    runner.release(v);
+    both
+}
+
+/// What is answered of a cube, beside the one term that is out.
+pub(crate) fn reply<S: Sink + Drop>(
+    runner: &mut Runner<'_, S>,
+    term: &Term,
+    cube: &[Lit],
+) -> Result<Answer, TableError>
+    requires runner { IsRunner runner.old }
+    requires alone { IsListed [] runner.old.terms.out.items term.now.held }
+    requires value { (a : Assignment) → holds_in runner.old term.now.held a ≡ formula_holds runner.old.formula.now a }
+    requires literals { AreClausesOf runner.old.formula.now.vars runner.old.formula.now.clauses }
+    requires variables { IsTrue (list_all (is_literal_of (levels runner.old.terms.table.graph)) cube.now) }
+    requires consistent { IsTrue (is_consistent cube.now) }
+    ensures replies { Replies cube.now runner.old runner.new result }
+    ensures costs { Costs 1 (functions_at runner.old.formula.now runner.old.terms.table.graph.order cube.now) runner.old runner.new
+        (error_of result) }
+{
+    counting_law::<S>();
+    growth_law();
+    steps_law::<S>();
+    let found = reply_once(runner, term, cube);
+    if !is_at_limit(&found) {
+        return found;
+    }
+    give_back(runner)?;
+    reply_once(runner, term, cube)
+}
+
+// One try of it.
+fn reply_once<S: Sink + Drop>(
+    runner: &mut Runner<'_, S>,
+    term: &Term,
+    cube: &[Lit],
+) -> Result<Answer, TableError>
+    requires runner { IsRunner runner.old }
+    requires good { IsGood runner.old term.now.held }
+    requires value { (a : Assignment) → holds_in runner.old term.now.held a ≡ formula_holds runner.old.formula.now a }
+    requires literals { AreClausesOf runner.old.formula.now.vars runner.old.formula.now.clauses }
+    requires variables { IsTrue (list_all (is_literal_of (levels runner.old.terms.table.graph)) cube.now) }
+    requires consistent { IsTrue (is_consistent cube.now) }
+    ensures replies { Replies cube.now runner.old runner.new result }
+    ensures tries { IsTryFor (cube_function runner.old.terms.table.graph.order cube.now
+        ∷ with_cube runner.old.terms.table.graph term.now.held.node cube.now ∷ []) runner.old runner.new (error_of result) }
+{
+    growth_law();
+    steps_law::<S>();
+    match runner.cube(term, cube)? {
+        None => Ok(Answer::Unsat),
+        Some(model) => Ok(Answer::Sat(model)),
+    }
+}
+
+/// Gives nodes back that no term reaches.
+pub(crate) fn give_back<S: Sink + Drop>(runner: &mut Runner<'_, S>) -> Result<u32, TableError>
+    requires { IsRunner runner.old }
+    ensures back { GivesBack runner.old runner.new result }
+    ensures reached { OnOk result (LeavesReached runner.old.terms.table.graph runner.new.terms.table.graph
+        (nodes_of runner.old.terms.out.items)) }
+{
+    runner.reclaim()
+}
+
+// Whether a try met the limit of nodes.
+fn met_limit(found: &Result<Term, TableError>) -> bool
+    ensures { IsTrue result ↔ (found.now ≡ Err NodeLimit) }
+{
+    match found {
+        Err(TableError::NodeLimit) => true,
+        _ => false,
+    }
+}
+
+fn is_at_limit(found: &Result<Answer, TableError>) -> bool
+    ensures { IsTrue result ↔ (found.now ≡ Err NodeLimit) }
+{
+    match found {
+        Err(TableError::NodeLimit) => true,
+        _ => false,
+    }
+}

@@ -1,0 +1,6 @@
+pub mod Renamed
+pub mod Given
+pub mod Literals
+pub mod Counted
+pub mod Followed
+pub mod Refuted

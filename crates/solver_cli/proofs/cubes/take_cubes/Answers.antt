@@ -1,0 +1,10 @@
+-- What is left to show of `take_cubes`.
+use Rattle.std.proofs.Common.{rules, refl}
+use Rattle.solver_cli.proofs.Reading.{unopened, taken}
+use Rattle.solver_cli.proofs.cubes.take_cubes.Goals as goal
+
+pub returns-then-is_err-clause-takes : goal.returns-then-is_err-clause-takes
+returns-then-is_err-clause-takes g c = unopened refl (λ e. cc) c.open_read.ensures.opens (search rules)
+
+pub returns-clause-takes : goal.returns-clause-takes
+returns-clause-takes g c = taken c.open_read.ensures.opens (search rules) (λ t. search rules) c.read_opened.ensures.reads
