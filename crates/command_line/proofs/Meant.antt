@@ -20,7 +20,7 @@ use Rattle.dimacs_reader.specs.declared.mode.Mode.{Mode}
 use Rattle.schedule_plan.specs.declared.limits.Limits.{Limits}
 use Rattle.command_line.specs.Parser.{the_app}
 use Rattle.command_line.specs.Command.{Command, Meaning, Asks, AsksHelp, Misuse, IsOneOf, MayMean, Planned, bench_means, check_means, command}
-use Rattle.command_line.specs.Command.{any_order_among, rewrite_among, format_given}
+use Rattle.command_line.specs.Command.{any_order_among, parity_among, planned_with, rewrite_among, format_given}
 use Rattle.command_line.specs.Command.{is_set, limits_among, make_means, means, meanings, method_named, mode_given, names_among}
 use Rattle.command_line.specs.Command.{only_command, order_means, part_named, plan_among, plan_given, progress_among, refusal_means}
 use Rattle.command_line.specs.Command.{ask_means, both, names_differ, same_name, size_among, to_ask}
@@ -92,16 +92,18 @@ pub ap₃ : {A B C D : Type 0} (f : A → B → C → D) {a d : A} {b e : B} {c 
 ap₃ f p q r = λ i. f (p i) (q i) (r i)
 
 pub solve_values : (values : ArgMatches) (names : Option (Text × Text)) (mode : Mode) (lax order : Option Text) (plan : Option Planned)
-    (limits : Option Limits) (progress : Bool)
+    (limits : Option Limits) (progress parity : Bool)
     → names_among (rows_of (found_of values)) ≡ names → mode ≡ mode_given lax → lax ≡ first_value (found_of values) (codes "lax") → order
     ≡ first_value (found_of values) (codes "order") → plan ≡ plan_among (rows_of (found_of values)) → limits
     ≡ limits_among (rows_of (found_of values)) → progress ≡ progress_among (rows_of (found_of values))
-    → solve_means (rows_of (found_of values)) ≡ to_solve names mode order plan limits progress
-solve_values values names mode lax order plan limits progress names_are mode_is lax_is order_is plan_is limits_are progress_is =
-    let read : solve_means (rows_of (found_of values)) ≡ to_solve names (mode_given lax) order plan limits progress = λ i.
+    → parity ≡ parity_among (rows_of (found_of values))
+    → solve_means (rows_of (found_of values)) ≡ to_solve names mode order plan limits progress parity
+solve_values values names mode lax order plan limits progress parity names_are mode_is lax_is order_is plan_is limits_are progress_is
+    parity_is =
+    let read : solve_means (rows_of (found_of values)) ≡ to_solve names (mode_given lax) order plan limits progress parity = λ i.
     to_solve (names_are i) (mode_given (of_row values (codes "lax") lax lax_is i)) (of_row values (codes "order") order order_is i)
-    (sym plan_is i) (sym limits_are i) (sym progress_is i) in
-    read ∙ ap (λ (m : Mode). to_solve names m order plan limits progress) (sym mode_is)
+    (sym plan_is i) (sym limits_are i) (sym progress_is i) (sym parity_is i) in
+    read ∙ ap (λ (m : Mode). to_solve names m order plan limits progress parity) (sym mode_is)
 
 pub names_values : (values : ArgMatches) (file proof order schedule buckets : Option Text)
     → file ≡ first_value (found_of values) (codes "FILE") → proof ≡ first_value (found_of values) (codes "proof") → order
@@ -114,14 +116,15 @@ names_values values file proof order schedule buckets file_is proof_is order_is 
     ∷ of_row values (codes "buckets") buckets buckets_is i
     ∷ [])
 
-pub plan_values : (values : ArgMatches) (name schedule buckets search_text : Option Text)
+pub plan_values : (values : ArgMatches) (name schedule buckets search_text : Option Text) (parity : Bool)
     → name ≡ first_value (found_of values) (codes "plan") → schedule ≡ first_value (found_of values) (codes "schedule") → buckets
     ≡ first_value (found_of values) (codes "buckets")
-    → search_text ≡ first_value (found_of values) (codes "search")
-    → plan_among (rows_of (found_of values)) ≡ plan_given name schedule buckets (is_set search_text)
-plan_values values name schedule buckets search_text name_is schedule_is buckets_is search_is = λ i.
-    plan_given (of_row values (codes "plan") name name_is i) (of_row values (codes "schedule") schedule schedule_is i)
-    (of_row values (codes "buckets") buckets buckets_is i) (is_set (of_row values (codes "search") search_text search_is i))
+    → search_text ≡ first_value (found_of values) (codes "search") → parity ≡ parity_among (rows_of (found_of values))
+    → plan_among (rows_of (found_of values))
+    ≡ option_and_then (planned_with parity) (plan_given name schedule buckets (is_set search_text))
+plan_values values name schedule buckets search_text parity name_is schedule_is buckets_is search_is parity_is = λ i.
+    option_and_then (planned_with (sym parity_is i)) (plan_given (of_row values (codes "plan") name name_is i) (of_row values (codes "schedule") schedule schedule_is i)
+    (of_row values (codes "buckets") buckets buckets_is i) (is_set (of_row values (codes "search") search_text search_is i)))
 
 -- files that aren't named change nothing
 two_alone : (file other : Option Text) → two_names file other [] ≡ two_names file other (None ∷ None ∷ None ∷ [])

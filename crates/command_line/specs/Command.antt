@@ -16,6 +16,8 @@ use Rattle.schedule_plan.specs.Limits.{most_ids}
 use Rattle.schedule_plan.specs.declared.limits.Limits.{Limits}
 use Rattle.command_line.specs.declared.format.ProofFormat.{ProofFormat}
 use Rattle.command_line.specs.declared.format.ProofFormat.TheVariants.{Lrat, Drat, DratBySet}
+use Rattle.command_line.specs.declared.conversion.Conversion.{Conversion}
+use Rattle.command_line.specs.declared.conversion.Conversion.TheVariants.{IntoDrat, IntoLrat}
 use Rattle.command_line.specs.declared.method.OrderMethod.{OrderMethod}
 use Rattle.command_line.specs.declared.method.OrderMethod.TheVariants.{Degree, Cardinality, Levels, Profile}
 use Rattle.command_line.specs.declared.plan.PlanName.{PlanName}
@@ -33,13 +35,14 @@ pub data Planned : Type 0 where
   Found : Planned
 
 -- to decide the formula in a file, read in a mode, by a plan and within limits, and to write the proof to another one; the order of its
--- variables stands in the file of that name, if one is named; and maybe to tell of the progress
+-- variables stands in the file of that name, if one is named; and maybe to add up its parity equations first, and to tell of the progress
 pub record ToSolve : Type 0 where
   pub file : Text
   pub proof : Text
   pub mode : Mode
   pub order : Option Text
   pub plan : Planned
+  pub parity : Bool
   pub limits : Limits
   pub progress : Bool
 
@@ -51,7 +54,7 @@ pub record ToCheck : Type 0 where
   pub mode : Mode
   pub progress : Bool
 
--- to judge the LRAT proof in a file over the formula in another one, read in a mode, and to write what it becomes to a third one
+-- to judge the proof in a file over the formula in another one, read in a mode, and to write what it becomes to a third one
 pub record ToRewrite : Type 0 where
   pub file : Text
   pub proof : Text
@@ -66,13 +69,13 @@ pub record ToTrim : Type 0 where
   pub out : Text
   pub core : Option Text
 
--- so for a DRAT proof, in which extension variables may have fresh names
+-- so for a proof in the other format, LRAT or DRAT
 pub record ToConvert : Type 0 where
   pub file : Text
   pub proof : Text
   pub mode : Mode
   pub out : Text
-  pub fresh : Bool
+  pub into : Conversion
 
 -- to write an order of the variables of the formula in a file, read in a mode, found by a method, to another file
 pub record ToOrder : Type 0 where
@@ -137,6 +140,11 @@ mode_of (Ask task) = task.mode
 mode_of (Convert task) = task.mode
 mode_of (Trim task) = task.mode
 
+-- the format of the proof that a conversion reads
+abbrev pub format_before : Conversion → ProofFormat
+format_before (IntoDrat fresh) = Lrat
+format_before (IntoLrat any_order) = if any_order then DratBySet else Drat
+
 -- the format of the proof that is judged, where one is
 abbrev pub format_of : Command → ProofFormat
 format_of (Solve task) = Lrat
@@ -145,7 +153,7 @@ format_of (Bench task) = Lrat
 format_of (Make task) = Lrat
 format_of (Arrange task) = Lrat
 format_of (Ask task) = Lrat
-format_of (Convert task) = Lrat
+format_of (Convert task) = format_before task.into
 format_of (Trim task) = Lrat
 
 -- the limits where the words give none
@@ -173,6 +181,17 @@ is_told (Arrange task) = false
 is_told (Ask task) = false
 is_told (Convert task) = false
 is_told (Trim task) = false
+
+-- a command is to add up the formula's parity equations first
+abbrev pub adds_equations : Command → Bool
+adds_equations (Solve task) = task.parity
+adds_equations (Check task) = false
+adds_equations (Bench task) = false
+adds_equations (Make task) = false
+adds_equations (Arrange task) = false
+adds_equations (Ask task) = false
+adds_equations (Convert task) = false
+adds_equations (Trim task) = false
 
 -- the sizes of boards
 abbrev pub IsSize : ℕ → Type 0
@@ -260,6 +279,13 @@ plan_given None None (Some file) false = Some (ByBuckets file)
 plan_given None None None true = Some Found
 plan_given _ _ _ _ = None
 
+-- parity equations are not added up before a plan that trials find
+abbrev pub planned_with : Bool → Planned → Option Planned
+planned_with parity (ByName name) = Some (ByName name)
+planned_with parity (ByFile file) = Some (ByFile file)
+planned_with parity (ByBuckets file) = Some (ByBuckets file)
+planned_with parity Found = if parity then None else Some Found
+
 -- the format of this name, if it is one, and the one that the options `--format` and `--any-order` give
 abbrev pub format_named : Text → Option ProofFormat
 format_named name = if bytes_eq name (codes "lrat") then Some Lrat else if bytes_eq name (codes "drat") then Some Drat else None
@@ -304,18 +330,20 @@ part_named name =
     if bytes_eq name (codes "cnf") then Some Cnf else if bytes_eq name (codes "order") then Some Order else if bytes_eq name
     (codes "schedule") then Some Schedule else if bytes_eq name (codes "sets") then Some Sets else None
 
--- two files, a mode, an order, what gives the plan, limits to solve within, and whether progress is told
-abbrev pub to_solve : Option (Text × Text) → Mode → Option Text → Option Planned → Option Limits → Bool → Meaning
-to_solve (Some names) mode order (Some plan) (Some limits) progress = Asks (Solve (record {
+-- two files, a mode, an order, what gives the plan, limits to solve within, whether progress is told, and whether parity equations are added
+-- up
+abbrev pub to_solve : Option (Text × Text) → Mode → Option Text → Option Planned → Option Limits → Bool → Bool → Meaning
+to_solve (Some names) mode order (Some plan) (Some limits) progress parity = Asks (Solve (record {
   file = names.0;
   proof = names.1;
   mode = mode;
   order = order;
   plan = plan;
+  parity = parity;
   limits = limits;
   progress = progress;
 }))
-to_solve _ _ _ _ _ _ = Misuse
+to_solve _ _ _ _ _ _ _ = Misuse
 
 -- two files to check, a format, a mode, and whether progress is told
 abbrev pub to_check : Option (Text × Text) → Option ProofFormat → Mode → Bool → Meaning
@@ -360,11 +388,15 @@ to_make _ _ _ = Misuse
 abbrev pub limits_among : List Row → Option Limits
 limits_among rows = limits_given (first_of (codes "max-nodes") rows) (first_of (codes "max-ids") rows) (first_of (codes "cache") rows)
 
+-- whether parity equations are added up, among these values
+abbrev pub parity_among : List Row → Bool
+parity_among rows = is_set (first_of (codes "parity") rows)
+
 -- what gives the plan, among these values
 abbrev pub plan_among : List Row → Option Planned
-plan_among rows =
-    plan_given (first_of (codes "plan") rows) (first_of (codes "schedule") rows) (first_of (codes "buckets") rows)
-    (is_set (first_of (codes "search") rows))
+plan_among rows = option_and_then (planned_with (parity_among rows))
+    (plan_given (first_of (codes "plan") rows) (first_of (codes "schedule") rows) (first_of (codes "buckets") rows)
+    (is_set (first_of (codes "search") rows)))
 
 -- the names of the files among these values, which `solve` is given
 abbrev pub names_among : List Row → Option (Text × Text)
@@ -387,7 +419,7 @@ any_order_among rows = is_set (first_of (codes "any-order") rows)
 abbrev pub solve_means : List Row → Meaning
 solve_means rows =
     to_solve (names_among rows) (mode_given (first_of (codes "lax") rows)) (first_of (codes "order") rows) (plan_among rows)
-    (limits_among rows) (progress_among rows)
+    (limits_among rows) (progress_among rows) (parity_among rows)
 
 abbrev pub check_means : List Row → Meaning
 check_means rows = to_check (two_names (first_of (codes "FILE") rows) (first_of (codes "PROOF") rows) [])
@@ -399,14 +431,17 @@ rewrite_among further rows =
     to_rewrite (two_names (first_of (codes "FILE") rows) (first_of (codes "PROOF") rows) (first_of (codes "out") rows ∷ further ∷ []))
     (first_of (codes "out") rows) (mode_given (first_of (codes "lax") rows))
 
--- a proof to be written in DRAT, and whether by fresh names
-abbrev pub to_convert : Option ToRewrite → Bool → Meaning
-to_convert None fresh = Misuse
-to_convert (Some task) fresh =
-    Asks (Convert (record { file = task.file; proof = task.proof; mode = task.mode; out = task.out; fresh = fresh }))
+-- a proof to be written in the other format
+abbrev pub to_convert : Option ToRewrite → Conversion → Meaning
+to_convert None into = Misuse
+to_convert (Some task) into =
+    Asks (Convert (record { file = task.file; proof = task.proof; mode = task.mode; out = task.out; into = into }))
 
-abbrev pub convert_means : List Row → Meaning
-convert_means rows = to_convert (rewrite_among None rows) (fresh_among rows)
+abbrev pub drat_means : List Row → Meaning
+drat_means rows = to_convert (rewrite_among None rows) (IntoDrat (fresh_among rows))
+
+abbrev pub lrat_means : List Row → Meaning
+lrat_means rows = to_convert (rewrite_among None rows) (IntoLrat (any_order_among rows))
 
 -- a proof to be trimmed, and a file for its core, if one is named
 abbrev pub to_trim : Option ToRewrite → Option Text → Meaning
@@ -443,12 +478,17 @@ abbrev pub board_means : Text → List Row → Meaning
 board_means name rows = if bytes_eq name (codes "bench") then bench_means rows else if bytes_eq name
     (codes "make") then make_means rows else Misuse
 
+-- what the values of a command that makes another proof mean, or those of one about a board
+abbrev pub rewrite_means : Text → List Row → Meaning
+rewrite_means name rows =
+    if bytes_eq name (codes "drat") then drat_means rows else if bytes_eq name (codes "lrat") then lrat_means rows else if bytes_eq name
+    (codes "trim") then trim_means rows else board_means name rows
+
 -- what the values of a command mean
 abbrev pub command_means : Text → List Row → Meaning
 command_means name rows =
     if bytes_eq name (codes "solve") then solve_means rows else if bytes_eq name (codes "check") then check_means rows else if bytes_eq name
-    (codes "order") then order_means rows else if bytes_eq name (codes "ask") then ask_means rows else if bytes_eq name
-    (codes "drat") then convert_means rows else if bytes_eq name (codes "trim") then trim_means rows else board_means name rows
+    (codes "order") then order_means rows else if bytes_eq name (codes "ask") then ask_means rows else rewrite_means name rows
 
 -- what words mean that the parser takes; a command must be among them
 abbrev pub taken_means : Option (Text × List Row) → Meaning
@@ -497,3 +537,8 @@ limits_asked (Some asked) = limits_of asked
 abbrev pub progress_asked : Option Command → Bool
 progress_asked None = false
 progress_asked (Some asked) = is_told asked
+
+-- whether it is to add up parity equations first
+abbrev pub parity_asked : Option Command → Bool
+parity_asked None = false
+parity_asked (Some asked) = adds_equations asked

@@ -44,9 +44,10 @@ limit_rules = option_rule (codes "max-nodes") ∷ option_rule (codes "max-ids") 
 abbrev pub order_rules : List Rule
 order_rules = flag_rule (codes "search") ∷ option_rule (codes "order") ∷ []
 
--- `[--buckets F] [--schedule F] [--plan PLAN]`
+-- `[--buckets F] [--schedule F] [--plan PLAN] [--parity]`
 abbrev pub plan_rules : List Rule
-plan_rules = option_rule (codes "buckets") ∷ option_rule (codes "schedule") ∷ option_rule (codes "plan") ∷ []
+plan_rules =
+    option_rule (codes "buckets") ∷ option_rule (codes "schedule") ∷ option_rule (codes "plan") ∷ flag_rule (codes "parity") ∷ []
 
 -- `solve FILE --proof P [--lax]`, and then the options of orders, of plans and of limits, and `[--progress]`
 abbrev pub solve_app : App
@@ -58,21 +59,29 @@ solve_app =
 abbrev pub proof_file_rule : Rule
 proof_file_rule = record (new_rule (codes "PROOF")) { required = true }
 
+-- `[--any-order]`
+abbrev pub any_order_rule : Rule
+any_order_rule = flag_rule (codes "any-order")
+
 -- `check FILE PROOF [--format FORMAT] [--any-order] [--lax] [--progress]`
 abbrev pub check_app : App
 check_app = with_rules (new_app (codes "check"))
-    (file_rule ∷ proof_file_rule ∷ option_rule (codes "format") ∷ flag_rule (codes "any-order") ∷ lax_rule ∷ progress_rule ∷ [])
+    (file_rule ∷ proof_file_rule ∷ option_rule (codes "format") ∷ any_order_rule ∷ lax_rule ∷ progress_rule ∷ [])
 
 -- `[--fresh]`
 abbrev pub fresh_rule : Rule
 fresh_rule = flag_rule (codes "fresh")
 
--- `drat FILE PROOF --out P [--lax]`, behind which `[--fresh]` stands, and `trim` so, behind which `[--core C]` does
+-- `drat FILE PROOF --out P [--lax]`, behind which `[--fresh]` stands; so `lrat`, behind which `[--any-order]` does, and `trim`, behind which
+-- `[--core C]` does
 abbrev pub rewrite_app : Text → App
 rewrite_app name = with_rules (new_app name) (file_rule ∷ proof_file_rule ∷ needed_rule (codes "out") ∷ lax_rule ∷ [])
 
 abbrev pub drat_app : App
 drat_app = with_rule (rewrite_app (codes "drat")) fresh_rule
+
+abbrev pub lrat_app : App
+lrat_app = with_rule (rewrite_app (codes "lrat")) any_order_rule
 
 abbrev pub trim_app : App
 trim_app = with_rule (rewrite_app (codes "trim")) (option_rule (codes "core"))
@@ -116,14 +125,14 @@ program_app = with_version (new_app (codes "bddsat"))
 abbrev pub first_commands : App
 first_commands = with_subcommand (with_subcommand program_app solve_app.top) check_app.top
 
--- the commands about a proof's file, those and `drat` and `trim`
+-- the commands about a proof's file, those and `drat`, `lrat` and `trim`
 abbrev pub proof_commands : App
-proof_commands = with_subcommand (with_subcommand first_commands drat_app.top) trim_app.top
+proof_commands = with_subcommand (with_subcommand (with_subcommand first_commands drat_app.top) lrat_app.top) trim_app.top
 
 -- those about a formula's file, with `order` and `ask`
 abbrev pub file_commands : App
 file_commands = with_subcommand (with_subcommand proof_commands order_app.top) ask_app.top
 
--- the program: one of eight commands after its name
+-- the program: one of nine commands after its name
 abbrev pub the_app : App
 the_app = with_subcommand (with_subcommand file_commands bench_app.top) make_app.top

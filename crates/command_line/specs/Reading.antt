@@ -32,14 +32,14 @@ planned_of source.Search = Found
 abbrev pub rewrite_of : RewriteTask → ToRewrite
 rewrite_of task = record { file = task.files.formula.now; proof = task.files.proof.now; mode = task.mode; out = task.out.now }
 
--- a proof that is to be written in DRAT
+-- a proof that is to be written in the other format
 abbrev pub convert_of : ConvertTask → ToConvert
 convert_of task = record {
   file = task.files.formula.now;
   proof = task.files.proof.now;
   mode = task.mode;
   out = task.out.now;
-  fresh = task.fresh;
+  into = task.into;
 }
 
 -- a proof that is to be trimmed
@@ -61,6 +61,7 @@ command_of (asked.Solve task) =
       mode = task.mode;
       order = text_of task.order;
       plan = planned_of task.plan;
+      parity = task.parity;
       limits = task.limits;
       progress = task.progress;
     })

@@ -2,8 +2,8 @@
 ghost use Rattle.std.specs.Prelude.{◌≡◌, IfOk, false};
 ghost use Rattle.clap.specs.Words.{app_of, new_app, rule_of, with_rule};
 ghost use Rattle.clap.specs.declared.Command.TheViews.{out-Command};
-ghost use Rattle.command_line.specs.Parser.{file_rule, flag_rule, lax_rule, limit_rules, needed_rule, option_rule, proof_file_rule};
-ghost use Rattle.command_line.specs.Parser.{progress_rule, proof_rule, with_rules, word_rule};
+ghost use Rattle.command_line.specs.Parser.{any_order_rule, file_rule, flag_rule, lax_rule, limit_rules, needed_rule, option_rule};
+ghost use Rattle.command_line.specs.Parser.{progress_rule, proof_file_rule, proof_rule, with_rules, word_rule};
 
 use clap::{Arg, ArgAction, Command};
 use std::alloc::{AllocError, Global};
@@ -11,6 +11,8 @@ use std::alloc::{AllocError, Global};
 const PROOF_HELP: &str = "The proof in LRAT, or its steps so far where a run stops";
 
 const LAX_HELP: &str = "The clause count may be wrong, and the last 0 missing";
+
+const ANY_ORDER_HELP: &str = "DRAT: a deletion names its literals in any order";
 
 const PROGRESS_HELP: &str = "Tells on standard error how far it is";
 
@@ -79,6 +81,13 @@ pub fn lax_arg<'a>(alloc: Global) -> Arg<'a>
     ensures local { result.global ≡ false }
 {
     flag_arg(alloc, "lax", LAX_HELP)
+}
+
+pub fn any_order_arg<'a>(alloc: Global) -> Arg<'a>
+    ensures rule { rule_of result ≡ any_order_rule }
+    ensures local { result.global ≡ false }
+{
+    flag_arg(alloc, "any-order", ANY_ORDER_HELP)
 }
 
 /// A flag: an option without a value.

@@ -7,6 +7,7 @@ mod ask;
 mod ask_parser;
 mod board;
 mod board_parser;
+mod conversion;
 mod format;
 mod limits;
 mod method;
@@ -23,6 +24,7 @@ mod words;
 
 pub use ask::AskTask;
 pub use board::{BenchTask, MakeTask};
+pub use conversion::Conversion;
 pub use format::ProofFormat;
 pub use method::OrderMethod;
 pub use names::FileNames;

@@ -1,7 +1,7 @@
 // The flags of the command line, and the mode in which a formula is read, by the flag `--lax`.
 ghost use Rattle.std.specs.Prelude.{◌≡◌};
 ghost use Rattle.clap.specs.Words.{found_of, rows_of};
-ghost use Rattle.command_line.specs.Command.{any_order_among, fresh_among, is_set, mode_given, progress_among};
+ghost use Rattle.command_line.specs.Command.{any_order_among, fresh_among, is_set, mode_given, parity_among, progress_among};
 ghost use Rattle.command_line.specs.Reading.{text_of};
 
 use clap::ArgMatches;
@@ -37,6 +37,13 @@ pub fn fresh_among(values: &ArgMatches<'_>) -> bool
     ensures { result ≡ fresh_among (rows_of (found_of values.now)) }
 {
     is_set(values.get_str("fresh"))
+}
+
+/// Whether parity equations are added up, among these values.
+pub fn parity_among(values: &ArgMatches<'_>) -> bool
+    ensures { result ≡ parity_among (rows_of (found_of values.now)) }
+{
+    is_set(values.get_str("parity"))
 }
 
 /// Whether a flag is among the words, by the text that the parser gives it.

@@ -6,13 +6,13 @@ ghost use Rattle.command_line.specs.Parser.{check_app, file_commands, first_comm
 ghost use Rattle.command_line.specs.Parser.{proof_commands, solve_app, the_app, with_rules};
 
 use crate::args::{
-    Texts, command, flag_arg, formula_arg, lax_arg, option_arg, proof_arg, proof_file_arg,
-    with_limits, with_progress,
+    Texts, any_order_arg, command, flag_arg, formula_arg, lax_arg, option_arg, proof_arg,
+    proof_file_arg, with_limits, with_progress,
 };
 use crate::ask_parser::ask_parser;
 use crate::board_parser::{bench_parser, make_parser};
 use crate::order_parser::order_parser;
-use crate::rewrite_parser::{drat_parser, trim_parser};
+use crate::rewrite_parser::{drat_parser, lrat_parser, trim_parser};
 use clap::Command;
 use std::alloc::{AllocError, Global};
 
@@ -24,9 +24,11 @@ const ALL: Texts<'static> = Texts {
     usage: "\
 bddsat solve FILE --proof P [--lax] [--order F]
                     [--search | --buckets F | --schedule F | --plan PLAN]
-                    [--max-nodes N] [--max-ids N] [--cache N] [--progress]
+                    [--parity] [--max-nodes N] [--max-ids N] [--cache N]
+                    [--progress]
        bddsat check FILE PROOF [--format FORMAT] [--any-order] [--lax] [--progress]
        bddsat drat FILE PROOF --out P [--lax] [--fresh]
+       bddsat lrat FILE PROOF --out P [--lax] [--any-order]
        bddsat trim FILE PROOF --out P [--lax] [--core C]
        bddsat order FILE --by METHOD --out F [--lax]
        bddsat ask FILE --cubes Q --proof P [--lax] [--order F]
@@ -39,8 +41,8 @@ Exit codes:
   10  solve: satisfiable; the values are on standard output
   20  solve, bench: unsatisfiable; the proof is in P
    0  solve, bench: undecided, since a limit was reached; P has the steps so far
-   0  check, drat, trim: the proof is verified
-   1  check, drat, trim: it isn't verified; standard output has the line and why
+   0  check, drat, lrat, trim: the proof is verified
+   1  check, drat, lrat, trim: it isn't; standard output has the line and why
    0  make, order: the text is in F
    0  ask: each cube is answered on standard output, or a limit was reached
    0  help or the version was shown
@@ -54,6 +56,7 @@ Example:
   bddsat solve formula.cnf --search --proof formula.lrat
   bddsat check formula.cnf formula.lrat
   bddsat drat formula.cnf formula.lrat --out formula.drat
+  bddsat lrat formula.cnf formula.drat --any-order --out formula.lrat
   bddsat trim formula.cnf formula.lrat --out trimmed.lrat
   bddsat order formula.cnf --by degree --out formula.order
   bddsat ask formula.cnf --cubes questions.cubes --proof formula.lrat
@@ -66,7 +69,8 @@ const SOLVE: Texts<'static> = Texts {
     usage: "\
 bddsat solve FILE --proof P [--lax] [--order F]
                     [--search | --buckets F | --schedule F | --plan PLAN]
-                    [--max-nodes N] [--max-ids N] [--cache N] [--progress]",
+                    [--parity] [--max-nodes N] [--max-ids N] [--cache N]
+                    [--progress]",
     after: "\
 Example:
   bddsat solve formula.cnf --search --proof formula.lrat",
@@ -85,8 +89,6 @@ const PROOF_HELP: &str = "The proof, in LRAT or in textual DRAT";
 
 const FORMAT_HELP: &str = "lrat, or drat, which has no hints [default: lrat]";
 
-const ANY_ORDER_HELP: &str = "DRAT: a deletion names its literals in any order";
-
 const SEARCH_HELP: &str = "Finds the orders by trial runs; what to try first";
 
 const ORDER_HELP: &str = "A file with the variables' order [default: 1, 2, ..]";
@@ -97,7 +99,9 @@ const SCHEDULE_HELP: &str = "A file with the plan, as lines of commands c, a and
 
 const PLAN_HELP: &str = "bucket quantifies early, conjoin never [default: bucket]";
 
-/// The parser: one of eight commands after the program's name.
+const PARITY_HELP: &str = "Adds up parity equations first; not with --search";
+
+/// The parser: one of nine commands after the program's name.
 pub fn parser<'a>(alloc: Global) -> Result<Command<'a>, AllocError>
     ensures { IfOk result (λ command. app_of command ≡ the_app) }
 {
@@ -121,7 +125,8 @@ fn proof_commands<'a>(alloc: Global) -> Result<Command<'a>, AllocError>
 {
     let check = first_commands(alloc)?;
     let drat = with_command(check, drat_parser(alloc))?;
-    with_command(drat, trim_parser(alloc))
+    let lrat = with_command(drat, lrat_parser(alloc))?;
+    with_command(lrat, trim_parser(alloc))
 }
 
 fn first_commands<'a>(alloc: Global) -> Result<Command<'a>, AllocError>
@@ -182,7 +187,8 @@ fn with_plans<'a>(alloc: Global, command: Command<'a>) -> Result<Command<'a>, Al
     command
         .arg(option_arg(alloc, "buckets", "F", BUCKETS_HELP))?
         .arg(option_arg(alloc, "schedule", "F", SCHEDULE_HELP))?
-        .arg(option_arg(alloc, "plan", "PLAN", PLAN_HELP))
+        .arg(option_arg(alloc, "plan", "PLAN", PLAN_HELP))?
+        .arg(flag_arg(alloc, "parity", PARITY_HELP))
 }
 
 fn check_parser<'a>(alloc: Global) -> Result<Command<'a>, AllocError>
@@ -193,7 +199,7 @@ fn check_parser<'a>(alloc: Global) -> Result<Command<'a>, AllocError>
         .arg(formula_arg(alloc))?
         .arg(proof_file_arg(alloc, PROOF_HELP))?
         .arg(option_arg(alloc, "format", "FORMAT", FORMAT_HELP))?
-        .arg(flag_arg(alloc, "any-order", ANY_ORDER_HELP))?
+        .arg(any_order_arg(alloc))?
         .arg(lax_arg(alloc))?;
     with_progress(alloc, command)
 }

@@ -1,10 +1,11 @@
-// The commands that make another proof of an LRAT proof: `drat` and `trim`.
+// The commands that make another proof of one: `drat`, `lrat` and `trim`.
 ghost use Rattle.std.specs.Prelude.{◌≡◌, None, Some, IfSome, MatchOption};
 ghost use Rattle.clap.specs.Words.{found_of, rows_of};
-ghost use Rattle.command_line.specs.Command.{Asks, Misuse, convert_means, rewrite_among, trim_means};
+ghost use Rattle.command_line.specs.Command.{Asks, Misuse, drat_means, lrat_means, rewrite_among, to_convert, trim_means};
 ghost use Rattle.command_line.specs.Reading.{IsWithin, command_of, rewrite_of, text_of};
 
-use crate::mode::{fresh_among, mode_given};
+use crate::conversion::Conversion;
+use crate::mode::{any_order_among, fresh_among, mode_given};
 use crate::names::{FileNames, two_names};
 use crate::words::Asked;
 use clap::ArgMatches;
@@ -21,32 +22,50 @@ pub struct RewriteTask<'a> {
     pub out: &'a str,
 }
 
-/// What is to be judged and written as a DRAT proof, where that goes, and how its variables are named.
+/// What is to be judged and written in the other format, and where that goes.
 #[derive(Drop)]
 pub struct ConvertTask<'a> {
     /// The files that are read.
     pub files: FileNames<'a>,
     /// How the formula is read.
     pub mode: Mode,
-    /// The file that the DRAT proof is written to.
+    /// The file that the other proof is written to.
     pub out: &'a str,
-    /// Whether extension variables get names that no other one has.
-    pub fresh: bool,
+    /// The formats.
+    pub into: Conversion,
 }
 
-pub fn convert_asked<'a>(values: &ArgMatches<'a>) -> Option<Asked<'a>>
-    ensures meant { MatchOption result (convert_means (rows_of (found_of values.now)) ≡ Misuse)
-        (λ asked. convert_means (rows_of (found_of values.now)) ≡ Asks (command_of asked)) }
+pub fn drat_asked<'a>(values: &ArgMatches<'a>) -> Option<Asked<'a>>
+    ensures meant { MatchOption result (drat_means (rows_of (found_of values.now)) ≡ Misuse)
+        (λ asked. drat_means (rows_of (found_of values.now)) ≡ Asks (command_of asked)) }
+    ensures within { IfSome result (λ asked. IsWithin (command_of asked)) }
+{
+    let fresh = fresh_among(values);
+    convert_asked(values, Conversion::IntoDrat { fresh })
+}
+
+pub fn lrat_asked<'a>(values: &ArgMatches<'a>) -> Option<Asked<'a>>
+    ensures meant { MatchOption result (lrat_means (rows_of (found_of values.now)) ≡ Misuse)
+        (λ asked. lrat_means (rows_of (found_of values.now)) ≡ Asks (command_of asked)) }
+    ensures within { IfSome result (λ asked. IsWithin (command_of asked)) }
+{
+    let any_order = any_order_among(values);
+    convert_asked(values, Conversion::IntoLrat { any_order })
+}
+
+// The proof among these values is to be converted so.
+fn convert_asked<'a>(values: &ArgMatches<'a>, into: Conversion) -> Option<Asked<'a>>
+    ensures meant { MatchOption result (to_convert (rewrite_among None (rows_of (found_of values.now))) into ≡ Misuse)
+        (λ asked. to_convert (rewrite_among None (rows_of (found_of values.now))) into ≡ Asks (command_of asked)) }
     ensures within { IfSome result (λ asked. IsWithin (command_of asked)) }
 {
     let task = rewrite_among(values, None)?;
-    let fresh = fresh_among(values);
     let RewriteTask { files, mode, out } = task;
     Some(Asked::Convert(ConvertTask {
         files,
         mode,
         out,
-        fresh,
+        into,
     }))
 }
 

@@ -2,10 +2,11 @@
 ghost use Rattle.std.specs.Prelude.{◌≡◌, IfOk, codes, false};
 ghost use Rattle.clap.specs.Words.{app_of};
 ghost use Rattle.clap.specs.declared.Command.TheViews.{out-Command};
-ghost use Rattle.command_line.specs.Parser.{drat_app, rewrite_app, trim_app};
+ghost use Rattle.command_line.specs.Parser.{drat_app, lrat_app, rewrite_app, trim_app};
 
 use crate::args::{
-    Texts, command, flag_arg, formula_arg, lax_arg, needed_arg, option_arg, proof_file_arg,
+    Texts, any_order_arg, command, flag_arg, formula_arg, lax_arg, needed_arg, option_arg,
+    proof_file_arg,
 };
 use clap::Command;
 use std::alloc::{AllocError, Global};
@@ -16,6 +17,14 @@ const DRAT: Texts<'static> = Texts {
     after: "\
 Example:
   bddsat drat formula.cnf formula.lrat --out formula.drat",
+};
+
+const LRAT: Texts<'static> = Texts {
+    about: "Judges PROOF, a DRAT proof, and writes it in LRAT to P",
+    usage: "bddsat lrat FILE PROOF --out P [--lax] [--any-order]",
+    after: "\
+Example:
+  bddsat lrat formula.cnf formula.drat --any-order --out formula.lrat",
 };
 
 const TRIM: Texts<'static> = Texts {
@@ -30,6 +39,10 @@ const PROOF_HELP: &str = "The proof, in LRAT";
 
 const DRAT_HELP: &str = "The DRAT proof. PROOF itself by another name would be emptied";
 
+const DRAT_PROOF_HELP: &str = "The proof, in textual DRAT";
+
+const LRAT_HELP: &str = "The LRAT proof. PROOF itself by another name would be emptied";
+
 const FRESH_HELP: &str = "Gives each extension variable a name of its own";
 
 const CORE_HELP: &str = "The numbers of FILE's clauses that P names, one a line";
@@ -40,15 +53,23 @@ pub fn drat_parser<'a>(alloc: Global) -> Result<Command<'a>, AllocError>
     ensures app { IfOk result (λ command. app_of command ≡ drat_app) }
     ensures local { IfOk result (λ command. (out-Command command).has_globals ≡ false) }
 {
-    let command = rewrite_parser(alloc, "drat", DRAT, DRAT_HELP)?;
+    let command = rewrite_parser(alloc, "drat", DRAT, PROOF_HELP, DRAT_HELP)?;
     command.arg(flag_arg(alloc, "fresh", FRESH_HELP))
+}
+
+pub fn lrat_parser<'a>(alloc: Global) -> Result<Command<'a>, AllocError>
+    ensures app { IfOk result (λ command. app_of command ≡ lrat_app) }
+    ensures local { IfOk result (λ command. (out-Command command).has_globals ≡ false) }
+{
+    let command = rewrite_parser(alloc, "lrat", LRAT, DRAT_PROOF_HELP, LRAT_HELP)?;
+    command.arg(any_order_arg(alloc))
 }
 
 pub fn trim_parser<'a>(alloc: Global) -> Result<Command<'a>, AllocError>
     ensures app { IfOk result (λ command. app_of command ≡ trim_app) }
     ensures local { IfOk result (λ command. (out-Command command).has_globals ≡ false) }
 {
-    let command = rewrite_parser(alloc, "trim", TRIM, TRIM_HELP)?;
+    let command = rewrite_parser(alloc, "trim", TRIM, PROOF_HELP, TRIM_HELP)?;
     command.arg(option_arg(alloc, "core", "C", CORE_HELP))
 }
 
@@ -56,6 +77,7 @@ fn rewrite_parser<'a>(
     alloc: Global,
     name: &'a str,
     texts: Texts<'a>,
+    proof_help: &'a str,
     out_help: &'a str,
 ) -> Result<Command<'a>, AllocError>
     ensures app { IfOk result (λ command. app_of command ≡ rewrite_app name.entry.now) }
@@ -63,7 +85,7 @@ fn rewrite_parser<'a>(
 {
     command(alloc, name, texts)
         .arg(formula_arg(alloc))?
-        .arg(proof_file_arg(alloc, PROOF_HELP))?
+        .arg(proof_file_arg(alloc, proof_help))?
         .arg(needed_arg(alloc, "out", "P", out_help))?
         .arg(lax_arg(alloc))
 }

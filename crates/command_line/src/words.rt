@@ -7,19 +7,19 @@ ghost use Rattle.std.specs.Iterator.Runs.{WholeRun};
 ghost use Rattle.clap.specs.Words.{found_of, kind_of, rows_of, subcommand_rows_of};
 ghost use Rattle.schedule_plan.specs.Limits.{AreLimits};
 ghost use Rattle.command_line.specs.Command.{Asks, IsSize, Misuse, board_means, check_means, command, command_means, limits_of, size_of};
-ghost use Rattle.command_line.specs.Command.{solve_means, taken_means};
+ghost use Rattle.command_line.specs.Command.{rewrite_means, solve_means, taken_means};
 ghost use Rattle.command_line.specs.Reading.{IsRefusal, IsRefusalOf, IsTaken, IsWithin, command_of};
 
 use crate::ask::{AskTask, ask_asked};
 use crate::board::{BenchTask, MakeTask, bench_asked, make_asked};
 use crate::format::{ProofFormat, format_given};
 use crate::limits::limits_among;
-use crate::mode::{any_order_among, mode_given, progress_among};
+use crate::mode::{any_order_among, mode_given, parity_among, progress_among};
 use crate::names::{FileNames, names_among, two_names};
 use crate::order::{OrderTask, order_asked};
 use crate::parser::parser;
 use crate::plan::{PlanSource, plan_among};
-use crate::rewrite::{ConvertTask, TrimTask, convert_asked, trim_asked};
+use crate::rewrite::{ConvertTask, TrimTask, drat_asked, lrat_asked, trim_asked};
 use clap::ArgMatches;
 use clap::error::ErrorKind;
 use cnf_base::OutOfMemory;
@@ -42,7 +42,7 @@ pub enum Asked<'a> {
     Order(OrderTask<'a>),
     /// To answer cubes over a formula, and to write one proof.
     Ask(AskTask<'a>),
-    /// To judge the proof over the formula, and to write it as a DRAT proof.
+    /// To judge the proof over the formula, and to write it in the other format.
     Convert(ConvertTask<'a>),
     /// To judge the proof over the formula, and to write what its refutation needs, and maybe its core.
     Trim(TrimTask<'a>),
@@ -57,6 +57,8 @@ pub struct SolveTask<'a> {
     /// The file of the variables' order, if one is named.
     pub order: Option<&'a str>,
     pub plan: PlanSource<'a>,
+    /// Whether the formula's parity equations are added up first.
+    pub parity: bool,
     pub limits: Limits,
     /// Whether progress is told.
     pub progress: bool,
@@ -148,8 +150,21 @@ fn command_named<'a>(name: &str, values: &ArgMatches<'a>) -> Option<Asked<'a>>
         order_asked(values)
     } else if name == "ask" {
         ask_asked(values)
-    } else if name == "drat" {
-        convert_asked(values)
+    } else {
+        rewrite_command(name, values)
+    }
+}
+
+// The command of this name that makes another proof, with its values, or the one about a board.
+fn rewrite_command<'a>(name: &str, values: &ArgMatches<'a>) -> Option<Asked<'a>>
+    ensures meant { MatchOption result (rewrite_means name.now (rows_of (found_of values.now)) ≡ Misuse)
+        (λ asked. rewrite_means name.now (rows_of (found_of values.now)) ≡ Asks (command_of asked)) }
+    ensures within { IfSome result (λ asked. IsWithin (command_of asked)) }
+{
+    if name == "drat" {
+        drat_asked(values)
+    } else if name == "lrat" {
+        lrat_asked(values)
     } else if name == "trim" {
         trim_asked(values)
     } else {
@@ -183,11 +198,13 @@ fn solve_asked<'a>(values: &ArgMatches<'a>) -> Option<Asked<'a>>
     let plan = plan_among(values)?;
     let limits = limits_among(values)?;
     let progress = progress_among(values);
+    let parity = parity_among(values);
     Some(Asked::Solve(SolveTask {
         files,
         mode,
         order,
         plan,
+        parity,
         limits,
         progress,
     }))

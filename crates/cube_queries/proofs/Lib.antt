@@ -9,6 +9,7 @@ pub mod Joined
 pub mod Reclaimed
 pub mod Whole
 pub mod Asked
+pub mod Walked
 pub mod Parts
 pub mod Tries
 pub mod Moves

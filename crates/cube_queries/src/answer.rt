@@ -1,7 +1,7 @@
 // What is answered of cubes.
 ghost use Rattle.std.specs.Prelude.{◌≡◌, ◌++◌, ◌∷◌, [], OnOk};
 
-use clause_terms::Model;
+use crate::values::Values;
 use cnf_base::OutOfMemory;
 use std::alloc::Global;
 
@@ -11,7 +11,7 @@ pub enum Answer {
     /// No assignment satisfies the formula and the cube, and a clause of the proof says so.
     Unsat,
     /// The least assignment that satisfies both.
-    Sat(Model),
+    Sat(Values),
 }
 
 /// What is answered of cubes, in their order.

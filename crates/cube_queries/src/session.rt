@@ -11,6 +11,7 @@ use crate::answer::Answers;
 use crate::formula_term::term_of_formula;
 use crate::steps::{give_back, reply};
 use cnf_base::Cnf;
+use cube_models::Finder;
 use cube_text::Cubes;
 use host_io::Sink;
 use node_table::{TableError, growth_law, steps_law};
@@ -61,9 +62,10 @@ fn reply_each<S: Sink + Drop>(
 {
     steps_law::<S>();
     let mut answers = Answers::new(alloc);
+    let mut finder = Finder::new(alloc);
     let mut left = 0;
     'cubes: for place in 0..cubes.len() {
-        let answer = reply(runner, term, cubes.cube(place + 1))?;
+        let answer = reply(alloc, runner, &mut finder, term, cubes.cube(place + 1))?;
         answers.push(answer)?;
         left = tidied(runner, left)?;
     }

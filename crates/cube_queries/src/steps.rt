@@ -1,7 +1,7 @@
 // Steps of a session. One that meets the limit of nodes is tried once more behind a reclamation.
-ghost use Rattle.std.specs.Prelude.{◌≡◌, ◌≤◌, ◌&&◌, ◌↔◌, ◌∷◌, Bool, [], List, Ok, Err, IsTrue, OnOk, length};
+ghost use Rattle.std.specs.Prelude.{◌≡◌, ◌≤◌, ◌&&◌, ◌↔◌, ◌∷◌, Bool, [], List, Ok, Err, IsTrue, OnOk, length, true};
 ghost use Rattle.std.specs.List.{list_all};
-ghost use Rattle.cnf_base.specs.Cube.{is_consistent};
+ghost use Rattle.cnf_base.specs.Cube.{cube_holds, is_consistent};
 ghost use Rattle.cnf_base.specs.Truth.{AreClausesOf, Assignment, is_literal_of};
 ghost use Rattle.node_table.specs.declared.error.TableError.TheVariants.{NodeLimit};
 ghost use Rattle.node_table.specs.Diagram.{levels};
@@ -14,13 +14,16 @@ ghost use Rattle.term_runner.specs.Runner.{IsGood, IsListed, IsRunner, holds_in,
 ghost use Rattle.term_runner.specs.Tidy.{LeavesReached};
 ghost use Rattle.cube_queries.specs.Steps.{Costs, GivesBack, IsTryFor, Replies, Takes, TakesAlone, TakesOver, clause_in, formula_holds};
 ghost use Rattle.cube_queries.specs.Steps.{function_in, functions_out, functions_with};
+ghost use Rattle.cube_models.specs.Finder.{IsFinder};
 ghost use Rattle.cube_queries.specs.Width.{functions_at};
 
 use crate::answer::Answer;
-use clause_terms::Model;
+use crate::walk::least_values;
 use cnf_base::Lit;
+use cube_models::Finder;
 use host_io::Sink;
 use node_table::{TableError, growth_law, steps_law};
+use std::alloc::Global;
 use term_runner::{Runner, Term, counting_law};
 
 /// The term of the clause of this number.
@@ -129,8 +132,36 @@ fn both_into<S: Sink + Drop>(
     both
 }
 
-/// What is answered of a cube, beside the one term that is out.
+/// What is answered of a cube, beside the one term that is out: the least assignment, along the term's diagram alone; where there is none,
+/// the clause that forbids the cube.
 pub(crate) fn reply<S: Sink + Drop>(
+    alloc: Global,
+    runner: &mut Runner<'_, S>,
+    finder: &mut Finder,
+    term: &Term,
+    cube: &[Lit],
+) -> Result<Answer, TableError>
+    requires runner { IsRunner runner.old }
+    requires finder { IsFinder finder.old }
+    requires alone { IsListed [] runner.old.terms.out.items term.now.held }
+    requires value { (a : Assignment) → holds_in runner.old term.now.held a ≡ formula_holds runner.old.formula.now a }
+    requires literals { AreClausesOf runner.old.formula.now.vars runner.old.formula.now.clauses }
+    requires variables { IsTrue (list_all (is_literal_of (levels runner.old.terms.table.graph)) cube.now) }
+    requires consistent { IsTrue (is_consistent cube.now) }
+    ensures replies { Replies cube.now runner.old runner.new result }
+    ensures costs { Costs 1 (functions_at runner.old.formula.now runner.old.terms.table.graph.order cube.now) runner.old runner.new
+        (error_of result) }
+    ensures finder { IsFinder finder.new }
+{
+    steps_law::<S>();
+    let Some(values) = least_values(alloc, runner, finder, term, cube)? else {
+        return refuse(runner, term, cube);
+    };
+    Ok(Answer::Sat(values))
+}
+
+// Refuses a cube that no assignment satisfies beside the one term that is out.
+fn refuse<S: Sink + Drop>(
     runner: &mut Runner<'_, S>,
     term: &Term,
     cube: &[Lit],
@@ -141,6 +172,7 @@ pub(crate) fn reply<S: Sink + Drop>(
     requires literals { AreClausesOf runner.old.formula.now.vars runner.old.formula.now.clauses }
     requires variables { IsTrue (list_all (is_literal_of (levels runner.old.terms.table.graph)) cube.now) }
     requires consistent { IsTrue (is_consistent cube.now) }
+    requires none { (a : Assignment) → formula_holds runner.old.formula.now a ≡ true → cube_holds a cube.now ≡ true → ⊥ }
     ensures replies { Replies cube.now runner.old runner.new result }
     ensures costs { Costs 1 (functions_at runner.old.formula.now runner.old.terms.table.graph.order cube.now) runner.old runner.new
         (error_of result) }
@@ -148,16 +180,16 @@ pub(crate) fn reply<S: Sink + Drop>(
     counting_law::<S>();
     growth_law();
     steps_law::<S>();
-    let found = reply_once(runner, term, cube);
+    let found = refuse_once(runner, term, cube);
     if !is_at_limit(&found) {
         return found;
     }
     give_back(runner)?;
-    reply_once(runner, term, cube)
+    refuse_once(runner, term, cube)
 }
 
 // One try of it.
-fn reply_once<S: Sink + Drop>(
+fn refuse_once<S: Sink + Drop>(
     runner: &mut Runner<'_, S>,
     term: &Term,
     cube: &[Lit],
@@ -168,6 +200,7 @@ fn reply_once<S: Sink + Drop>(
     requires literals { AreClausesOf runner.old.formula.now.vars runner.old.formula.now.clauses }
     requires variables { IsTrue (list_all (is_literal_of (levels runner.old.terms.table.graph)) cube.now) }
     requires consistent { IsTrue (is_consistent cube.now) }
+    requires none { (a : Assignment) → formula_holds runner.old.formula.now a ≡ true → cube_holds a cube.now ≡ true → ⊥ }
     ensures replies { Replies cube.now runner.old runner.new result }
     ensures tries { IsTryFor (cube_function runner.old.terms.table.graph.order cube.now
         ∷ with_cube runner.old.terms.table.graph term.now.held.node cube.now ∷ []) runner.old runner.new (error_of result) }
@@ -176,7 +209,7 @@ fn reply_once<S: Sink + Drop>(
     steps_law::<S>();
     match runner.cube(term, cube)? {
         None => Ok(Answer::Unsat),
-        Some(model) => Ok(Answer::Sat(model)),
+        Some(_) => unreachable!(),
     }
 }
 

@@ -1,4 +1,4 @@
-//! Tests of the layers of diagrams: `node_table`, `apply_and`, `quantify`, `imply`, `term_runner`.
+//! Tests of the layers of diagrams: `node_table`, `apply_and`, `quantify`, `imply`, `term_runner`, `parity_terms`.
 #![tactic(auto)]
 
 #[cfg(test)]
@@ -6,6 +6,8 @@ mod asked;
 mod cache;
 #[cfg(test)]
 mod checked;
+#[cfg(test)]
+mod eliminated;
 #[cfg(test)]
 mod functions;
 #[cfg(test)]

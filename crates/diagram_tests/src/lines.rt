@@ -2,6 +2,7 @@
 ghost use Rattle.node_table.specs.Table.{IsSound};
 ghost use Rattle.diagram_tests.specs.Plain.{IsPlain};
 
+use crate::eliminated::eliminate_sums;
 use crate::retired::delete;
 use crate::script::{play, push_left};
 use crate::support::{ProofText, expect_same, halves, opened, part};
@@ -16,6 +17,7 @@ use std::test::Fail;
 fn tell(rt: &impl Abort, alloc: Global, script: &str, text: &mut String) -> Result<(), Fail> {
     match part(script, '|', 0) {
         "retire" => delete(alloc, script, text),
+        "parity" => eliminate_sums(alloc, script, text),
         "trial" | "runner" | "behind" | "sum" | "cubes" => tell_over_clauses(alloc, script, text),
         _ => tell_table(rt, alloc, script, text),
     }
@@ -311,6 +313,18 @@ const CUBES: &str = "\
 #[test]
 fn cubes(rt: HostRuntime) -> Result<(), Fail> {
     expect_rows(&rt, rt.alloc(), CUBES)
+}
+
+// x1 + x2 = 1, x2 + x3 = 1 and x1 + x3 = 1 are in conflict: their sum is 0 = 1. With no node the limit ends the elimination. Without a clause
+// of the third one there are two equations, which aren't in conflict.
+const EQUATIONS: &str = "\
+    parity|1 2,-1 -2,2 3,-2 -3,1 3,-1 -3|636;3 true true\n\
+    parity|1 2,-1 -2,2 3,-2 -3,1 3,-1 -3|0;3 false false\n\
+    parity|1 2,-1 -2,2 3,-2 -3,1 3,1 -3|636;2 false false";
+
+#[test]
+fn equations(rt: HostRuntime) -> Result<(), Fail> {
+    expect_rows(&rt, rt.alloc(), EQUATIONS)
 }
 
 /// The refusal that no script comes to.

@@ -38,6 +38,12 @@ all_members p (y ∷ ys) each =
 pub has_own : (xs : List ℤ) → list_all (literals_of xs) xs ≡ true
 has_own xs = all_members (literals_of xs) xs (λ x m. m)
 
+pub has-left : (xs ys : List ℤ) → list_all (literals_of (xs ++ ys)) xs ≡ true
+has-left xs ys = all_members (literals_of (xs ++ ys)) xs (λ x m. list_any-append (int_eq x) xs ys ∙ or_left _ _ m)
+
+pub has-right : (xs ys : List ℤ) → list_all (literals_of (xs ++ ys)) ys ≡ true
+has-right xs ys = all_members (literals_of (xs ++ ys)) ys (λ x m. list_any-append (int_eq x) xs ys ∙ or_right (literals_of xs x) _ m)
+
 and_true : (b c : Bool) → (b && (c && true)) ≡ (b && c)
 and_true true true = refl
 and_true true false = refl
@@ -153,6 +159,10 @@ module _ (start old clause : List ℤ) (i : ℕ) (x : ℤ) (within : i < length 
         both_ways (q (neg_ℤ x)) (apart x own) (at_member q old (neg_ℤ x) on_trail there);
   }
 
+-- the literal is one of the clause's
+pub own-literal : (clause : List ℤ) (i : ℕ) (x : ℤ) → i < length clause → x ≡ get_or clause i x → literals_of clause x ≡ true
+own-literal clause i x within at = ap (literals_of clause) at ∙ all-at (literals_of clause) clause i x within (has_own clause)
+
 -- The same of those literals of a clause that pass a test.
 module _ (p : FalseSet) (start old clause : List ℤ) (i : ℕ) (x : ℤ) (within : i < length clause) (at : x ≡ get_or clause i x) where
   more : filter p (take (i + 1) clause) ≡ filter p (take i clause) ++ cond (p x) (x ∷ []) []
@@ -173,6 +183,12 @@ module _ (p : FalseSet) (start old clause : List ℤ) (i : ℕ) (x : ℤ) (withi
       ap (list_all q) is ∙ all-with_last q old x ∙ ap (λ b. b && q x) so_far
       ∙ and_assoc (list_all q start) (list_all q (filter p (take i clause))) (q x)
       ∙ ap (λ b. list_all q start && b) (sym (ap (list_all q) one ∙ all-last q (filter p (take i clause)) x))
+
+  pub own-other : p x ≡ true → literals_of (filter p clause) x ≡ true
+  own-other passes =
+      let q = literals_of (filter p clause) in
+      let each : list_all (λ y. not (p y) || q y) clause ≡ true = sym (all-filter q p clause) ∙ has_own (filter p clause) in
+      ap (λ b. not b || q x) (sym passes) ∙ ap (λ y. not (p y) || q y) at ∙ all-at (λ y. not (p y) || q y) clause i x within each
 
   pub others-clash : ((q : FalseSet) → HasSoFar start old (filter p (take i clause)) q) → p x ≡ true → literals_of old (neg_ℤ x) ≡ true
       → Clashes (start ++ filter p clause)

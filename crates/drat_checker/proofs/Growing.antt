@@ -10,13 +10,16 @@ use Rattle.drat_checker.specs.Places.{Places, place_at, standing}
 use Rattle.drat_checker.specs.Propagation.{Derives, Extends}
 use Rattle.drat_checker.specs.Database.{is_short}
 use Rattle.drat_checker.specs.Watches.{AreTrue, IsGuarded, is_true, watches}
+use Rattle.drat_checker.specs.Trail.{Trail}
+use Rattle.drat_checker.specs.Reasons.{AreReasons}
 use Rattle.drat_checker.specs.Roots.{IsGrowing}
 use Rattle.drat_checker.proofs.Derived.{derives-more}
 use Rattle.drat_checker.proofs.Guarded.{short-not-unit}
+use Rattle.drat_checker.proofs.Reasoned.{reasons-more}
 use Rattle.drat_checker.proofs.Standing.{eq-same_list, place-push, standing-push}
 use Rattle.drat_checker.proofs.Visited.{true-more}
 
-module _ (places : Places) (clause : List ℤ) (kept : Watches) (literals : List ℤ) (g : IsGrowing places clause kept literals) where
+module _ (places : Places) (clause : List ℤ) (kept : Watches) (trail : Trail) (g : IsGrowing places clause kept trail) where
   stand : standing places ≡ standing g.before ++ clause ∷ []
   stand = ap standing g.is ∙ standing-push g.before clause
 
@@ -26,20 +29,23 @@ module _ (places : Places) (clause : List ℤ) (kept : Watches) (literals : List
       ∙ list_any-append (same_list clause) (standing g.before) (clause ∷ [])
       ∙ or_right (is_among (standing g.before) clause) _ (or_left _ _ (eq-same_list clause clause refl))
 
-  pub growing-derived : Derives (standing places) [] literals
-  growing-derived = subst (λ (cs : List (List ℤ)). Derives cs [] literals) (sym stand) (derives-more clause g.derives)
+  pub growing-derived : Derives (standing places) [] trail.literals
+  growing-derived = subst (λ (cs : List (List ℤ)). Derives cs [] trail.literals) (sym stand) (derives-more clause g.derives)
+
+  pub growing-reasons : AreReasons places [] trail
+  growing-reasons = subst (λ (ps : Places). AreReasons ps [] trail) (sym g.is) (reasons-more g.before (Some clause) [] trail g.reasons)
 
   at-before : (n : ℕ) (c : List ℤ) → place_at places n ≡ Some c → (place_at g.before n ≡ Some c) ⊎ ((n ≡ length g.before) × (clause ≡ c))
   at-before n c at = place-push g.before clause n c (ap (λ (ps : Places). place_at ps n) (sym g.is) ∙ at)
 
-  module _ (new : List ℤ) (e : Extends literals new)
-      (taken : (effect (literals_of literals) clause ≡ NotUnit) ⊎ (is_true new clause ≡ true)) where
-    pub growing-guarded : IsGuarded places kept.pairs.items literals new
+  module _ (new : List ℤ) (e : Extends trail.literals new)
+      (taken : (effect (literals_of trail.literals) clause ≡ NotUnit) ⊎ (is_true new clause ≡ true)) where
+    pub growing-guarded : IsGuarded places kept.pairs.items trail.literals new
     growing-guarded = record {
       guarded = λ n c x at watched m. elim (at-before n c at) [
         | inl old ↦ true-more c e (g.guarded.guarded n c x old watched m)
         | inr last ↦ elim taken [
-          | inl nothing ↦ absurd (both_ways (literals_of literals x)
+          | inl nothing ↦ absurd (both_ways (literals_of trail.literals x)
               (g.unfalse nothing x (subst (λ (k : ℕ). watches kept.pairs.items k x ≡ true) last.0 watched)) m)
           | inr holds ↦ subst (λ (d : List ℤ). is_true new d ≡ true) last.1 holds
         ]
@@ -51,7 +57,7 @@ module _ (places : Places) (clause : List ℤ) (kept : Watches) (literals : List
       holds = λ n c at short. elim (at-before n c at) [
         | inl old ↦ true-more c e (g.holds.holds n c old short)
         | inr last ↦ elim taken [
-          | inl nothing ↦ absurd (short-not-unit (literals_of literals) clause (ap is_short last.1 ∙ short) nothing)
+          | inl nothing ↦ absurd (short-not-unit (literals_of trail.literals) clause (ap is_short last.1 ∙ short) nothing)
           | inr holds ↦ subst (λ (d : List ℤ). is_true new d ≡ true) last.1 holds
         ]
       ];

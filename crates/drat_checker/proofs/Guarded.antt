@@ -10,7 +10,7 @@ use Rattle.drat_rules.specs.Quiet.{adds_nothing, closed_under}
 use Rattle.drat_checker.specs.Trail.{IsApart}
 use Rattle.drat_checker.specs.Watches.{is_true}
 use Rattle.drat_checker.specs.Database.{is_short}
-use Rattle.drat_checker.proofs.FalseSets.{int_eq-true, eq-int_eq}
+use Rattle.drat_checker.proofs.FalseSets.{all_members, at_member, int_eq-true, eq-int_eq}
 use Rattle.drat_checker.proofs.Derived.{not_unit-before}
 
 -- a literal that isn't false stays outside
@@ -127,6 +127,15 @@ module _ (n : FalseSet) (other : ℤ) where
   pub all-false : (clause : List ℤ) → list_all (λ y. int_eq y other || n y) clause ≡ true → n other ≡ true → effect n clause ≡ Conflict
   all-false clause h f = ap effect_of_outside (none-left clause h f)
 
+pub all-known : (n : FalseSet) (other : ℤ) (clause : List ℤ) → list_all (λ y. int_eq y other || n y) clause ≡ true → n other ≡ true
+    → list_all n clause ≡ true
+all-known n other clause h f =
+    all_members n clause (λ x m.
+    elim (or_cases (int_eq x other) _ (at_member (λ y. int_eq y other || n y) clause x h m)) [
+      | inl same ↦ ap n (int_eq-true x other same) ∙ f
+      | inr there ↦ there
+    ])
+
 -- the literal that a clause forces is one of its own
 in-clause : (n : FalseSet) (clause : List ℤ) (x : ℤ) → literals_of (outside n clause) x ≡ true → literals_of clause x ≡ true
 in-clause n [] x m = m
@@ -149,6 +158,38 @@ forced-first (x ∷ xs) k e =
 
 pub forced-held : (n : FalseSet) (clause : List ℤ) (k : ℤ) → effect n clause ≡ Forced k → literals_of clause k ≡ true
 forced-held n clause k e = in-clause n clause k (forced-first (outside n clause) k e)
+
+some-left : (y : ℤ) (ys : List ℤ) → effect_of_outside (y ∷ ys) ≡ Conflict → ⊥
+some-left y ys e =
+    elim (list_all (int_eq y) ys) as (λ b. (if b then Forced y else NotUnit) ≡ Conflict → ⊥) [
+      | true ↦ λ is. cc
+      | false ↦ λ is. cc
+    ] e
+
+-- and isn't false
+unfalse-outside : (n : FalseSet) (clause : List ℤ) (x : ℤ) → literals_of (outside n clause) x ≡ true → n x ≡ false
+unfalse-outside n [] x m = cc
+unfalse-outside n (y ∷ ys) x m =
+    elim (n y) as (λ b. n y ≡ b → literals_of (cond (not b) (y ∷ outside n ys) (outside n ys)) x ≡ true → n x ≡ false) [
+      | true ↦ λ e later. unfalse-outside n ys x later
+      | false ↦ λ e either. elim (or_cases (int_eq x y) _ either) [
+        | inl here ↦ ap n (int_eq-true x y here) ∙ e
+        | inr later ↦ unfalse-outside n ys x later
+      ]
+    ] refl m
+
+pub forced-unfalse : (n : FalseSet) (clause : List ℤ) (k : ℤ) → effect n clause ≡ Forced k → n k ≡ false
+forced-unfalse n clause k e = unfalse-outside n clause k (forced-first (outside n clause) k e)
+
+-- a clause that is a conflict is false
+pub conflict-false : (n : FalseSet) (clause : List ℤ) → effect n clause ≡ Conflict → list_all n clause ≡ true
+conflict-false n [] e = refl
+conflict-false n (y ∷ ys) e =
+    elim (n y) as (λ b. n y ≡ b → effect_of_outside (cond (not b) (y ∷ outside n ys) (outside n ys)) ≡ Conflict → list_all n (y ∷ ys) ≡
+    true) [
+      | true ↦ λ own rest. and_from _ _ own (conflict-false n ys rest)
+      | false ↦ λ own rest. absurd (some-left y (outside n ys) rest)
+    ] refl e
 
 -- a short clause forces its literal, or is false
 pub short-not-unit : (n : FalseSet) (clause : List ℤ) → is_short clause ≡ true → effect n clause ≡ NotUnit → ⊥

@@ -12,6 +12,9 @@ pub mod Watched
 pub mod Guarded
 pub mod Visited
 pub mod Settled
+pub mod Reasoned
+pub mod Hinted
+pub mod Lined
 pub mod Looks
 pub mod Picked
 pub mod Dropped

@@ -1,5 +1,5 @@
 -- What follows from a clause on an answer, for the same answer.
-use Rattle.std.proofs.Common.{◌≡◌, subst, Option, None, Some, Result, Ok, Err, OnOk, IfOk, IfSome}
+use Rattle.std.proofs.Common.{◌≡◌, false, refl, subst, is_some, Option, None, Some, Result, Ok, Err, OnOk, IfOk, IfNone, IfSome}
 
 pub if-ok : {T E : Type 0} {P Q : T → Type 0} (r : Result T E) → ((x : T) → P x → Q x) → IfOk r P → IfOk r Q
 if-ok (Ok x) f h = f x h
@@ -16,3 +16,15 @@ if-some-any (Some x) f = f x
 pub if-some-at : {T : Type 0} (P : T → Type 0) (o : Option T) (x : T) → o ≡ Some x → IfSome o P → P x
 if-some-at P None x e h = cc
 if-some-at P (Some y) x e h = let same : y ≡ x = cc in subst P same h
+
+pub some-each : {T : Type 0} {P Q : T → Type 0} (o : Option T) → ((x : T) → P x → Q x) → IfSome o P → IfSome o Q
+some-each None f h = tt
+some-each (Some x) f h = f x h
+
+pub none-of : {T : Type 0} (o : Option T) → is_some o ≡ false → o ≡ None
+none-of None e = refl
+none-of (Some x) e = cc
+
+pub if-none-each : {T : Type 0} {P Q : Type 0} (o : Option T) → (P → Q) → IfNone o P → IfNone o Q
+if-none-each None f h = f h
+if-none-each (Some x) f h = tt

@@ -22,7 +22,7 @@ use Rattle.drat_checker.proofs.Visited.{true-more}
 use Rattle.drat_checker.proofs.Watched.{own-first, own-second}
 
 -- the literals of a front are among all
-front-false : (xs : List ℤ) (n : ℕ) (x : ℤ) → literals_of (take n xs) x ≡ true → literals_of xs x ≡ true
+pub front-false : (xs : List ℤ) (n : ℕ) (x : ℤ) → literals_of (take n xs) x ≡ true → literals_of xs x ≡ true
 front-false xs n x m =
     ap (λ (l : List ℤ). literals_of l x) (sym (take-append-drop n xs)) ∙ list_any-append (int_eq x) (take n xs) (drop n xs) ∙ or_left _ _ m
 

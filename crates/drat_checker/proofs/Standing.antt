@@ -1,5 +1,5 @@
 -- The clauses of places in their order: as a clause is put behind the others, or the first of its kind is taken out.
-use Rattle.std.proofs.Common.{◌≡◌, ℕ, zero, suc, ◌<◌, ◌≤◌, true, false, ℤ, List, [], ◌∷◌, ◌++◌, length, set, None, Some, if◌then◌else◌}
+use Rattle.std.proofs.Common.{◌≡◌, ℕ, zero, suc, ◌<◌, ◌≤◌, true, false, ℤ, List, [], ◌∷◌, ◌++◌, length, map, set, None, Some, if◌then◌else◌}
 use Rattle.std.proofs.Common.{Bool, ◌⊎◌, inl, inr, refl, sym, ap, ◌∙◌, subst, arith}
 use Rattle.std.specs.List.{list_all, list_any}
 use Rattle.std.proofs.lemmas.Bool.{and_from, and_parts, or_cases, or_left, or_right, both_ways}
@@ -60,6 +60,15 @@ place-push [] c zero d at = inr (refl, same_inside c d at)
 place-push [] c (suc n) d at = cc
 place-push (p ∷ ps) c zero d at = inl at
 place-push (p ∷ ps) c (suc n) d at = elim (place-push ps c n d at) [ inl old ↦ inl old | inr new ↦ inr (ap suc new.0, new.1) ]
+
+-- the places of clauses, one more, and what stands there
+pub places-push : (cs : List (List ℤ)) (c : List ℤ) → map Some cs ++ Some c ∷ [] ≡ map Some (cs ++ c ∷ [])
+places-push [] c = refl
+places-push (d ∷ ds) c = ap (λ (ps : Places). Some d ∷ ps) (places-push ds c)
+
+pub standing-all : (cs : List (List ℤ)) → standing (map Some cs) ≡ cs
+standing-all [] = refl
+standing-all (d ∷ ds) = ap (λ (l : List (List ℤ)). d ∷ l) (standing-all ds)
 
 -- the first of its kind is taken out
 pub place-within : (ps : Places) (n : ℕ) (c : List ℤ) → place_at ps n ≡ Some c → n < length ps

@@ -4,6 +4,9 @@ pub mod LiteralLists
 pub mod Flags
 pub mod Trail
 pub mod Propagation
+pub mod Reasons
+pub mod Hints
+pub mod Lines
 pub mod Database
 pub mod Watches
 pub mod Visits

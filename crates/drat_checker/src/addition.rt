@@ -1,45 +1,67 @@
 // Whether an addition is good, by what propagation finds from its clause, and together with each candidate. The roots are false before.
-ghost use Rattle.std.specs.Prelude.{◌≡◌, ◌++◌, not, OnOk, IfOk, IsTrue, IsFalse};
+ghost use Rattle.std.specs.Prelude.{◌≡◌, ◌∷◌, ◌++◌, [], ℤ, List, not, false, None, Some, IsTrue, is_some, OnOk, IfOk, IfSome, IsSome};
 ghost use Rattle.std.specs.List.{list_all};
+ghost use Rattle.std.specs.Option.{option_map};
 ghost use Rattle.lrat_rules.specs.Addition.{holds_negated};
 ghost use Rattle.drat_rules.specs.Quiet.{has_quiet};
 ghost use Rattle.drat_rules.specs.Addition.{others_of, passes_candidate, drat_fault};
-ghost use Rattle.drat_checker.specs.Places.{place_at, standing};
+ghost use Rattle.drat_checker.specs.declared.addition.Refutation.TheVariants.{Conflict};
+ghost use Rattle.drat_checker.specs.Places.{Places, place_at, standing};
 ghost use Rattle.drat_checker.specs.Propagation.{Clashes, Extends, HasAlso, SameQuiet, candidates_fault, fault_under, place_passes};
+ghost use Rattle.drat_checker.specs.Reasons.{AreReasons, ClashesAt, KeepsReasons, Refutes};
+ghost use Rattle.drat_checker.specs.Hints.{is_tautology};
+ghost use Rattle.drat_checker.specs.Lines.{FitOneMore, IsGoodLine};
 ghost use Rattle.drat_checker.specs.Watches.{AreWatched, IsSettled, MovesWatches};
 ghost use Rattle.drat_checker.specs.Roots.{AreRoots};
 
 use crate::database::Database;
 use crate::false_list::FalseList;
+use crate::line::LineHints;
 use crate::propagation::propagate;
 use crate::watches::Watches;
 use cnf_base::{Lit, OutOfMemory};
 use drat_rules::{propagation_law, quiet_law};
 use lrat_rules::Reason;
 
+/// How propagation came to a conflict.
+#[derive(Clone, Copy, Debug)]
+pub enum Refutation {
+    /// The negation of this literal, one of those that are assumed, is false.
+    Clash(Lit),
+    /// All literals of the clause of this number are false.
+    Conflict(u32),
+}
+
 /// Why the addition of a clause isn't good where these clauses stand; nothing where it is. In the end the roots alone are false again.
 pub fn addition_fault(
     db: &Database,
     kept: &mut Watches,
     trail: &mut FalseList,
+    line: &mut LineHints,
     clause: &[Lit],
 ) -> Result<Option<Reason>, OutOfMemory>
     requires watched { AreWatched kept.old db.now }
     requires roots { AreRoots db.now kept.old trail.old }
+    requires hints { line.old.hints ≡ [] }
+    requires groups { line.old.groups ≡ [] }
+    ensures wanted { line.new.is_wanted ≡ line.old.is_wanted }
+    ensures line { IfOk result (λ fault. fault ≡ None → IsTrue line.old.is_wanted → is_tautology clause.now ≡ false
+        → IsGoodLine db.now clause.now line.new.hints line.new.groups) }
     ensures fault { IfOk result (λ fault. fault ≡ drat_fault (standing db.now) clause.now) }
     ensures same { OnOk result (trail.new ≡ trail.old) }
     ensures watched { OnOk result (AreWatched kept.new db.now) }
-    ensures settled { OnOk result (IsSettled kept.new db.now trail.old) }
+    ensures settled { OnOk result (IsSettled kept.new db.now trail.old.literals) }
 {
     quiet_law();
     propagation_law();
     let roots = trail.len();
-    let refuted = is_refuted(db, kept, trail, clause)?;
-    if refuted {
+    let refutation = refute(db, kept, trail, clause)?;
+    if let Some(found) = refutation {
+        line.note_refutation(db, trail, found)?;
         trail.truncate(roots);
         return Ok(None);
     }
-    let fault = fault_under(db, kept, trail, clause)?;
+    let fault = fault_under(db, kept, trail, line, clause)?;
     trail.truncate(roots);
     Ok(fault)
 }
@@ -49,18 +71,25 @@ fn fault_under(
     db: &Database,
     kept: &mut Watches,
     trail: &mut FalseList,
+    line: &mut LineHints,
     clause: &[Lit],
 ) -> Result<Option<Reason>, OutOfMemory>
     requires watched { AreWatched kept.old db.now }
-    requires settled { IsSettled kept.old db.now trail.old }
-    ensures fault { IfOk result (λ fault. fault ≡ fault_under (standing db.now) trail.old clause.now) }
+    requires settled { IsSettled kept.old db.now trail.old.literals }
+    requires reasons { AreReasons db.now clause.now trail.old }
+    requires hints { line.old.hints ≡ [] }
+    requires groups { line.old.groups ≡ [] }
+    ensures fault { IfOk result (λ fault. fault ≡ fault_under (standing db.now) trail.old.literals clause.now) }
+    ensures wanted { line.new.is_wanted ≡ line.old.is_wanted }
+    ensures line { IfOk result (λ fault. fault ≡ None → IsTrue line.old.is_wanted → is_tautology clause.now ≡ false
+        → IsGoodLine db.now clause.now line.new.hints line.new.groups) }
     ensures same { OnOk result (trail.new ≡ trail.old) }
     ensures watched { OnOk result (AreWatched kept.new db.now) }
-    ensures moves { OnOk result (MovesWatches kept.old.pairs.items kept.new.pairs.items trail.old) }
+    ensures moves { OnOk result (MovesWatches kept.old.pairs.items kept.new.pairs.items trail.old.literals) }
 {
     match clause {
         [] => Ok(Some(Reason::NoConflict)),
-        [pivot, ..] => candidates_fault(db, kept, trail, *pivot),
+        [pivot, ..] => candidates_fault(db, kept, trail, line, clause, *pivot),
     }
 }
 
@@ -68,16 +97,24 @@ fn candidates_fault(
     db: &Database,
     kept: &mut Watches,
     trail: &mut FalseList,
+    line: &mut LineHints,
+    clause: &[Lit],
     pivot: Lit,
 ) -> Result<Option<Reason>, OutOfMemory>
     requires watched { AreWatched kept.old db.now }
-    requires settled { IsSettled kept.old db.now trail.old }
-    ensures fault { IfOk result (λ fault. fault ≡ candidates_fault (standing db.now) trail.old pivot) }
+    requires settled { IsSettled kept.old db.now trail.old.literals }
+    requires reasons { AreReasons db.now clause.now trail.old }
+    requires groups { line.old.groups ≡ [] }
+    ensures fault { IfOk result (λ fault. fault ≡ candidates_fault (standing db.now) trail.old.literals pivot) }
+    ensures wanted { line.new.is_wanted ≡ line.old.is_wanted }
+    ensures hints { line.new.hints ≡ line.old.hints }
+    ensures line { IfOk result (λ fault. fault ≡ None → IsTrue line.old.is_wanted → is_tautology clause.now ≡ false
+        → (others : List ℤ) → clause.now ≡ pivot ∷ others → IsGoodLine db.now clause.now [] line.new.groups) }
     ensures same { OnOk result (trail.new ≡ trail.old) }
     ensures watched { OnOk result (AreWatched kept.new db.now) }
-    ensures moves { OnOk result (MovesWatches kept.old.pairs.items kept.new.pairs.items trail.old) }
+    ensures moves { OnOk result (MovesWatches kept.old.pairs.items kept.new.pairs.items trail.old.literals) }
 {
-    let pass = all_pass(db, kept, trail, pivot)?;
+    let pass = all_pass(db, kept, trail, line, clause, pivot)?;
     if pass {
         Ok(None)
     } else {
@@ -85,32 +122,43 @@ fn candidates_fault(
     }
 }
 
-// Whether propagation comes to a conflict once a clause's literals are false too.
-fn is_refuted(
+// How propagation comes to a conflict, if it does, once a clause's literals are false too.
+fn refute(
     db: &Database,
     kept: &mut Watches,
     trail: &mut FalseList,
     clause: &[Lit],
-) -> Result<bool, OutOfMemory>
+) -> Result<Option<Refutation>, OutOfMemory>
     requires watched { AreWatched kept.old db.now }
-    requires settled { IsSettled kept.old db.now trail.old }
-    ensures refuted { IfOk result (λ refuted. refuted ≡ not (has_quiet (standing db.now) (trail.old ++ clause.now))) }
-    ensures same { IfOk result (λ refuted. IsFalse refuted → SameQuiet (standing db.now) (trail.old ++ clause.now) trail.new) }
+    requires settled { IsSettled kept.old db.now trail.old.literals }
+    ensures refuted { IfOk result (λ found. is_some found ≡ not (has_quiet (standing db.now) (trail.old.literals ++ clause.now))) }
+    ensures refutes { IfOk result (λ found. IfSome found (Refutes db.now trail.new clause.now)) }
+    ensures same { IfOk result (λ found. found ≡ None → SameQuiet (standing db.now) (trail.old.literals ++ clause.now) trail.new.literals) }
     ensures watched { OnOk result (AreWatched kept.new db.now) }
-    ensures moves { OnOk result (MovesWatches kept.old.pairs.items kept.new.pairs.items trail.old) }
-    ensures settled { IfOk result (λ refuted. IsFalse refuted → IsSettled kept.new db.now trail.new) }
-    ensures extends { OnOk result (Extends trail.old trail.new) }
+    ensures moves { OnOk result (MovesWatches kept.old.pairs.items kept.new.pairs.items trail.old.literals) }
+    ensures settled { IfOk result (λ found. found ≡ None → IsSettled kept.new db.now trail.new.literals) }
+    ensures extends { OnOk result (Extends trail.old.literals trail.new.literals) }
+    ensures reasons { OnOk result (KeepsReasons db.now clause.now trail.old trail.new) }
 {
     quiet_law();
     propagation_law();
     let count = trail.len();
     let clash = assume(trail, clause)?;
-    if clash {
-        return Ok(true);
+    if let Some(literal) = clash {
+        return Ok(Some(Refutation::Clash(literal)));
     }
-    let refuted = propagate(db, kept, trail, count)?;
+    let conflict = propagate(db, kept, trail, count)?;
     trail.apart_law();
-    Ok(refuted)
+    Ok(of_conflict(conflict))
+}
+
+fn of_conflict(conflict: Option<u32>) -> Option<Refutation>
+    ensures { result ≡ option_map Conflict conflict }
+{
+    match conflict {
+        None => None,
+        Some(number) => Some(Refutation::Conflict(number)),
+    }
 }
 
 // Whether each clause is no candidate, or is refuted together with the false literals.
@@ -118,18 +166,26 @@ fn all_pass(
     db: &Database,
     kept: &mut Watches,
     trail: &mut FalseList,
+    line: &mut LineHints,
+    clause: &[Lit],
     pivot: Lit,
 ) -> Result<bool, OutOfMemory>
     requires watched { AreWatched kept.old db.now }
-    requires settled { IsSettled kept.old db.now trail.old }
-    ensures pass { IfOk result (λ pass. pass ≡ list_all (passes_candidate (standing db.now) pivot trail.old) (standing db.now)) }
+    requires settled { IsSettled kept.old db.now trail.old.literals }
+    requires groups { line.old.groups ≡ [] }
+    requires reasons { AreReasons db.now clause.now trail.old }
+    ensures pass { IfOk result (λ pass. pass ≡ list_all (passes_candidate (standing db.now) pivot trail.old.literals) (standing db.now)) }
+    ensures wanted { line.new.is_wanted ≡ line.old.is_wanted }
+    ensures hints { line.new.hints ≡ line.old.hints }
+    ensures line { IfOk result (λ pass. IsTrue pass → IsTrue line.old.is_wanted → is_tautology clause.now ≡ false
+        → (others : List ℤ) → clause.now ≡ pivot ∷ others → IsGoodLine db.now clause.now [] line.new.groups) }
     ensures same { OnOk result (trail.new ≡ trail.old) }
     ensures watched { OnOk result (AreWatched kept.new db.now) }
-    ensures moves { OnOk result (MovesWatches kept.old.pairs.items kept.new.pairs.items trail.old) }
+    ensures moves { OnOk result (MovesWatches kept.old.pairs.items kept.new.pairs.items trail.old.literals) }
 {
     let numbers = db.numbers(pivot.negated());
     for number in numbers {
-        let good = passes_number(db, kept, trail, pivot, *number)?;
+        let good = passes_number(db, kept, trail, line, clause, pivot, *number)?;
         if !good {
             return Ok(false);
         }
@@ -142,19 +198,26 @@ fn passes_number(
     db: &Database,
     kept: &mut Watches,
     trail: &mut FalseList,
+    line: &mut LineHints,
+    clause: &[Lit],
     pivot: Lit,
     number: u32,
 ) -> Result<bool, OutOfMemory>
     requires watched { AreWatched kept.old db.now }
-    requires settled { IsSettled kept.old db.now trail.old }
-    ensures passes { IfOk result (λ passes. passes ≡ place_passes (standing db.now) pivot trail.old (place_at db.now number)) }
+    requires settled { IsSettled kept.old db.now trail.old.literals }
+    requires reasons { AreReasons db.now clause.now trail.old }
+    ensures passes { IfOk result (λ passes. passes ≡ place_passes (standing db.now) pivot trail.old.literals (place_at db.now number)) }
+    ensures wanted { line.new.is_wanted ≡ line.old.is_wanted }
+    ensures hints { line.new.hints ≡ line.old.hints }
+    ensures fits { IfOk result (λ passes. IsTrue passes → IsTrue line.old.is_wanted → is_tautology clause.now ≡ false
+        → FitOneMore db.now clause.now pivot number line.old.groups line.new.groups) }
     ensures same { OnOk result (trail.new ≡ trail.old) }
     ensures watched { OnOk result (AreWatched kept.new db.now) }
-    ensures moves { OnOk result (MovesWatches kept.old.pairs.items kept.new.pairs.items trail.old) }
+    ensures moves { OnOk result (MovesWatches kept.old.pairs.items kept.new.pairs.items trail.old.literals) }
 {
     match db.clause(number) {
         None => Ok(true),
-        Some(other) => passes(db, kept, trail, pivot, other),
+        Some(other) => passes(db, kept, trail, line, clause, pivot, number, other),
     }
 }
 
@@ -163,24 +226,60 @@ fn passes(
     db: &Database,
     kept: &mut Watches,
     trail: &mut FalseList,
+    line: &mut LineHints,
+    clause: &[Lit],
     pivot: Lit,
+    number: u32,
     other: &[Lit],
 ) -> Result<bool, OutOfMemory>
     requires watched { AreWatched kept.old db.now }
-    requires settled { IsSettled kept.old db.now trail.old }
-    ensures passes { IfOk result (λ passes. passes ≡ passes_candidate (standing db.now) pivot trail.old other.now) }
+    requires settled { IsSettled kept.old db.now trail.old.literals }
+    requires stands { place_at db.now number ≡ Some other.now }
+    requires reasons { AreReasons db.now clause.now trail.old }
+    ensures passes { IfOk result (λ passes. passes ≡ passes_candidate (standing db.now) pivot trail.old.literals other.now) }
+    ensures wanted { line.new.is_wanted ≡ line.old.is_wanted }
+    ensures hints { line.new.hints ≡ line.old.hints }
+    ensures fits { IfOk result (λ passes. IsTrue passes → IsTrue line.old.is_wanted → is_tautology clause.now ≡ false
+        → FitOneMore db.now clause.now pivot number line.old.groups line.new.groups) }
     ensures same { OnOk result (trail.new ≡ trail.old) }
     ensures watched { OnOk result (AreWatched kept.new db.now) }
-    ensures moves { OnOk result (MovesWatches kept.old.pairs.items kept.new.pairs.items trail.old) }
+    ensures moves { OnOk result (MovesWatches kept.old.pairs.items kept.new.pairs.items trail.old.literals) }
 {
     let holds = holds_negated(other, pivot);
     if !holds {
         return Ok(true);
     }
     let count = trail.len();
-    let refuted = is_candidate_refuted(db, kept, trail, pivot, other)?;
+    let refutation = refute_candidate(db, kept, trail, pivot, other)?;
+    note_candidate(db, trail, line, clause, pivot, number, other, refutation)?;
     trail.truncate(count);
-    Ok(refuted)
+    Ok(refutation.is_some())
+}
+
+// The group of a candidate that is refuted, with the literals that are false then.
+fn note_candidate(
+    db: &Database,
+    trail: &FalseList,
+    line: &mut LineHints,
+    clause: &[Lit],
+    pivot: Lit,
+    number: u32,
+    other: &[Lit],
+    refutation: Option<Refutation>,
+) -> Result<(), OutOfMemory>
+    requires stands { place_at db.now number ≡ Some other.now }
+    requires holds { IsTrue (holds_negated pivot other.now) }
+    ensures wanted { line.new.is_wanted ≡ line.old.is_wanted }
+    ensures hints { line.new.hints ≡ line.old.hints }
+    ensures fits { OnOk result (IsSome refutation → IsTrue line.old.is_wanted → is_tautology clause.now ≡ false
+        → AreReasons db.now (clause.now ++ others_of pivot other.now) trail.now
+        → IfSome refutation (Refutes db.now trail.now (clause.now ++ others_of pivot other.now))
+        → FitOneMore db.now clause.now pivot number line.old.groups line.new.groups) }
+{
+    match refutation {
+        None => Ok(()),
+        Some(found) => line.add_candidate(db, trail, clause, pivot, number, other, found),
+    }
 }
 
 pub fn holds_negated(clause: &[Lit], pivot: Lit) -> bool
@@ -189,63 +288,74 @@ pub fn holds_negated(clause: &[Lit], pivot: Lit) -> bool
     clause.contains(&pivot.negated())
 }
 
-// Whether propagation comes to a conflict once a candidate's literals are false too, but for the pivot's negation.
-fn is_candidate_refuted(
+// The same of a candidate's literals, but for the pivot's negation.
+fn refute_candidate(
     db: &Database,
     kept: &mut Watches,
     trail: &mut FalseList,
     pivot: Lit,
     other: &[Lit],
-) -> Result<bool, OutOfMemory>
+) -> Result<Option<Refutation>, OutOfMemory>
     requires watched { AreWatched kept.old db.now }
-    requires settled { IsSettled kept.old db.now trail.old }
-    ensures refuted { IfOk result (λ refuted. refuted ≡ not (has_quiet (standing db.now) (trail.old ++ others_of pivot other.now))) }
+    requires settled { IsSettled kept.old db.now trail.old.literals }
+    ensures refutes { IfOk result (λ found. IfSome found (Refutes db.now trail.new (others_of pivot other.now))) }
+    ensures refuted { IfOk result (λ found. is_some found
+        ≡ not (has_quiet (standing db.now) (trail.old.literals ++ others_of pivot other.now))) }
     ensures watched { OnOk result (AreWatched kept.new db.now) }
-    ensures moves { OnOk result (MovesWatches kept.old.pairs.items kept.new.pairs.items trail.old) }
-    ensures extends { OnOk result (Extends trail.old trail.new) }
+    ensures moves { OnOk result (MovesWatches kept.old.pairs.items kept.new.pairs.items trail.old.literals) }
+    ensures extends { OnOk result (Extends trail.old.literals trail.new.literals) }
+    ensures reasons { OnOk result (KeepsReasons db.now (others_of pivot other.now) trail.old trail.new) }
 {
     quiet_law();
     propagation_law();
     let count = trail.len();
     let clash = assume_others(trail, pivot, other)?;
-    if clash {
-        return Ok(true);
+    if let Some(literal) = clash {
+        return Ok(Some(Refutation::Clash(literal)));
     }
-    let refuted = propagate(db, kept, trail, count)?;
+    let conflict = propagate(db, kept, trail, count)?;
     trail.apart_law();
-    Ok(refuted)
+    Ok(of_conflict(conflict))
 }
 
-// Makes a clause's literals false. The answer is whether one of them clashes: its negation is false.
-fn assume(trail: &mut FalseList, clause: &[Lit]) -> Result<bool, OutOfMemory>
-    ensures clash { IfOk result (λ clash. IsTrue clash → Clashes (trail.old ++ clause.now)) }
-    ensures also { IfOk result (λ clash. IsFalse clash → HasAlso clause.now trail.old trail.new) }
-    ensures extends { OnOk result (Extends trail.old trail.new) }
+// Makes a clause's literals false. The answer is one of them that clashes: its negation is false.
+fn assume(trail: &mut FalseList, clause: &[Lit]) -> Result<Option<Lit>, OutOfMemory>
+    ensures clash { IfOk result (λ clash. IsSome clash → Clashes (trail.old.literals ++ clause.now)) }
+    ensures held { IfOk result (λ clash. IfSome clash (ClashesAt trail.new clause.now)) }
+    ensures also { IfOk result (λ clash. clash ≡ None → HasAlso clause.now trail.old.literals trail.new.literals) }
+    ensures extends { OnOk result (Extends trail.old.literals trail.new.literals) }
+    ensures reasons { OnOk result ((places : Places) → KeepsReasons places clause.now trail.old trail.new) }
 {
     for literal in clause {
-        let clash = trail.falsify(*literal)?;
+        let clash = trail.falsify(*literal, None)?;
         if clash {
-            return Ok(true);
+            return Ok(Some(*literal));
         }
     }
-    Ok(false)
+    Ok(None)
 }
 
 // The same of a candidate's literals, but for the pivot's negation.
-fn assume_others(trail: &mut FalseList, pivot: Lit, clause: &[Lit]) -> Result<bool, OutOfMemory>
-    ensures clash { IfOk result (λ clash. IsTrue clash → Clashes (trail.old ++ others_of pivot clause.now)) }
-    ensures also { IfOk result (λ clash. IsFalse clash → HasAlso (others_of pivot clause.now) trail.old trail.new) }
-    ensures extends { OnOk result (Extends trail.old trail.new) }
+fn assume_others(
+    trail: &mut FalseList,
+    pivot: Lit,
+    clause: &[Lit],
+) -> Result<Option<Lit>, OutOfMemory>
+    ensures clash { IfOk result (λ clash. IsSome clash → Clashes (trail.old.literals ++ others_of pivot clause.now)) }
+    ensures held { IfOk result (λ clash. IfSome clash (ClashesAt trail.new (others_of pivot clause.now))) }
+    ensures also { IfOk result (λ clash. clash ≡ None → HasAlso (others_of pivot clause.now) trail.old.literals trail.new.literals) }
+    ensures extends { OnOk result (Extends trail.old.literals trail.new.literals) }
+    ensures reasons { OnOk result ((places : Places) → KeepsReasons places (others_of pivot clause.now) trail.old trail.new) }
 {
     let negated = pivot.negated();
     for literal in clause {
         if *literal == negated {
             continue;
         }
-        let clash = trail.falsify(*literal)?;
+        let clash = trail.falsify(*literal, None)?;
         if clash {
-            return Ok(true);
+            return Ok(Some(*literal));
         }
     }
-    Ok(false)
+    Ok(None)
 }

@@ -1,11 +1,11 @@
 // The clauses that stand, with lists of their numbers: by the literals that they hold, by a hash of the clause, and of the short ones,
 // which propagation begins with.
-ghost use Rattle.std.specs.Prelude.{◌≡◌, ◌<◌, ℕ, ◌∷◌, [], ◌++◌, ℤ, List, length, OnOk, OnErr, IsTrue, IfOk, IfSome, None, Some, set};
+ghost use Rattle.std.specs.Prelude.{◌≡◌, ◌<◌, ℕ, ◌∷◌, [], ◌++◌, ℤ, List, length, map, OnOk, OnErr, IsTrue, IfOk, IfSome, None, Some, set};
 ghost use Rattle.std.specs.Option.{option_copied};
 ghost use Rattle.lrat_rules.specs.ByLiteral.{place_of};
 ghost use Rattle.lrat_rules.specs.Chain.{literals_of};
 ghost use Rattle.drat_rules.specs.Clauses.{equality_of};
-ghost use Rattle.drat_checker.specs.Places.{IsFirst, IsNone, place_at, standing};
+ghost use Rattle.drat_checker.specs.Places.{IsFirst, IsNone, place_at};
 ghost use Rattle.drat_checker.specs.Numbers.{KeepsNumbers, KeepsStanding, KeepsLists, KeepsStandingLists, has_number};
 ghost use Rattle.drat_checker.specs.Database.{IsHeld, greatest, hash_of, is_short, joined};
 
@@ -59,7 +59,7 @@ impl Database {
 
     /// The formula's clauses.
     pub fn open(alloc: Global, formula: &Cnf) -> Result<Database, OutOfMemory>
-        ensures { IfOk result (λ db. standing db ≡ formula.now.clauses) }
+        ensures { IfOk result (λ db. db ≡ map Some formula.now.clauses) }
     {
         let mut db = Database::new(alloc);
         for i in 0..formula.len() {

@@ -1,12 +1,12 @@
 // The literals that are false while an addition is judged, in the order in which they became false, each once: the roots, those of the
-// clause, those of a candidate, and the negations of what is forced. None stands beside its negation. A flag tells of each literal whether
-// it is one of them.
-ghost use Rattle.std.specs.Prelude.{◌≡◌, ◌<◌, ◌&&◌, ℤ, [], neg_ℤ, not, OnErr, IfOk, take, length, if◌then◌else◌, slice_index_or};
+// clause, those of a candidate, and the negations of what is forced, these with the number of the clause that forced them. None stands
+// beside its negation. A flag tells of each literal whether it is one of them.
+ghost use Rattle.std.specs.Prelude.{◌≡◌, ◌<◌, ◌&&◌, ℤ, neg_ℤ, not, None, OnErr, IfOk, length, if◌then◌else◌, slice_index_or};
 ghost use Rattle.lrat_rules.specs.Chain.{literals_of, effect};
 ghost use Rattle.lrat_rules.specs.Pass.{effect_of_forced, forced_with, agrees};
 ghost use Rattle.drat_checker.specs.Flags.{is_set, has_flag};
 ghost use Rattle.lrat_rules.specs.Trail.{with_last};
-ghost use Rattle.drat_checker.specs.Trail.{IsApart};
+ghost use Rattle.drat_checker.specs.Trail.{AreOnce, IsApart, cut, no_literals, with_reason};
 
 use crate::flags::Flags;
 use cnf_base::{Lit, OutOfMemory};
@@ -19,56 +19,68 @@ use std::marker::Model;
 #[derive(Drop)]
 pub struct FalseList {
     literals: Vec<Lit>,
+    reasons: Vec<Option<u32>>,
     flags: Flags,
 }
 
 impl Model for FalseList {
-    ghost use Rattle.std.specs.Prelude.{List, ℤ};
-    ghost use Rattle.drat_checker.specs.Trail.{IsFalseList};
+    ghost use Rattle.drat_checker.specs.Trail.{IsFalseList, Trail};
 
-    ghost Value = { List ℤ };
+    ghost Value = { Trail };
 
-    ghost view = { λ f. f.literals.items };
+    ghost view = { λ f. record { literals = f.literals.items; reasons = f.reasons.items } };
 
-    ghost invariant = { λ f. IsFalseList f.flags f.literals.items };
+    ghost invariant = { λ f. IsFalseList f.flags f.literals.items f.reasons.items };
 }
 
 impl FalseList {
     pub fn new(alloc: Global) -> FalseList
-        ensures { result ≡ [] }
+        ensures { result ≡ no_literals }
     {
         FalseList {
             literals: Vec::new(alloc),
+            reasons: Vec::new(alloc),
             flags: Flags::new(alloc),
         }
     }
 
     pub fn len(&self) -> usize
-        ensures { result ≡ length self.now }
+        ensures literals { result ≡ length self.now.literals }
+        ensures reasons { result ≡ length self.now.reasons }
     {
         self.literals.len()
     }
 
     /// The literal at a place.
     pub fn literal(&self, place: usize) -> Lit
-        requires { place < length self.now }
-        ensures { result ≡ slice_index_or self.now place result }
+        requires { place < length self.now.literals }
+        ensures { result ≡ slice_index_or self.now.literals place result }
     {
         self.literals[place]
     }
 
     #[inline(always)]
     pub fn contains(&self, literal: Lit) -> bool
-        ensures { result ≡ literals_of self.now literal }
+        ensures { result ≡ literals_of self.now.literals literal }
     {
         self.flags.is_set(literal)
     }
 
+    /// Why the literal at a place is false: by the clause of this number, or it is assumed.
+    pub fn reason(&self, place: usize) -> Option<u32>
+        requires { place < length self.now.reasons }
+        ensures { result ≡ slice_index_or self.now.reasons place None }
+    {
+        self.reasons[place]
+    }
+
     /// Makes a literal false, unless its negation is: then the answer is true, and nothing changes.
     #[inline(always)]
-    pub fn falsify(&mut self, literal: Lit) -> Result<bool, OutOfMemory>
-        ensures clash { IfOk result (λ clash. clash ≡ literals_of self.old (neg_ℤ literal)) }
-        ensures literals { IfOk result (λ clash. self.new ≡ (if clash then self.old else with_last literal self.old)) }
+    pub fn falsify(&mut self, literal: Lit, reason: Option<u32>) -> Result<bool, OutOfMemory>
+        ensures clash { IfOk result (λ clash. clash ≡ literals_of self.old.literals (neg_ℤ literal)) }
+        ensures literals { IfOk result (λ clash. self.new.literals
+            ≡ (if clash then self.old.literals else with_last literal self.old.literals)) }
+        ensures reasons { IfOk result (λ clash. self.new ≡ (if clash then self.old else with_reason literal reason self.old)) }
         ensures err { OnErr result (self.new ≡ self.old) }
     {
         let _var = literal.var();
@@ -79,25 +91,28 @@ impl FalseList {
             return Ok(false);
         }
         self.flags.reserve(literal)?;
-        self.literals.push(literal)?;
+        self.literals.reserve(1)?;
+        self.reasons.push(reason)?;
+        self.literals.push_reserved(literal);
         self.flags.set(literal);
         Ok(false)
     }
 
     /// Takes back the literals behind the first ones.
     pub fn truncate(&mut self, count: usize)
-        ensures { self.new ≡ take count self.old }
+        ensures { self.new ≡ cut count self.old }
     {
         if count < self.literals.len() {
             clear_all(&mut self.flags, &self.literals.as_slice()[count..]);
             self.literals.truncate(count);
+            self.reasons.truncate(count);
         }
     }
 
     /// What a clause does under these false literals.
     #[inline(always)]
     pub fn effect_of(&self, clause: &[Lit]) -> Effect
-        ensures { result ≡ effect (literals_of self.now) clause.now }
+        ensures { result ≡ effect (literals_of self.now.literals) clause.now }
     {
         let mut forced = None;
         for literal in clause {
@@ -111,9 +126,16 @@ impl FalseList {
         effect_of_forced(forced)
     }
 
+    /// For the prover alone: each stands once.
+    pub fn once_law(&self)
+        ensures { AreOnce self.now.literals }
+    {
+        let _len = self.literals.len();
+    }
+
     /// For the prover alone: none stands beside its negation.
     pub fn apart_law(&self)
-        ensures { IsApart self.now }
+        ensures { IsApart self.now.literals }
     {
         let _len = self.literals.len();
     }
@@ -125,8 +147,9 @@ impl fmt::Debug for FalseList {
     }
 }
 
+/// Clears the flags of literals.
 #[inline(always)]
-fn clear_all(flags: &mut Flags, literals: &[Lit])
+pub fn clear_all(flags: &mut Flags, literals: &[Lit])
     ensures cleared { (x : ℤ) → is_set flags.new x ≡ (not (literals_of literals.now x) && is_set flags.old x) }
     ensures flags { (x : ℤ) → has_flag flags.new x ≡ has_flag flags.old x }
 {

@@ -1,4 +1,4 @@
-// The judge of a proof's steps. It keeps the clauses that stand, in their order, and what is known of the roots.
+// The judge of a proof's steps, in whose contract the clauses that stand are a list.
 ghost use Rattle.std.specs.Prelude.{◌≡◌, [], ◌∷◌, ◌++◌, IfOk, OnErr, IfNone, OnSome, OnOk, IsTrue};
 ghost use Rattle.drat_text.specs.declared.step.DratStep.TheVariants.{Add};
 ghost use Rattle.drat_rules.specs.Clauses.{equality_of, without_first_by};
@@ -6,14 +6,10 @@ ghost use Rattle.drat_rules.specs.Addition.{drat_fault};
 ghost use Rattle.drat_rules.specs.Run.{drat_step_fault, after_by};
 ghost use Rattle.drat_checker.specs.Memory.{is_addition};
 
-use crate::addition::addition_fault;
-use crate::blocked::is_blocked;
-use crate::database::Database;
-use crate::false_list::FalseList;
-use crate::roots::{Roots, lowered, raised, settle};
-use crate::watches::Watches;
+use crate::line::LineHints;
+use crate::numbered::NumberedJudge;
 use cnf_base::{Cnf, Lit, OutOfMemory};
-use drat_rules::{Deletions, quiet_law};
+use drat_rules::Deletions;
 use drat_text::DratStep;
 use lrat_rules::Reason;
 use std::alloc::Global;
@@ -22,22 +18,17 @@ use std::marker::Model;
 /// Judges the steps of a DRAT proof in turn, from a formula's clauses on.
 #[derive(Debug, Drop)]
 pub struct DratJudge {
-    db: Database,
-    kept: Watches,
-    trail: FalseList,
-    roots: Roots,
+    judge: NumberedJudge,
+    line: LineHints,
 }
 
 impl Model for DratJudge {
     ghost use Rattle.std.specs.Prelude.{List, ℤ};
     ghost use Rattle.drat_checker.specs.Places.{standing};
-    ghost use Rattle.drat_checker.specs.Roots.{AreKept};
 
     ghost Value = { List (List ℤ) };
 
-    ghost view = { λ judge. standing judge.db };
-
-    ghost invariant = { λ judge. AreKept judge.roots judge.db judge.kept judge.trail };
+    ghost view = { λ judge. standing judge.judge };
 }
 
 impl DratJudge {
@@ -45,12 +36,10 @@ impl DratJudge {
     pub fn open(alloc: Global, formula: &Cnf) -> Result<DratJudge, OutOfMemory>
         ensures { IfOk result (λ judge. judge ≡ formula.now.clauses) }
     {
-        let db = Database::open(alloc, formula)?;
+        let judge = NumberedJudge::open(alloc, formula)?;
         Ok(DratJudge {
-            db,
-            kept: Watches::new(alloc),
-            trail: FalseList::new(alloc),
-            roots: Roots::Lost,
+            judge,
+            line: LineHints::new(alloc, false),
         })
     }
 
@@ -83,58 +72,15 @@ impl DratJudge {
         ensures err { OnErr result (self.new ≡ self.old) }
         ensures memory { OnErr result (IsTrue (is_addition (Add clause.now))) }
     {
-        let fault = self.fault_of(clause)?;
-        if let Some(reason) = fault {
-            return Ok(Some(reason));
-        }
-        self.put(clause)?;
-        Ok(None)
-    }
-
-    fn fault_of(&mut self, clause: &[Lit]) -> Result<Option<Reason>, OutOfMemory>
-        ensures fault { IfOk result (λ fault. fault ≡ drat_fault self.old clause.now) }
-        ensures same { self.new ≡ self.old }
-    {
-        quiet_law();
-        if is_blocked(&self.db, clause) {
-            return Ok(None);
-        }
-        let roots = self.roots;
-        self.roots = Roots::Lost;
-        let clash = settle(&self.db, &mut self.kept, &mut self.trail, roots)?;
-        if clash {
-            self.roots = Roots::Clash;
-            return Ok(None);
-        }
-        let fault = addition_fault(&self.db, &mut self.kept, &mut self.trail, clause)?;
-        self.roots = Roots::Settled;
-        Ok(fault)
-    }
-
-    fn put(&mut self, clause: &[Lit]) -> Result<(), OutOfMemory>
-        ensures ok { OnOk result (self.new ≡ self.old ++ clause.now ∷ []) }
-        ensures err { OnErr result (self.new ≡ self.old) }
-    {
-        self.db.push(clause)?;
-        self.roots = raised(
-            &self.db,
-            &mut self.kept,
-            &mut self.trail,
-            self.roots,
-            clause,
-        );
-        Ok(())
+        self.judge.add(&mut self.line, clause)
     }
 
     fn delete(&mut self, deletions: Deletions, clause: &[Lit])
         ensures { self.new ≡ without_first_by (equality_of deletions) clause.now self.old }
     {
-        match self.db.find(deletions, clause) {
+        match self.judge.find(deletions, clause) {
             None => {}
-            Some(number) => {
-                self.roots = lowered(&self.db, &self.trail, self.roots, number);
-                self.db.clear(number);
-            }
+            Some(number) => self.judge.clear(number),
         }
     }
 }

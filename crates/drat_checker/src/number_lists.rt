@@ -35,13 +35,13 @@ impl NumberLists {
         }
     }
 
-    /// Enters a number in the list of a key. No list loses a number, also where memory is refused.
+    /// Enters a number in the list of a key, once for each clause. No list loses a number, also where memory is refused.
     pub fn enter(&mut self, alloc: Global, key: u64, number: u32) -> Result<(), OutOfMemory>
         ensures kept { KeepsLists self.old self.new }
         ensures entered { OnOk result (IsTrue (has_number number (numbers_of self.new key))) }
     {
         let numbers = self.lists.entry(key)?.or_insert(Numbers::new(alloc));
-        numbers.push(number)
+        numbers.push_once(number)
     }
 
     /// Takes the list of a key out. It has none then.

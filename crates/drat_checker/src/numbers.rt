@@ -76,6 +76,17 @@ impl Numbers {
         Ok(())
     }
 
+    /// The same, unless it is the last one already.
+    pub fn push_once(&mut self, number: u32) -> Result<(), OutOfMemory>
+        ensures kept { KeepsNumbers self.old self.new }
+        ensures entered { OnOk result (IsTrue (has_number number self.new)) }
+    {
+        if ends_with(self.numbers.as_slice(), number) {
+            return Ok(());
+        }
+        self.push(number)
+    }
+
     /// One of the numbers may be of a clause that stands no more. The answer is whether none is left.
     pub fn leave(&mut self, store: &Store) -> bool
         ensures kept { KeepsStanding store.now self.old self.new }
@@ -87,6 +98,17 @@ impl Numbers {
             self.gone = 0;
         }
         self.numbers.is_empty()
+    }
+}
+
+// Whether a number is the last one.
+#[inline(always)]
+fn ends_with(numbers: &[u32], number: u32) -> bool
+    ensures { IsTrue result → IsTrue (has_number number numbers.now) }
+{
+    match numbers {
+        [] => false,
+        [.., last] => *last == number,
     }
 }
 

@@ -1,12 +1,13 @@
 // The roots: the literals that are false whatever is added, since propagation finds them from the clauses alone. They are kept from line to
 // line, and found anew only where a clause goes that may have forced one of them.
-ghost use Rattle.std.specs.Prelude.{◌≡◌, [], None, false, set, IfOk, OnOk, IsTrue, IsFalse};
-ghost use Rattle.drat_rules.specs.Quiet.{has_quiet};
+ghost use Rattle.std.specs.Prelude.{◌≡◌, [], None, Some, set, take, IfOk, IfSome, OnOk};
 ghost use Rattle.drat_checker.specs.declared.roots.Roots.TheVariants.{Stale, Settled};
-ghost use Rattle.drat_checker.specs.Places.{Places, standing};
+ghost use Rattle.drat_checker.specs.Places.{Places, place_at, standing};
 ghost use Rattle.drat_checker.specs.declared.watches.Watches.{Watches as Kept};
-ghost use Rattle.drat_checker.specs.Watches.{AreWatched};
-ghost use Rattle.drat_checker.specs.Roots.{AreKept, AreRoots, IsGrowing, WereKept};
+ghost use Rattle.drat_checker.specs.Propagation.{Derives};
+ghost use Rattle.drat_checker.specs.Reasons.{AreReasons};
+ghost use Rattle.drat_checker.specs.Watches.{AreTrue, AreWatched, IsGuarded};
+ghost use Rattle.drat_checker.specs.Roots.{AreKept, AreRoots, IsClash, IsGrowing, WereKept};
 
 use crate::database::Database;
 use crate::false_list::FalseList;
@@ -25,21 +26,21 @@ pub enum Roots {
     Stale,
     /// the false literals are the roots
     Settled,
-    /// propagation from the clauses alone comes to a conflict
-    Clash,
+    /// propagation from the clauses alone came to a conflict: the clause of this number is false under the false literals
+    Clash(u32),
 }
 
-/// Makes the false literals the roots, unless they are. The answer is whether that comes to a conflict.
+/// Makes the false literals the roots, unless they are. The answer is the number of a clause that is false then: a conflict.
 pub fn settle(
     db: &Database,
     kept: &mut Watches,
     trail: &mut FalseList,
     roots: Roots,
-) -> Result<bool, OutOfMemory>
+) -> Result<Option<u32>, OutOfMemory>
     requires { AreKept roots db.now kept.old trail.old }
     ensures watched { OnOk result (AreWatched kept.new db.now) }
-    ensures clash { IfOk result (λ clash. IsTrue clash → has_quiet (standing db.now) [] ≡ false) }
-    ensures settled { IfOk result (λ clash. IsFalse clash → AreRoots db.now kept.new trail.new) }
+    ensures clash { IfOk result (λ clash. IfSome clash (IsClash db.now trail.new)) }
+    ensures settled { IfOk result (λ clash. clash ≡ None → AreRoots db.now kept.new trail.new) }
 {
     match roots {
         Roots::Lost => {
@@ -47,27 +48,53 @@ pub fn settle(
             find(db, kept, trail)
         }
         Roots::Stale => find(db, kept, trail),
-        Roots::Settled => Ok(false),
-        Roots::Clash => Ok(true),
+        Roots::Settled => Ok(None),
+        Roots::Clash(number) => Ok(Some(number)),
     }
 }
 
 // Finds the roots anew. The short clauses are taken first: no others force anything where no literal is false.
-fn find(db: &Database, kept: &mut Watches, trail: &mut FalseList) -> Result<bool, OutOfMemory>
+fn find(
+    db: &Database,
+    kept: &mut Watches,
+    trail: &mut FalseList,
+) -> Result<Option<u32>, OutOfMemory>
     requires { AreWatched kept.old db.now }
     ensures watched { OnOk result (AreWatched kept.new db.now) }
-    ensures clash { IfOk result (λ clash. IsTrue clash → has_quiet (standing db.now) [] ≡ false) }
-    ensures settled { IfOk result (λ clash. IsFalse clash → AreRoots db.now kept.new trail.new) }
+    ensures clash { IfOk result (λ clash. IfSome clash (IsClash db.now trail.new)) }
+    ensures settled { IfOk result (λ clash. clash ≡ None → AreRoots db.now kept.new trail.new) }
 {
     quiet_law();
     propagation_law();
     trail.truncate(0);
-    let clash = take_short(db, trail)?;
-    if clash {
-        return Ok(true);
+    let short = take_short(db, trail)?;
+    match short {
+        Some(number) => Ok(Some(number)),
+        None => find_rest(db, kept, trail),
     }
-    let clash = propagate(db, kept, trail, 0)?;
-    Ok(clash)
+}
+
+// The same once the short clauses are taken.
+fn find_rest(
+    db: &Database,
+    kept: &mut Watches,
+    trail: &mut FalseList,
+) -> Result<Option<u32>, OutOfMemory>
+    requires watched { AreWatched kept.old db.now }
+    requires holds { AreTrue db.now trail.old.literals }
+    requires derives { Derives (standing db.now) [] trail.old.literals }
+    requires reasons { AreReasons db.now [] trail.old }
+    ensures watched { OnOk result (AreWatched kept.new db.now) }
+    ensures clash { IfOk result (λ clash. IfSome clash (IsClash db.now trail.new)) }
+    ensures settled { IfOk result (λ clash. clash ≡ None → AreRoots db.now kept.new trail.new) }
+{
+    quiet_law();
+    propagation_law();
+    let late = propagate(db, kept, trail, 0)?;
+    match late {
+        Some(number) => Ok(Some(number)),
+        None => Ok(None),
+    }
 }
 
 /// What is known once a clause was put behind the others.
@@ -88,8 +115,8 @@ pub fn raised(
             Ok(()) => Roots::Stale,
             Err(_) => Roots::Lost,
         },
-        Roots::Clash => match watch(db, kept, trail, clause) {
-            Ok(()) => Roots::Clash,
+        Roots::Clash(number) => match watch(db, kept, trail, clause) {
+            Ok(()) => Roots::Clash(number),
             Err(_) => Roots::Lost,
         },
         Roots::Settled => match raise(db, kept, trail, clause) {
@@ -126,7 +153,7 @@ fn raise(
 {
     let number = kept.count()?;
     kept.enter(trail, number, Some(clause))?;
-    let roots = grow(db, kept, trail, clause)?;
+    let roots = grow(db, kept, trail, number, clause)?;
     Ok(roots)
 }
 
@@ -135,8 +162,10 @@ fn grow(
     db: &Database,
     kept: &mut Watches,
     trail: &mut FalseList,
+    number: u32,
     clause: &[Lit],
 ) -> Result<Roots, OutOfMemory>
+    requires stands { place_at db.now number ≡ Some clause.now }
     requires watched { AreWatched kept.old db.now }
     requires growing { IsGrowing db.now clause.now kept.old trail.old }
     ensures { IfOk result (λ roots. AreKept roots db.now kept.new trail.new) }
@@ -144,15 +173,34 @@ fn grow(
     quiet_law();
     propagation_law();
     let count = trail.len();
-    let clash = take_clause(trail, clause)?;
-    if clash {
-        return Ok(Roots::Clash);
+    let own = take_clause(trail, number, clause)?;
+    match own {
+        Some(number) => Ok(Roots::Clash(number)),
+        None => spread(db, kept, trail, count),
     }
-    let late = propagate(db, kept, trail, count)?;
-    if late {
-        return Ok(Roots::Clash);
+}
+
+// The roots grow by what the literals from a place on force.
+fn spread(
+    db: &Database,
+    kept: &mut Watches,
+    trail: &mut FalseList,
+    from: usize,
+) -> Result<Roots, OutOfMemory>
+    requires watched { AreWatched kept.old db.now }
+    requires guarded { IsGuarded db.now kept.old.pairs.items (take from trail.old.literals) trail.old.literals }
+    requires holds { AreTrue db.now trail.old.literals }
+    requires derives { Derives (standing db.now) [] trail.old.literals }
+    requires reasons { AreReasons db.now [] trail.old }
+    ensures { IfOk result (λ roots. AreKept roots db.now kept.new trail.new) }
+{
+    quiet_law();
+    propagation_law();
+    let conflict = propagate(db, kept, trail, from)?;
+    match conflict {
+        Some(number) => Ok(Roots::Clash(number)),
+        None => Ok(Roots::Settled),
     }
-    Ok(Roots::Settled)
 }
 
 /// What is known once the clause of a number is taken out: the roots stay where it forces nothing under them, since then it forced none of
@@ -164,7 +212,7 @@ pub fn lowered(db: &Database, trail: &FalseList, roots: Roots, number: u32) -> R
     match roots {
         Roots::Lost => Roots::Lost,
         Roots::Stale => Roots::Stale,
-        Roots::Clash => Roots::Stale,
+        Roots::Clash(_) => Roots::Stale,
         Roots::Settled => match db.clause(number) {
             None => Roots::Stale,
             Some(clause) => match trail.effect_of(clause) {

@@ -1,7 +1,7 @@
 // Two watched literals of each clause that isn't short, and the lists of the numbers that watch a literal: a clause needs to be looked at
 // only where one of its two becomes false. Taking literals back changes no watch. A list may have numbers that watch it no more: they go
 // when they are met. (Moskewicz, Madigan, Zhao, Zhang, Malik: Chaff, DAC 2001.)
-ghost use Rattle.std.specs.Prelude.{◌≡◌, ◌<◌, ◌∷◌, ◌++◌, [], ℕ, ℤ, List, length, Some, None, false, true, IsTrue, IsFalse};
+ghost use Rattle.std.specs.Prelude.{◌≡◌, ◌<◌, ◌∷◌, ◌++◌, [], ℕ, ℤ, List, length, Some, None, false, true, IsTrue};
 ghost use Rattle.std.specs.Prelude.{IfOk, OnOk, IfSome, IsSome, is_some};
 ghost use Rattle.std.specs.List.{list_all};
 ghost use Rattle.std.specs.Option.{option_copied};
@@ -12,6 +12,7 @@ ghost use Rattle.drat_rules.specs.Quiet.{has_quiet};
 ghost use Rattle.drat_checker.specs.declared.pair.Pair.{Pair as TwoLiterals};
 ghost use Rattle.drat_checker.specs.Places.{Places, standing};
 ghost use Rattle.drat_checker.specs.Propagation.{Derives};
+ghost use Rattle.drat_checker.specs.Reasons.{IsFalsified, KeepsReasons};
 ghost use Rattle.drat_checker.specs.Database.{is_short};
 ghost use Rattle.drat_checker.specs.Watches.{ArePairs, AreVisited, AreWatched, IsPair, IsWatched, MovesWatches};
 ghost use Rattle.drat_checker.specs.Watches.{is_in, is_last, pair_at, watchers, watchers_with, watches};
@@ -73,8 +74,8 @@ impl Watches {
             → AreWatched self.new (places ++ option_copied place.entry ∷ [])) }
         ensures others { OnOk result ((n : ℕ) → n < number → pair_at self.new.pairs.items n ≡ pair_at self.old.pairs.items n) }
         ensures unfalse { OnOk result ((clause : List ℤ) → option_copied place.entry ≡ Some clause
-            → effect (literals_of trail.now) clause ≡ NotUnit → (x : ℤ) → IsTrue (watches self.new.pairs.items number x)
-            → literals_of trail.now x ≡ false) }
+            → effect (literals_of trail.now.literals) clause ≡ NotUnit → (x : ℤ) → IsTrue (watches self.new.pairs.items number x)
+            → literals_of trail.now.literals x ≡ false) }
     {
         let pair = pair_of(trail, place);
         enter_pair(&mut self.lists, self.alloc, number, &pair)?;
@@ -95,20 +96,22 @@ impl Watches {
         Ok(())
     }
 
-    /// The clauses that watch a literal that is false are visited. The answer is whether one of them is false.
+    /// The clauses that watch a literal that is false are visited. The answer is the number of one of them that is false.
     pub fn visit(
         &mut self,
         db: &Database,
         trail: &mut FalseList,
         literal: Lit,
-    ) -> Result<bool, OutOfMemory>
+    ) -> Result<Option<u32>, OutOfMemory>
         requires watched { AreWatched self.old db.now }
-        requires falsified { IsTrue (literals_of trail.old literal) }
+        requires falsified { IsTrue (literals_of trail.old.literals literal) }
         ensures watched { OnOk result (AreWatched self.new db.now) }
-        ensures moves { OnOk result (MovesWatches self.old.pairs.items self.new.pairs.items trail.old) }
-        ensures derives { OnOk result (Derives (standing db.now) trail.old trail.new) }
-        ensures conflict { IfOk result (λ conflict. IsTrue conflict → has_quiet (standing db.now) trail.old ≡ false) }
-        ensures visited { IfOk result (λ conflict. IsFalse conflict → AreVisited db.now self.new.pairs.items literal trail.new []) }
+        ensures moves { OnOk result (MovesWatches self.old.pairs.items self.new.pairs.items trail.old.literals) }
+        ensures derives { OnOk result (Derives (standing db.now) trail.old.literals trail.new.literals) }
+        ensures reasons { OnOk result (KeepsReasons db.now [] trail.old trail.new) }
+        ensures conflict { IfOk result (λ conflict. IsSome conflict → has_quiet (standing db.now) trail.old.literals ≡ false) }
+        ensures falsified { IfOk result (λ conflict. IfSome conflict (IsFalsified db.now trail.new.literals)) }
+        ensures visited { IfOk result (λ conflict. conflict ≡ None → AreVisited db.now self.new.pairs.items literal trail.new.literals []) }
     {
         let mut out = self.lists.take(self.alloc, literal);
         let conflict = walk(
@@ -131,8 +134,8 @@ fn pair_of(trail: &FalseList, place: Option<&[Lit]>) -> Option<Pair>
         → IsPair pair clause }
     ensures there { (clause : List ℤ) → option_copied place.entry ≡ Some clause → is_short clause ≡ false → is_some result ≡ true }
     ensures unfalse { (clause : List ℤ) (pair : TwoLiterals) → option_copied place.entry ≡ Some clause → result ≡ Some pair
-        → effect (literals_of trail.now) clause ≡ NotUnit
-        → (literals_of trail.now pair.first ≡ false) × (literals_of trail.now pair.second ≡ false) }
+        → effect (literals_of trail.now.literals) clause ≡ NotUnit
+        → (literals_of trail.now.literals pair.first ≡ false) × (literals_of trail.now.literals pair.second ≡ false) }
 {
     match place {
         None => None,
@@ -163,8 +166,8 @@ fn enter_pair(
 fn choose(trail: &FalseList, clause: &[Lit]) -> Option<Pair>
     ensures own { IfSome result (λ pair. IsPair pair clause.now) }
     ensures short { result ≡ None → is_short clause.now ≡ true }
-    ensures unfalse { IfSome result (λ pair. effect (literals_of trail.now) clause.now ≡ NotUnit
-        → (literals_of trail.now pair.first ≡ false) × (literals_of trail.now pair.second ≡ false)) }
+    ensures unfalse { IfSome result (λ pair. effect (literals_of trail.now.literals) clause.now ≡ NotUnit
+        → (literals_of trail.now.literals pair.first ≡ false) × (literals_of trail.now.literals pair.second ≡ false)) }
 {
     match trail.effect_of(clause) {
         Effect::NotUnit => two_outside(trail, clause),
@@ -175,10 +178,11 @@ fn choose(trail: &FalseList, clause: &[Lit]) -> Option<Pair>
 
 // Two different literals that aren't false, of a clause that has them.
 fn two_outside(trail: &FalseList, clause: &[Lit]) -> Option<Pair>
-    requires { effect (literals_of trail.now) clause.now ≡ NotUnit }
+    requires { effect (literals_of trail.now.literals) clause.now ≡ NotUnit }
     ensures some { IsSome result }
     ensures own { IfSome result (λ pair. IsPair pair clause.now) }
-    ensures unfalse { IfSome result (λ pair. (literals_of trail.now pair.first ≡ false) × (literals_of trail.now pair.second ≡ false)) }
+    ensures unfalse { IfSome result (λ pair. (literals_of trail.now.literals pair.first ≡ false)
+        × (literals_of trail.now.literals pair.second ≡ false)) }
 {
     match first_outside(trail, clause) {
         None => None,
@@ -192,8 +196,8 @@ fn two_outside(trail: &FalseList, clause: &[Lit]) -> Option<Pair>
 // The first literal that isn't false.
 fn first_outside(trail: &FalseList, clause: &[Lit]) -> Option<Lit>
     ensures found { IfSome result (λ first. literals_of clause.now first ≡ true) }
-    ensures unfalse { IfSome result (λ first. literals_of trail.now first ≡ false) }
-    ensures none { result ≡ None → IsTrue (list_all (literals_of trail.now) clause.now) }
+    ensures unfalse { IfSome result (λ first. literals_of trail.now.literals first ≡ false) }
+    ensures none { result ≡ None → IsTrue (list_all (literals_of trail.now.literals) clause.now) }
 {
     for literal in clause {
         if trail.contains(*literal) {
@@ -249,7 +253,7 @@ pub enum Visit {
     Last(Lit),
 }
 
-// Visits the numbers of a literal's list, which was taken out, from its end. The answer is whether a clause is false.
+// Visits the numbers of a literal's list, which was taken out, from its end. The answer is the number of a clause that is false.
 fn walk(
     db: &Database,
     alloc: Global,
@@ -258,16 +262,18 @@ fn walk(
     out: &mut Numbers,
     trail: &mut FalseList,
     literal: Lit,
-) -> Result<bool, OutOfMemory>
+) -> Result<Option<u32>, OutOfMemory>
     requires many { length pairs.old.items ≡ length db.now }
     requires watched { IsWatched pairs.old.items (watchers_with lists.old literal out.old) db.now }
-    requires falsified { IsTrue (literals_of trail.old literal) }
+    requires falsified { IsTrue (literals_of trail.old.literals literal) }
     ensures many { length pairs.new.items ≡ length db.now }
     ensures watched { OnOk result (IsWatched pairs.new.items (watchers_with lists.new literal out.new) db.now) }
-    ensures moves { OnOk result (MovesWatches pairs.old.items pairs.new.items trail.old) }
-    ensures derives { OnOk result (Derives (standing db.now) trail.old trail.new) }
-    ensures conflict { IfOk result (λ conflict. IsTrue conflict → has_quiet (standing db.now) trail.old ≡ false) }
-    ensures visited { IfOk result (λ conflict. IsFalse conflict → AreVisited db.now pairs.new.items literal trail.new []) }
+    ensures moves { OnOk result (MovesWatches pairs.old.items pairs.new.items trail.old.literals) }
+    ensures derives { OnOk result (Derives (standing db.now) trail.old.literals trail.new.literals) }
+    ensures reasons { OnOk result (KeepsReasons db.now [] trail.old trail.new) }
+    ensures conflict { IfOk result (λ conflict. IsSome conflict → has_quiet (standing db.now) trail.old.literals ≡ false) }
+    ensures falsified { IfOk result (λ conflict. IfSome conflict (IsFalsified db.now trail.new.literals)) }
+    ensures visited { IfOk result (λ conflict. conflict ≡ None → AreVisited db.now pairs.new.items literal trail.new.literals []) }
 {
     quiet_law();
     propagation_law();
@@ -288,15 +294,15 @@ fn walk(
                 continue;
             }
             Visit::Last(other) => {
-                let clash = trail.falsify(other.negated())?;
+                let clash = trail.falsify(other.negated(), Some(number))?;
                 if clash {
-                    return Ok(true);
+                    return Ok(Some(number));
                 }
                 continue;
             }
         }
     }
-    Ok(false)
+    Ok(None)
 }
 
 // What becomes of a number in the list of a literal that is false.
@@ -308,8 +314,8 @@ fn look(
     number: u32,
 ) -> Visit
     requires pairs { ArePairs pairs.now db.now }
-    requires falsified { IsTrue (literals_of trail.now literal) }
-    ensures { VisitIs result db.now pairs.now trail.now literal number }
+    requires falsified { IsTrue (literals_of trail.now.literals literal) }
+    ensures { VisitIs result db.now pairs.now trail.now.literals literal number }
 {
     match other_of(pairs, number, literal) {
         None => Visit::Gone,
@@ -333,7 +339,7 @@ fn look_at(
 ) -> Visit
     requires pairs { ArePairs pairs.now db.now }
     requires beside { IsBeside (pair_at pairs.now number) literal other }
-    ensures { VisitIs result db.now pairs.now trail.now literal number }
+    ensures { VisitIs result db.now pairs.now trail.now.literals literal number }
 {
     match db.clause(number) {
         None => Visit::Gone,
@@ -377,9 +383,9 @@ fn other_in(pair: &Option<Pair>, literal: Lit) -> Option<Lit>
 // The first literal of the clause that isn't false, and isn't that one.
 fn find(trail: &FalseList, clause: &[Lit], other: Lit) -> Option<Lit>
     ensures found { IfSome result (λ next. literals_of clause.now next ≡ true) }
-    ensures unfalse { IfSome result (λ next. literals_of trail.now next ≡ false) }
+    ensures unfalse { IfSome result (λ next. literals_of trail.now.literals next ≡ false) }
     ensures differs { IfSome result (λ next. int_eq next other ≡ false) }
-    ensures none { result ≡ None → IsTrue (is_last trail.now other clause.now) }
+    ensures none { result ≡ None → IsTrue (is_last trail.now.literals other clause.now) }
 {
     for literal in clause {
         if *literal == other {

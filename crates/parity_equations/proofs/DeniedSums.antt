@@ -10,7 +10,7 @@ use Rattle.std.proofs.lemmas.Bool.{and_parts}
 use Rattle.std.proofs.lemmas.List.Sorted.{list_any-IsPermutation}
 use Rattle.cnf_base.specs.Truth.{Assignment, clause_holds, literal_holds}
 use Rattle.parity_equations.specs.Conflict.{exclusive_or}
-use Rattle.parity_equations.specs.Denied.{AreVariables}
+use Rattle.parity_equations.specs.Laws.{ArePositive}
 use Rattle.parity_equations.specs.Equations.{AreClausesOf, denied, first_from, has_equation, has_exactly}
 use Rattle.parity_equations.specs.LiteralSet.{is_candidate, literal_set}
 use Rattle.parity_equations.specs.Sums.{all_hold, sum_over}
@@ -54,7 +54,7 @@ by_value false true false = refl
 by_value false false true = refl
 by_value false false false = refl
 
-pub denied_sum : (a : Assignment) (bit : Bool) (variables : List ℕ) → AreVariables variables
+pub denied_sum : (a : Assignment) (bit : Bool) (variables : List ℕ) → ArePositive variables
     → list_all (clause_holds a) (denied bit variables) ≡ beq (sum_over variables a) bit
 denied_sum a true [] are = refl
 denied_sum a false [] are = refl
@@ -62,7 +62,7 @@ denied_sum a bit (variable ∷ more) are =
     all_append (clause_holds a) (map (λ rest. pos variable ∷ rest) (denied bit more))
     (map (λ rest. neg_ℤ (pos variable) ∷ rest) (denied (not bit) more))
     ∙ (λ i. all_with a (pos variable) (denied bit more) i && all_with a (neg_ℤ (pos variable)) (denied (not bit) more) i)
-    ∙ (λ i. (a variable || denied_sum a bit more are.1.1 i) && (negative a variable are.0 i || denied_sum a (not bit) more are.1.1 i))
+    ∙ (λ i. (a variable || denied_sum a bit more are.1 i) && (negative a variable are.0 i || denied_sum a (not bit) more are.1 i))
     ∙ by_value (a variable) (sum_over more a) bit
 
 -- a clause that has exactly these literals holds where they do
@@ -120,7 +120,7 @@ by_any test (x ∷ xs) = ap (λ b. test x && b) (by_any test xs) ∙ go (test x)
     go false c = refl
 
 -- an equation's clauses hold exactly where its sum is its bit
-pub clauses_say : (clauses : List (List ℤ)) (variables : List ℕ) (bit : Bool) (numbers : List ℕ) → AreVariables variables
+pub clauses_say : (clauses : List (List ℤ)) (variables : List ℕ) (bit : Bool) (numbers : List ℕ) → ArePositive variables
     → has_equation clauses variables bit ≡ true → AreClausesOf clauses variables bit numbers → (a : Assignment)
     → all_hold clauses numbers a ≡ beq (sum_over variables a) bit
 clauses_say clauses variables bit numbers are has own a =

@@ -6,3 +6,4 @@ pub mod Numbered
 pub mod Walked
 pub mod Independent
 pub mod DeniedSums
+pub mod OwnClauses

@@ -7,3 +7,4 @@ pub mod Walk
 pub mod Conflict
 pub mod Sums
 pub mod Laws
+pub mod OwnClauses

@@ -9,4 +9,4 @@ mod laws;
 mod literals;
 
 pub use equations::{Equation, Equations};
-pub use laws::{clauses_law, independence_law};
+pub use laws::{clauses_law, independence_law, own_clauses_law};

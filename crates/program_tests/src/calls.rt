@@ -42,6 +42,9 @@ const CALLS: &str = "\
     ProofIn 8;bddsat check both hintless --format drat;ReadFault*|none|error: read failed/;|;Verified|s VERIFIED/|none|\n\
     ProofIn 12;bddsat drat both good --out out.lrat;ReadFault|*|error: read failed/;|0/;Verified|s VERIFIED/|0/|\n\
     ProofOut 4;bddsat drat both good --out out.lrat;WriteFault|*|error: write failed/;|0/;Verified|s VERIFIED/|0/|\n\
+    ProofIn 4;bddsat lrat both plain --out out.lrat;ReadFault|*|error: read failed/;|3 0 1 2 0/;Verified|s VERIFIED/|3 0 1 2 0/|\n\
+    ProofOut 12;bddsat lrat both plain --out out.lrat;WriteFault|*|error: write failed/;|3 0 1 2 0/;Verified|s VERIFIED/|\
+    3 0 1 2 0/|\n\
     Made 155;bddsat make board 3 --part cnf --out out.lrat;WriteFault|*|error: write failed/;|p cnf 8 19/1 2 0/-1 -2 0/\
     1 3 0/-1 -3 0/4 5 0/-4 -5 0/2 4 6 7 0/-2 -4 0/-2 -6 0/-2 -7 0/-4 -6 0/-4 -7 0/-6 -7 0/3 6 0/-3 -6 0/5 8 0/-5 -8 0/\
     7 8 0/-7 -8 0/;Done||p cnf 8 19/1 2 0/-1 -2 0/1 3 0/-1 -3 0/4 5 0/-4 -5 0/2 4 6 7 0/-2 -4 0/-2 -6 0/-2 -7 0/-4 -6 0/\
@@ -52,7 +55,7 @@ const CALLS: &str = "\
     0 9 4 0/11 0 5 8 10 0/|\n\
     Made 8;bddsat order chain --by levels --out out.lrat;WriteFault|*|error: write failed/;|1 2 3/;Done||1 2 3/|\n\
     Err 17;bddsat solve a --proof a;Usage||none*;|error: bad usage/;Usage||none|error: bad usage/\n\
-    Out 1257;bddsat solve --help;WriteFault*|none|error: write failed/;|Decides FILE, and writes the pro..;\
+    Out 1361;bddsat solve --help;WriteFault*|none|error: write failed/;|Decides FILE, and writes the pro..;\
     Help|Decides FILE, and writes the pro";
 
 // What was written stands, and nothing else but the fault is told. No file is there where its creation failed.
@@ -138,7 +141,9 @@ fn calls(rt: HostRuntime) -> Result<(), Fail> {
 // Words, and what stands afterwards, or the front of it.
 const PIECES: &str = "\
     bddsat solve none --proof out.lrat;Sat|s SATISFIABLE/v 0/||\n\
+    bddsat solve none --parity --proof out.lrat;Sat|s SATISFIABLE/v 0/||\n\
     bddsat solve empty --proof out.lrat;Unsat|s UNSATISFIABLE/|2 0 1 0/|\n\
+    bddsat solve empty --parity --proof out.lrat;Unsat|s UNSATISFIABLE/|2 0 1 0/|\n\
     bddsat solve tautology --proof out.lrat;Sat|s SATISFIABLE/v -1 -2 0/||\n\
     bddsat solve both --proof out.lrat --max-nodes 0;Unknown(NodeLimit)|c node limit 0 reached/s UNKNOWN/||\n\
     bddsat solve both --proof out.lrat;Unsat|s UNSATISFIABLE/|3 2 -1 0 0/4 -2 1 0 -3 0/5 2 0 3 1 0/6 3 1 0 0/7 -3 -1 0 \
@@ -150,6 +155,8 @@ const PIECES: &str = "\
     bddsat check both hintless --format drat;Verified|s VERIFIED/|none|\n\
     bddsat check both worse;NotVerified(2, HintNotLive)|c line 2 HintNotLive/s NOT VERIFIED/|none|\n\
     bddsat drat both worse --out out.lrat;NotVerified(2, HintNotLive)|c line 2 HintNotLive/s NOT VERIFIED/|0/|\n\
+    bddsat lrat both plain --out out.lrat;Verified|s VERIFIED/|3 0 1 2 0/|\n\
+    bddsat lrat both bad --out out.lrat;NotVerified(1, Syntax)|c line 1 Syntax/s NOT VERIFIED/||\n\
     bddsat solve chain --proof out.lrat;Sat|s SATISFIABLE/v 1 2 3 0/|\n\
     bddsat solve chain --proof out.lrat --plan conjoin;Sat|s SATISFIABLE/v 1 2 3 0/|\n\
     bddsat solve chain --proof out.lrat --order turned;Sat|s SATISFIABLE/v 1 2 3 0/|\n\

@@ -80,6 +80,12 @@ ProofIn 3;ReadFault|||error: read failed/
 ProofIn 4;ReadFault||0/|error: read failed/
 ProofIn 5;ReadFault||0/|error: read failed/
 ProofIn 6;NotVerified(2, HintNotLive)|c line 2 HintNotLive/s NOT VERIFIED/|0/|
+bddsat lrat both plain --out out.lrat
+ProofIn 1;ReadFault||none|error: read failed/
+ProofIn 2;ReadFault|||error: read failed/
+ProofOut 1;WriteFault||none|error: write failed/
+Out 1;WriteFault||3 0 1 2 0/|error: write failed/
+Out 4;Verified|s VERIFIED/|3 0 1 2 0/|
 bddsat trim both good --out out.lrat
 Cnf 5;ReadFault||none|error: read failed/
 ProofIn 1;ReadFault||none|error: read failed/

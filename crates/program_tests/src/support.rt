@@ -23,6 +23,7 @@ good=3 0 1 2 0/
 bad=3 0 1 0/
 worse=3 0 1 2 0/4 1 0 9 0/
 hintless=1 0/0/
+plain=0/
 order=
 natural=1 2 3/
 turned=3 2 1/

@@ -1,6 +1,6 @@
 -- A text that is emitted piece by piece.
 use Rattle.std.proofs.Common.{◌≡◌, ℕ, Bool, List, [], ◌∷◌, ◌++◌, Ok, refl, sym, ap, ◌∙◌, append_assoc, subst}
-use Rattle.std.specs.Prelude.{Result, IsErr}
+use Rattle.std.specs.Prelude.{Result, IsErr, IsOk}
 use Rattle.std.proofs.lemmas.List.{append-nil}
 use Rattle.host_io.specs.declared.source.Failed.{Failed}
 use Rattle.host_io.specs.Channel.{Channel, WritesAll}
@@ -51,6 +51,22 @@ pub spells_all : {tells : Bool} {start now new : Channel} {held last left whole 
     → WritesAll tells start new whole result
 spells_all s none same writes =
     written_out (same_text s.emits (sym (append-nil s.text) ∙ ap (λ (l : List ℕ). s.text ++ l) (sym none) ∙ s.parts)) same writes
+
+-- a part that is put behind what is held back
+pub put_behind : {tells : Bool} {old new : Channel} {held middle after part : List ℕ} {result : Result (Unit {0}) Failed}
+    → Emits tells old new held middle [] result → IsOk result → after ≡ middle ++ part → Emits tells old new held after part (Ok tt)
+put_behind {tells = tells} {old = old} {new = new} {held = held} {middle = middle} {after = after} {part = part} x ok put = record {
+  gained = x.gained;
+  rest = x.rest ++ part;
+  balance = ap (λ (l : List ℕ). l ++ part) (sym (append-nil held) ∙ x.balance) ∙ append_assoc x.gained x.rest part;
+  done = λ _. put ∙ ap (λ (l : List ℕ). l ++ part) (x.done ok);
+  written = x.written;
+  flushed = x.flushed;
+  taken = x.taken;
+  left = x.left;
+  name = x.name;
+  faults = record { no_less = x.faults.no_less; cause = λ err. cc; unfailed = λ _. x.faults.unfailed ok };
+}
 
 -- The parts of packed steps.
 pub number_on : (there : ℕ → Bool) (place next : Place) (number : ℕ) (row rest part : List ℕ) → row ≡ number ∷ rest

@@ -3,6 +3,7 @@ pub mod Taking
 pub mod Entered
 pub mod Piles
 pub mod Rows
+pub mod Pairs
 pub mod Pushed
 pub mod Spelled
 pub mod Moved

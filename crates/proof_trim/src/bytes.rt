@@ -1,7 +1,8 @@
 // Bytes as a stack, in chunks: what is taken off gives its memory back, and no growth copies more than a chunk.
-ghost use Rattle.std.specs.Prelude.{◌≡◌, [], ◌∷◌, ◌++◌, IfSome, IfNone, OnOk, length};
-ghost use Rattle.proof_trim.specs.Row.{stacked};
+ghost use Rattle.std.specs.Prelude.{◌≡◌, ◌<◌, ◌^◌, ℕ, List, [], ◌∷◌, ◌++◌, IfSome, IfNone, IsFalse, IsTrue, OnOk, length, reverse};
+ghost use Rattle.proof_trim.specs.Row.{behind_taken, numbers, stacked};
 
+use crate::digits::{Taken, put_digits, take_digits};
 use cnf_base::OutOfMemory;
 use std::alloc::Global;
 use std::marker::Model;
@@ -9,6 +10,9 @@ use std::mem;
 
 // The most bytes of a chunk.
 const CHUNK: usize = 65536;
+
+// The least number of more than four digits.
+const NOT_SHORT: u64 = 268_435_456;
 
 /// Bytes in the order in which they came.
 #[derive(Debug, Drop)]
@@ -37,6 +41,25 @@ impl Chunk {
         ensures { result ≡ length self.now }
     {
         self.bytes.len()
+    }
+
+    // A number of at most four digits, where there is room for it.
+    fn put(&mut self, number: u64) -> bool
+        requires { number < 2 ^ 28 }
+        ensures put { IsTrue result → (rest : List ℕ) → numbers (reverse self.new ++ rest) ≡ number ∷ numbers (reverse self.old ++ rest) }
+        ensures same { IsFalse result → self.new ≡ self.old }
+    {
+        if self.bytes.len() + 4 > self.bytes.capacity() {
+            return false;
+        }
+        put_digits(&mut self.bytes, number);
+        true
+    }
+
+    fn take(&mut self) -> Taken
+        ensures { (rest : List ℕ) → numbers (reverse self.old ++ rest) ≡ behind_taken result (reverse self.new ++ rest) }
+    {
+        take_digits(&mut self.bytes)
     }
 
     fn push(&mut self, byte: u8) -> Result<(), OutOfMemory>
@@ -84,6 +107,24 @@ impl ByteStack {
         }
     }
 
+    /// The bytes of a number, where it is short and the last chunk has room for it.
+    pub fn put(&mut self, number: u64) -> bool
+        ensures put { IsTrue result → numbers self.new ≡ number ∷ numbers self.old }
+        ensures same { IsFalse result → self.new ≡ self.old }
+    {
+        if number >= NOT_SHORT {
+            return false;
+        }
+        put_last(&self.full, &mut self.last, number)
+    }
+
+    /// Takes the bytes of a number off the last chunk, as far as it has them.
+    pub fn take(&mut self) -> Taken
+        ensures { numbers self.old ≡ behind_taken result self.new }
+    {
+        take_last(&self.full, &mut self.last)
+    }
+
     /// One more byte.
     pub fn push(&mut self, byte: u8) -> Result<(), OutOfMemory>
         ensures { OnOk result (self.new ≡ byte ∷ self.old) }
@@ -99,6 +140,21 @@ impl ByteStack {
     {
         pop_byte(&mut self.full, &mut self.last)
     }
+}
+
+// The same with the chunks apart.
+fn put_last(full: &Vec<Chunk>, last: &mut Chunk, number: u64) -> bool
+    requires { number < 2 ^ 28 }
+    ensures put { IsTrue result → numbers (stacked full.now.items last.new) ≡ number ∷ numbers (stacked full.now.items last.old) }
+    ensures same { IsFalse result → last.new ≡ last.old }
+{
+    last.put(number)
+}
+
+fn take_last(full: &Vec<Chunk>, last: &mut Chunk) -> Taken
+    ensures { numbers (stacked full.now.items last.old) ≡ behind_taken result (stacked full.now.items last.new) }
+{
+    last.take()
 }
 
 fn push_byte(

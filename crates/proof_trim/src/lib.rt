@@ -6,6 +6,8 @@
 mod bytes;
 mod core_numbers;
 mod cutting;
+mod decimals;
+mod digits;
 mod laws;
 mod lines;
 mod numbers;

@@ -1,5 +1,5 @@
 // The trimmed form of a proof, as it is kept, and its lines.
-ghost use Rattle.std.specs.Prelude.{◌≡◌, ◌++◌, false};
+ghost use Rattle.std.specs.Prelude.{◌≡◌, ◌≤◌, ◌+◌, ◌++◌, [], OnOk, decimal, false, length};
 ghost use Rattle.host_io.specs.Channel.{WritesAll};
 ghost use Rattle.host_io.specs.Emitted.{Emits};
 ghost use Rattle.proof_trim.specs.Lines.{head_of_deletion, next_place, part_at, text_from};
@@ -8,11 +8,12 @@ ghost use Rattle.proof_trim.specs.Trimmed.{is_there};
 ghost use Rattle.proof_trim.specs.Packed.{code_text, number_of};
 ghost use Rattle.proof_trim.specs.declared.place.Place.TheVariants.{Between, Deleted};
 
+use crate::decimals::{put_code, put_end, put_number, put_zero};
 use crate::numbers::Numbers;
 use crate::place::Place;
 use crate::row::Row;
 use cnf_base::Id;
-use host_io::{Failed, HeldBytes, Sink, emit, emit_number, write_all};
+use host_io::{Failed, HeldBytes, Sink, write_all};
 use std::marker::Model;
 
 /// The steps that a proof needs, in little memory; seen as their text.
@@ -125,76 +126,84 @@ fn emit_part<S: Sink>(
         (part_at place number is_there) result }
     ensures beside { S.beside sink.new ≡ S.beside sink.old }
 {
+    make_room(sink, held)?;
+    put_part(held, place, number, is_there);
+    Ok(())
+}
+
+// Has the buffer take one part more: the longest is the head of a deletion with a number behind it, 44 bytes.
+fn make_room<S: Sink>(sink: &mut S, held: &mut HeldBytes) -> Result<(), Failed>
+    ensures emits { Emits S.tells (S.channel sink.old) (S.channel sink.new) held.old.items held.new.items [] result }
+    ensures room { OnOk result (length held.new.items ≤ 464) }
+    ensures beside { S.beside sink.new ≡ S.beside sink.old }
+{
+    if held.len() <= 464 {
+        return Ok(());
+    }
+    write_all(sink, held.as_slice())?;
+    held.clear();
+    Ok(())
+}
+
+fn put_part(held: &mut HeldBytes, place: Place, number: u64, is_there: bool)
+    requires { length held.old.items ≤ 464 }
+    ensures { held.new.items ≡ held.old.items ++ part_at place number is_there }
+{
     match place {
-        Place::Between => emit(sink, held, b""),
-        Place::Own(1) => emit(sink, held, b""),
-        Place::Own(_) => emit_number(sink, held, b"", number),
-        Place::Clause if number == 0 => emit(sink, held, b" 0"),
-        Place::Clause => emit_code(sink, held, number),
-        Place::Hints if number == 0 => emit(sink, held, b" 0\n"),
-        Place::Hints => emit_code(sink, held, number),
-        Place::Deleted(id, begun) => emit_deleted(sink, held, id, begun, number, is_there),
+        Place::Between => {}
+        Place::Own(1) => {}
+        Place::Own(_) => put_own(held, number),
+        Place::Clause if number == 0 => put_zero(held),
+        Place::Clause => put_code(held, number),
+        Place::Hints if number == 0 => put_end(held),
+        Place::Hints => put_code(held, number),
+        Place::Deleted(id, begun) => put_deleted(held, id, begun, number, is_there),
     }
 }
 
-fn emit_deleted<S: Sink>(
-    sink: &mut S,
-    held: &mut HeldBytes,
-    id: u64,
-    begun: bool,
-    number: u64,
-    is_there: bool,
-) -> Result<(), Failed>
-    ensures emits { Emits S.tells (S.channel sink.old) (S.channel sink.new) held.old.items held.new.items
-        (part_at (Deleted id begun) number is_there) result }
-    ensures beside { S.beside sink.new ≡ S.beside sink.old }
+// The number of a line.
+fn put_own(held: &mut HeldBytes, number: u64)
+    requires { length held.old.items ≤ 464 }
+    ensures items { held.new.items ≡ held.old.items ++ decimal number }
+    ensures len { length held.new.items ≤ length held.old.items + 20 }
+{
+    put_number(held, number);
+}
+
+fn put_deleted(held: &mut HeldBytes, id: u64, begun: bool, number: u64, is_there: bool)
+    requires { length held.old.items ≤ 464 }
+    ensures { held.new.items ≡ held.old.items ++ part_at (Deleted id begun) number is_there }
 {
     if number == 0 {
-        return emit(sink, held, if begun { b" 0\n" } else { b"" });
+        if begun {
+            put_end(held);
+        }
+        return;
     }
     if is_there {
-        return emit_listed(sink, held, id, begun, number);
+        put_listed(held, id, begun, number);
     }
-    emit(sink, held, b"")
 }
 
 // A number of a deletion, behind the head of its line where it is the first.
-fn emit_listed<S: Sink>(
-    sink: &mut S,
-    held: &mut HeldBytes,
-    id: u64,
-    begun: bool,
-    number: u64,
-) -> Result<(), Failed>
-    ensures emits { Emits S.tells (S.channel sink.old) (S.channel sink.new) held.old.items held.new.items
-        (head_of_deletion begun id ++ code_text number) result }
-    ensures beside { S.beside sink.new ≡ S.beside sink.old }
+fn put_listed(held: &mut HeldBytes, id: u64, begun: bool, number: u64)
+    requires { length held.old.items ≤ 464 }
+    ensures { held.new.items ≡ held.old.items ++ (head_of_deletion begun id ++ code_text number) }
 {
     if begun {
-        return emit_code(sink, held, number);
+        put_code(held, number);
+        return;
     }
-    emit_head(sink, held, id)?;
-    emit_code(sink, held, number)
+    put_head(held, id);
+    put_code(held, number);
 }
 
-fn emit_head<S: Sink>(sink: &mut S, held: &mut HeldBytes, id: u64) -> Result<(), Failed>
-    ensures emits { Emits S.tells (S.channel sink.old) (S.channel sink.new) held.old.items held.new.items
-        (head_of_deletion false id) result }
-    ensures beside { S.beside sink.new ≡ S.beside sink.old }
+fn put_head(held: &mut HeldBytes, id: u64)
+    requires { length held.old.items ≤ 464 }
+    ensures items { held.new.items ≡ held.old.items ++ head_of_deletion false id }
+    ensures room { length held.new.items ≤ 490 }
 {
-    emit_number(sink, held, b"", id)?;
-    emit(sink, held, b" d")
-}
-
-fn emit_code<S: Sink>(sink: &mut S, held: &mut HeldBytes, code: u64) -> Result<(), Failed>
-    ensures emits { Emits S.tells (S.channel sink.old) (S.channel sink.new) held.old.items held.new.items (code_text code) result }
-    ensures beside { S.beside sink.new ≡ S.beside sink.old }
-{
-    let number = number_of(code);
-    let lead: &[u8] = if code % 2 == 0 && 0 < number {
-        b" -"
-    } else {
-        b" "
-    };
-    emit_number(sink, held, lead, number)
+    put_own(held, id);
+    held.push(b' ');
+    held.push(b'd');
 }

@@ -1,9 +1,10 @@
 // Numbers in a stack of bytes: of each the digits to the base 128, the highest first, with 128 added to all but the lowest. So a number
 // costs at most half of its decimal digits and a space.
 ghost use Rattle.std.specs.Prelude.{◌≡◌, [], ◌∷◌, IfSome, IfNone, OnOk};
-ghost use Rattle.proof_trim.specs.Row.{numbers, with_digit};
+ghost use Rattle.proof_trim.specs.Row.{numbers, numbers_behind};
 
 use crate::bytes::ByteStack;
+use crate::digits::{Taken, with_digit};
 use cnf_base::OutOfMemory;
 use std::alloc::Global;
 use std::marker::Model;
@@ -37,6 +38,9 @@ impl Row {
     pub fn push(&mut self, number: u64) -> Result<(), OutOfMemory>
         ensures { OnOk result (self.new ≡ number ∷ self.old) }
     {
+        if self.bytes.put(number) {
+            return Ok(());
+        }
         push_number(&mut self.bytes, number)
     }
 
@@ -46,10 +50,16 @@ impl Row {
         ensures none { IfNone result (self.old ≡ []) }
         ensures left { IfNone result (self.new ≡ []) }
     {
-        pop_number(&mut self.bytes)
+        match self.bytes.take() {
+            Taken::Whole(number) => Some(number),
+            Taken::Part(begun) => pop_number(&mut self.bytes, begun),
+        }
     }
 }
 
+// (Seldom called, so that most pushes need no frame.)
+#[cold]
+#[inline(never)]
 fn push_number(bytes: &mut ByteStack, number: u64) -> Result<(), OutOfMemory>
     ensures { OnOk result (numbers bytes.new ≡ number ∷ numbers bytes.old) }
 {
@@ -62,12 +72,15 @@ fn push_number(bytes: &mut ByteStack, number: u64) -> Result<(), OutOfMemory>
     Ok(())
 }
 
-fn pop_number(bytes: &mut ByteStack) -> Option<u64>
-    ensures some { IfSome result (λ number. numbers bytes.old ≡ number ∷ numbers bytes.new) }
-    ensures none { IfNone result (numbers bytes.old ≡ []) }
+// Takes the rest of a number of which these digits came before.
+#[cold]
+#[inline(never)]
+fn pop_number(bytes: &mut ByteStack, begun: u64) -> Option<u64>
+    ensures some { IfSome result (λ number. numbers_behind begun bytes.old ≡ number ∷ numbers bytes.new) }
+    ensures none { IfNone result (numbers_behind begun bytes.old ≡ []) }
     ensures left { IfNone result (numbers bytes.new ≡ []) }
 {
-    let mut number: u64 = 0;
+    let mut number = begun;
     'digits: loop {
         match bytes.pop() {
             Some(byte) => {
@@ -79,11 +92,4 @@ fn pop_number(bytes: &mut ByteStack) -> Option<u64>
             None => return None,
         }
     }
-}
-
-// One digit more.
-fn with_digit(number: u64, digit: u8) -> u64
-    ensures { result ≡ with_digit number digit }
-{
-    number.wrapping_mul(128).wrapping_add(u64::from(digit))
 }

@@ -1,6 +1,6 @@
 -- What is promised of a run that has all that it decides by.
 use Rattle.std.proofs.Common.{◌≡◌, ℕ, false, List, [], refl, sym, ap, ◌∙◌, subst, Some, Err, IsTrue, inl, inr}
-use Rattle.std.specs.Prelude.{Option, None, Result, ◌⊎◌, ◌≢◌}
+use Rattle.std.specs.Prelude.{Bool, Option, None, Result, ◌⊎◌, ◌≢◌}
 use Rattle.cnf_base.specs.Formula.{Formula}
 use Rattle.host_io.specs.declared.role.Role.TheVariants.{ProofOut, Made, Out}
 use Rattle.lrat_rules.specs.State.{State}
@@ -11,9 +11,10 @@ use Rattle.term_runner.specs.declared.outcome.Outcome.TheVariants as outcome
 use Rattle.term_runner.specs.declared.outcome.Run.{Run as Ending}
 use Rattle.term_runner.specs.declared.error.RunError.{RunError}
 use Rattle.term_runner.specs.declared.error.RunError.TheVariants.{WriteFault as Torn}
-use Rattle.term_runner.specs.Price.{IsPaidFor}
+use Rattle.solver_cli.specs.Sums.{IsPaidAs}
 use Rattle.term_runner.specs.Proofs.{IsProof, IsProofSoFarOfKind, KeepsWithin}
 use Rattle.command_line.specs.Command.{Command, ToSolve, ToBench, Solve, Bench, command, limits_asked, limits_of}
+use Rattle.command_line.specs.Command.{adds_equations, parity_asked}
 use Rattle.solver_cli.specs.declared.status.Status.{Status}
 use Rattle.solver_cli.specs.declared.status.Status.TheVariants.{Answered, Done, Help, ReadFault, WriteFault, OutOfMemory}
 use Rattle.solver_cli.specs.Answer.{AreGiven, AreOfBoard, shape_asked, status_of}
@@ -40,6 +41,7 @@ pub record Posed (run : Run) (problem : Formula) (order : List ℕ) (moves : Lis
   pub given : IsTrue run.tells → AreGiven run.files asked problem order moves
   pub board : IsPlanAsked run problem order moves
   pub limits : job.limits ≡ limits_of asked
+  pub parity : job.parity ≡ adds_equations asked
   pub proof : name_given ProofOut asked ≡ Some job.proof
   pub shape : job.shape ≡ shape_asked (Some asked) problem
   pub made : run.after Made ≡ run.before Made
@@ -60,6 +62,10 @@ pub same_limits : (run : Run) {problem : Formula} {order : List ℕ} {moves : Li
     → job.limits ≡ limits_given run
 same_limits run posed = posed.limits ∙ sym (ap limits_asked posed.gives)
 
+pub same_parity : (run : Run) {problem : Formula} {order : List ℕ} {moves : List Move} {job : Job} → Posed run problem order moves job
+    → job.parity ≡ parity_asked (command run.words)
+same_parity run posed = posed.parity ∙ sym (ap parity_asked posed.gives)
+
 -- `solve` is prepared, and `bench` has its board
 pub posed_by_files : (run : Run) (task : ToSolve) {problem : Formula} {order : List ℕ} {moves : List Move} → command run.words
     ≡ Some (Solve task)
@@ -77,6 +83,7 @@ posed_by_files run task {problem = problem} gives prepared = record {
   };
   board = λ other here. absurd (apart (same_command gives here));
   limits = refl;
+  parity = refl;
   proof = refl;
   shape = refl;
   made = prepared.made;
@@ -94,6 +101,7 @@ posed_by_board run task {problem = problem} {order = order} {moves = moves} give
   given = λ t. board;
   board = λ other here. subst (λ (b : ToBench). AreOfBoard b.size problem order moves) (inner (same_command gives here)) board;
   limits = refl;
+  parity = refl;
   proof = refl;
   shape = refl;
   made = made;
@@ -200,9 +208,12 @@ pub undecided : (run : Run) {problem : Formula} {order : List ℕ} {moves : List
     → Undecided run.tells (run.before ProofOut) (run.after ProofOut) (run.before Out) (run.after Out) problem order moves job run.status
     → Core run
 undecided run {problem = problem} {order = order} {moves = moves} {job = job} posed u = both (write_ends run.status u.error u.ends) where
-  writes : WritesProof run.tells u.created (run.after ProofOut) problem order moves (limits_given run) (Err u.error)
-  writes = subst (λ (l : Limits). WritesProof run.tells u.created (run.after ProofOut) problem order moves l (Err u.error))
-      (same_limits run posed) u.writes
+  writes : WritesProof (parity_asked (command run.words)) run.tells u.created (run.after ProofOut) problem order moves (limits_given run)
+      (Err u.error)
+  writes = subst (λ (p : Bool). WritesProof p run.tells u.created (run.after ProofOut) problem order moves (limits_given run) (Err u.error))
+      (same_parity run posed)
+      (subst (λ (l : Limits). WritesProof job.parity run.tells u.created (run.after ProofOut) problem order moves l (Err u.error))
+      (same_limits run posed) u.writes)
 
   failed : ◌≡◌ {A = Result Ending RunError} (Err u.error) (Err Torn) → OutputFailed run
   failed e = (ProofOut, inl tt, rose_since u.opens.faults.no_less (u.writes.fault e))
@@ -243,7 +254,7 @@ undecided run {problem = problem} {order = order} {moves = moves} {job = job} po
       problem,
       asks_for run posed t,
       λ width price has paid. so_far_of_kind run problem
-          (IsPaidFor problem (limits_given run) moves width price) u.opens.was_idle.written (writes.price width price has paid t),
+          (IsPaidAs (parity_asked (command run.words)) problem (limits_given run) moves width price) u.opens.was_idle.written (writes.price width price has paid t),
     );
   }
 

@@ -80,7 +80,7 @@ uncreated {answer = answer} opens failed beside = inl (record {
 pub undecided : {tells : Bool} {old created new : Role → Channel} {problem : Formula} {order : List ℕ} {moves : List Move} {job : Job}
     {answer : Result ⊤ Failed} {error : RunError} {status : Status}
     → Opens (old ProofOut) (created ProofOut) job.proof answer → IsOk answer → Others ProofOut old created
-    → WritesProof tells (created ProofOut) (new ProofOut) problem order moves job.limits (Err error) → Others ProofOut created new → status
+    → WritesProof job.parity tells (created ProofOut) (new ProofOut) problem order moves job.limits (Err error) → Others ProofOut created new → status
     ≡ status_of_run error
     → CameToAnswer tells (old ProofOut) (new ProofOut) (old Out) (new Out) problem order moves job status
 undecided {created = created} {answer = answer} {error = error} opens done beside_created writes beside_new ends = inr (inl (record {
@@ -97,7 +97,7 @@ undecided {created = created} {answer = answer} {error = error} opens done besid
 pub answered : {tells : Bool} {old created proved new : Role → Channel} {problem : Formula} {order : List ℕ} {moves : List Move} {job : Job}
     {answer : Result ⊤ Failed} {ending : Ending} {printed : Result ⊤ Failed} {status : Status}
     → Opens (old ProofOut) (created ProofOut) job.proof answer → IsOk answer → Others ProofOut old created
-    → WritesProof tells (created ProofOut) (proved ProofOut) problem order moves job.limits (Ok ending) → Others ProofOut created proved
+    → WritesProof job.parity tells (created ProofOut) (proved ProofOut) problem order moves job.limits (Ok ending) → Others ProofOut created proved
     → PutsText tells (proved Out) (new Out) (ending_text job.shape job.limits ending) printed → Others Out proved new → status
     ≡ status_after ending printed
     → CameToAnswer tells (old ProofOut) (new ProofOut) (old Out) (new Out) problem order moves job status

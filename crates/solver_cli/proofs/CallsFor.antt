@@ -16,7 +16,7 @@ use Rattle.command_line.specs.declared.format.ProofFormat.{ProofFormat}
 use Rattle.command_line.specs.declared.format.ProofFormat.TheVariants.{Lrat}
 use Rattle.command_line.specs.Command.{Command, ToOrder, ToConvert, Solve, Check, Bench, Make, Arrange, Ask, Convert, Planned, ByName, ByFile}
 use Rattle.command_line.specs.Command.{ByBuckets, Found, Trim}
-use Rattle.command_line.specs.Command.{command, format_of, formula_file, mode_of}
+use Rattle.command_line.specs.Command.{command, format_before, format_of, formula_file, mode_of}
 use Rattle.solver_cli.specs.declared.status.Status.{Status}
 use Rattle.solver_cli.specs.declared.status.Status.TheVariants.{Sat, Unsat, Unknown, Answered, Verified, NotVerified, Done, Help, Usage, CnfRefused}
 use Rattle.solver_cli.specs.declared.status.Status.TheVariants.{OrderRefused, BucketsRefused, PlanRefused, CubeRefused, TooLong, ReadFault, WriteFault, OutOfMemory}
@@ -91,7 +91,8 @@ after_formula run (Make task) problem = None
 after_formula run (Arrange task) problem = None
 after_formula run (Ask task) problem = with_order run task.order problem (λ order. after_given run (Ask task) problem)
 after_formula run (Check task) problem = in_file (run.files task.proof) (λ bytes. by_proof (verdict_in task.format problem.clauses bytes))
-after_formula run (Convert task) problem = in_file (run.files task.proof) (λ bytes. by_proof (verdict_in Lrat problem.clauses bytes))
+after_formula run (Convert task) problem =
+    in_file (run.files task.proof) (λ bytes. by_proof (verdict_in (format_before task.into) problem.clauses bytes))
 after_formula run (Trim task) problem = in_file (run.files task.proof) (λ bytes. by_proof (verdict_in Lrat problem.clauses bytes))
 
 abbrev pub by_words : Run → Option Command → Option Status
@@ -189,7 +190,7 @@ after_judged run (Make task) problem named stands = cc
 after_judged run (Arrange task) problem named stands = cc
 after_judged run (Ask task) problem named stands = cc
 after_judged run (Check task) problem named stands = in_named run task.format task.proof problem named stands
-after_judged run (Convert task) problem named stands = in_named run Lrat task.proof problem named stands
+after_judged run (Convert task) problem named stands = in_named run (format_before task.into) task.proof problem named stands
 after_judged run (Trim task) problem named stands = in_named run Lrat task.proof problem named stands
 
 to_judge : (run : Run) (problem : Formula) (bytes : List ℕ) (a : AsksToJudge run problem bytes) → refusal_due run
@@ -294,7 +295,8 @@ long_only (Some bytes) verdict e = inner (verdict bytes) e where
 
 pub calls_long : (run : Run) (task : ToConvert) (problem : Formula) → AsksOver run (Convert task) (formula problem) → (status : Status)
     → CallsFor run status → status ≡ TooLong ProofIn
-calls_long run task problem a status is = long_only (run.files task.proof) (λ bytes. verdict_in Lrat problem.clauses bytes)
+calls_long run task problem a status is = long_only (run.files task.proof)
+    (λ bytes. verdict_in (format_before task.into) problem.clauses bytes)
     (sym (asks run (Convert task) (formula problem) a) ∙ called run status is)
 
 -- a refusal is called for only where the words give a command

@@ -1,127 +1,133 @@
 -- What the conversion of an opened proof says of the run.
 use Rattle.std.proofs.Common.{◌≡◌, ℕ, ℤ, Bool, List, [], ◌++◌, length, append-nil, refl, sym, ap, ◌∙◌, subst}
 use Rattle.std.proofs.Common.{None, Some, Ok, Err, IsTrue, IsOk, inl, inr}
-use Rattle.std.proofs.lemmas.Grind.{flat_map-append}
-use Rattle.std.specs.Prelude.{◌≢◌, Option, Result, IsErr, OnOk, ⊤, drop}
-use Rattle.host_io.specs.Channel.{Channel, Flushes, Rose}
+use Rattle.std.specs.Prelude.{Option, Result, IsErr, OnOk, ⊤, drop}
+use Rattle.host_io.specs.Channel.{Channel, Flushes}
 use Rattle.host_io.specs.Files.{Files, Kept, Opens}
 use Rattle.host_io.specs.declared.role.Role.{Role}
 use Rattle.host_io.specs.declared.role.Role.TheVariants.{ProofIn, ProofOut}
 use Rattle.host_io.specs.declared.source.Failed.{Failed}
-use Rattle.text_scan.specs.Decides.{gained, Decides, OnlyReads, Decides-whole, Decides-taken}
-use Rattle.lrat_checker.specs.TextVerdict.{Answers, text_verdict, verdict_so_far}
+use Rattle.text_scan.specs.Decides.{gained, Decides-whole, Decides-taken}
+use Rattle.lrat_checker.specs.TextVerdict.{Answers}
+use Rattle.cnf_base.specs.Formula.{Formula}
+use Rattle.lrat_rules.specs.State.{start}
 use Rattle.lrat_checker.specs.declared.verdict.Verdict.{Verdict}
+use Rattle.lrat_checker.specs.declared.verdict.Verdict.TheVariants as judgement
 use Rattle.lrat_checker.specs.declared.verdict.CheckError.{CheckError}
 use Rattle.lrat_checker.specs.declared.verdict.CheckError.TheVariants as check_error
-use Rattle.drat_text.specs.declared.step.DratStep.{DratStep}
-use Rattle.drat_text.specs.DratText.{drat_text, line_of_drat}
-use Rattle.drat_proof.specs.Conversion.{AreFirstLines, HasVerdict, HasWritten, converted}
-use Rattle.drat_proof.specs.TwoRoles.{KeptButTwo, OnlyWrites, added}
+use Rattle.drat_proof.specs.Conversion.{HasVerdict, converted}
+use Rattle.drat_proof.specs.TwoRoles.{KeptButTwo, added}
 use Rattle.drat_proof.specs.declared.error.ConvertError.{ConvertError}
 use Rattle.drat_proof.specs.declared.error.ConvertError.TheVariants as error
-use Rattle.command_line.specs.declared.format.ProofFormat.TheVariants.{Lrat}
+use Rattle.lrat_from_drat.specs.Conversion.{AreSteps, HasSteps}
+use Rattle.command_line.specs.Command.{format_before}
+use Rattle.command_line.specs.declared.conversion.Conversion.{Conversion}
+use Rattle.command_line.specs.declared.conversion.Conversion.TheVariants.{IntoDrat, IntoLrat}
+use Rattle.solver_cli.specs.Format.{verdict_in}
 use Rattle.solver_cli.specs.Phases.{ChecksProof, JudgesProof}
-use Rattle.solver_cli.specs.DratProof.{ConvertsProof, IsFront, RewritesProof}
+use Rattle.solver_cli.specs.ConvertedProof.{Converts, ConvertsProof, HasConverted, RewritesProof}
 use Rattle.solver_cli.proofs.Facts.{behind, nothing_more, whole_of}
-use Rattle.solver_cli.proofs.Judging.{Wanted, judged, unopened, wanted_by}
+use Rattle.solver_cli.proofs.Judging.{judged, unopened, wanted_by}
 use Rattle.solver_cli.proofs.Reading.{ok_err, rose_since}
 
--- What a conversion ensures, before the flush.
-pub record Converts (tells : Bool) (in_old in_new out_old out_new : Channel) (clauses : List (List ℤ)) (becomes : List ℕ → List DratStep)
-    (result : Result Verdict ConvertError) : Type 0 where
-  pub decides : IsTrue tells → Decides in_old in_new (λ bytes more. HasVerdict result (text_verdict clauses bytes))
-  pub written : IsTrue tells → Decides in_old in_new (λ bytes more. HasWritten result (added out_old out_new) (becomes bytes))
-  pub undecided : IsTrue tells → result ≡ Err error.ReadFault → verdict_so_far clauses (gained in_old in_new) ≡ None
-  pub read_fault : result ≡ Err error.ReadFault → Rose in_old.faults in_new.faults
-  pub write_fault : result ≡ Err error.WriteFault → Rose out_old.faults out_new.faults
-  pub read : result ≢ Err error.ReadFault → in_new.faults ≡ in_old.faults
-  pub unfailed : result ≢ Err error.WriteFault → out_new.faults ≡ out_old.faults
-  pub memory : IsTrue tells → result ≡ Err error.OutOfMemory → Wanted Lrat clauses in_old in_new
-  pub reads : OnlyReads in_old in_new
-  pub writes : OnlyWrites out_old out_new
+-- what was written stands where the flush failed
+broken : (into : Conversion) (problem : Formula) (verdict : Verdict) (bytes written : List ℕ)
+    → HasConverted into problem (Ok verdict) bytes written → HasConverted into problem (Err error.WriteFault) bytes written
+broken (IntoDrat fresh) problem verdict bytes written has = ([], sym has ∙ sym (append-nil written))
+broken (IntoLrat any_order) problem verdict bytes written has = (torn verdict has.0, λ e. cc) where
+  with_rest : AreSteps (start problem.clauses) written → (rest : List ℕ) × AreSteps (start problem.clauses) (written ++ rest)
+  with_rest are = ([], subst (AreSteps (start problem.clauses)) (sym (append-nil written)) are)
+
+  torn : (verdict : Verdict) → HasSteps (Ok verdict) (start problem.clauses) written
+      → (rest : List ℕ) × AreSteps (start problem.clauses) (written ++ rest)
+  torn judgement.Verified are = with_rest (record { then = are.then; steps = are.steps; leads = are.leads; text = are.text })
+  torn (judgement.Refused line reason) are = with_rest are
 
 -- it came to no verdict, and nothing was flushed
-pub unflushed : {tells : Bool} {in_old in_new out_old out_new : Channel} {clauses : List (List ℤ)} {becomes : List ℕ → List DratStep} {result answer : Result Verdict ConvertError}
+pub unflushed : {tells : Bool} {in_old in_new out_old out_new : Channel} {into : Conversion} {problem : Formula}
+    {result answer : Result Verdict ConvertError}
     {why : ConvertError}
-    → Converts tells in_old in_new out_old out_new clauses becomes result → result ≡ Err why → answer ≡ Err why
-    → ConvertsProof tells in_old in_new out_old out_new clauses becomes answer
-unflushed {tells = tells} {in_old = in_old} {in_new = in_new} {out_old = out_old} {out_new = out_new} {clauses = clauses} {becomes = becomes} {why = why} c is
-    ends = subst (λ (r : Result Verdict ConvertError). ConvertsProof tells in_old in_new out_old out_new clauses becomes r) (sym ends)
-    (told (subst (λ (r : Result Verdict ConvertError). Converts tells in_old in_new out_old out_new clauses becomes r) is c)) where
-      told : Converts tells in_old in_new out_old out_new clauses becomes (Err why)
-          → ConvertsProof tells in_old in_new out_old out_new clauses becomes (Err why)
+    → Converts tells in_old in_new out_old out_new into problem result → result ≡ Err why → answer ≡ Err why
+    → ConvertsProof tells in_old in_new out_old out_new into problem answer
+unflushed {tells = tells} {in_old = in_old} {in_new = in_new} {out_old = out_old} {out_new = out_new} {into = into} {problem = problem}
+    {why = why} c is
+    ends = subst (λ (r : Result Verdict ConvertError). ConvertsProof tells in_old in_new out_old out_new into problem r) (sym ends)
+    (told (subst (λ (r : Result Verdict ConvertError). Converts tells in_old in_new out_old out_new into problem r) is c)) where
+      told : Converts tells in_old in_new out_old out_new into problem (Err why)
+          → ConvertsProof tells in_old in_new out_old out_new into problem (Err why)
       told c = record {
         judged = λ t. Decides-whole (c.decides t);
         decided = λ t. Decides-taken (c.decides t);
         undecided = c.undecided;
-        memory = λ t e. wanted_by Lrat clauses in_old in_new (c.memory t e);
+        memory = λ t e. wanted_by (format_before into) problem.clauses in_old in_new (c.memory t e);
         read_fault = c.read_fault;
-        unfailed_reads = c.read;
+        unfailed_reads = c.unfailed_reads;
         read_written = c.reads.written;
         read_name = c.reads.name;
         read_faults = c.reads.faults;
         written = λ t. Decides-whole (c.written t);
         flushed = λ t e. cc;
         write_fault = c.write_fault;
-        unfailed_writes = c.unfailed;
+        unfailed_writes = c.unfailed_writes;
         name = c.writes.name;
       }
 
 -- it came to a verdict, and the flush failed or didn't
-pub flushed : {tells : Bool} {in_old in_new in_last out_old out_mid out_new : Channel} {clauses : List (List ℤ)} {becomes : List ℕ → List DratStep}
+pub flushed : {tells : Bool} {in_old in_new in_last out_old out_mid out_new : Channel} {into : Conversion} {problem : Formula}
     {result : Result Verdict ConvertError} {verdict : Verdict}
-    → Converts tells in_old in_new out_old out_mid clauses becomes result → result ≡ Ok verdict → (answer : Result ⊤ Failed)
+    → Converts tells in_old in_new out_old out_mid into problem result → result ≡ Ok verdict → (answer : Result ⊤ Failed)
     → Flushes tells out_mid out_new answer → IsOk answer → in_last ≡ in_new
-    → ConvertsProof tells in_old in_last out_old out_new clauses becomes (Ok verdict)
-flushed {tells = tells} {in_old = in_old} {in_new = in_new} {out_old = out_old} {out_mid = out_mid} {out_new = out_new} {clauses = clauses} {becomes = becomes}
+    → ConvertsProof tells in_old in_last out_old out_new into problem (Ok verdict)
+flushed {tells = tells} {in_old = in_old} {in_new = in_new} {out_old = out_old} {out_mid = out_mid} {out_new = out_new} {into = into}
+    {problem = problem}
     {verdict = verdict} c is answer flushes done to =
-    subst (λ (last : Channel). ConvertsProof tells in_old last out_old out_new clauses becomes (Ok verdict)) (sym to)
-    (told (subst (λ (r : Result Verdict ConvertError). Converts tells in_old in_new out_old out_mid clauses becomes r) is c)) where
-      told : Converts tells in_old in_new out_old out_mid clauses becomes (Ok verdict)
-          → ConvertsProof tells in_old in_new out_old out_new clauses becomes (Ok verdict)
+    subst (λ (last : Channel). ConvertsProof tells in_old last out_old out_new into problem (Ok verdict)) (sym to)
+    (told (subst (λ (r : Result Verdict ConvertError). Converts tells in_old in_new out_old out_mid into problem r) is c)) where
+      told : Converts tells in_old in_new out_old out_mid into problem (Ok verdict)
+          → ConvertsProof tells in_old in_new out_old out_new into problem (Ok verdict)
       told c = record {
         judged = λ t. Decides-whole (c.decides t);
         decided = λ t. Decides-taken (c.decides t);
         undecided = c.undecided;
         memory = λ t e. absurd (ok_err e);
         read_fault = c.read_fault;
-        unfailed_reads = c.read;
+        unfailed_reads = c.unfailed_reads;
         read_written = c.reads.written;
         read_name = c.reads.name;
         read_faults = c.reads.faults;
-        written = λ t. ap (drop (length out_old.written)) flushes.written ∙ Decides-whole (c.written t);
+        written = λ t. subst (λ (l : List ℕ). HasConverted into problem (Ok verdict) in_old.left (drop (length out_old.written) l))
+            (sym flushes.written) (Decides-whole (c.written t));
         flushed = λ t _. flushes.done t done;
         write_fault = λ e. absurd (ok_err e);
-        unfailed_writes = λ differs. flushes.faults.unfailed done ∙ c.unfailed differs;
+        unfailed_writes = λ differs. flushes.faults.unfailed done ∙ c.unfailed_writes differs;
         name = flushes.name ∙ c.writes.name;
       }
 
-pub torn : {tells : Bool} {in_old in_new in_last out_old out_mid out_new : Channel} {clauses : List (List ℤ)} {becomes : List ℕ → List DratStep}
+pub torn : {tells : Bool} {in_old in_new in_last out_old out_mid out_new : Channel} {into : Conversion} {problem : Formula}
     {result : Result Verdict ConvertError} {verdict : Verdict}
-    → Converts tells in_old in_new out_old out_mid clauses becomes result → result ≡ Ok verdict → (answer : Result ⊤ Failed)
+    → Converts tells in_old in_new out_old out_mid into problem result → result ≡ Ok verdict → (answer : Result ⊤ Failed)
     → Flushes tells out_mid out_new answer → IsErr answer → in_last ≡ in_new
-    → ConvertsProof tells in_old in_last out_old out_new clauses becomes (Err error.WriteFault)
-torn {tells = tells} {in_old = in_old} {in_new = in_new} {out_old = out_old} {out_mid = out_mid} {out_new = out_new} {clauses = clauses} {becomes = becomes}
+    → ConvertsProof tells in_old in_last out_old out_new into problem (Err error.WriteFault)
+torn {tells = tells} {in_old = in_old} {in_new = in_new} {out_old = out_old} {out_mid = out_mid} {out_new = out_new} {into = into}
+    {problem = problem}
     {verdict = verdict} c is answer flushes failed to =
-    subst (λ (last : Channel). ConvertsProof tells in_old last out_old out_new clauses becomes (Err error.WriteFault)) (sym to)
-    (told (subst (λ (r : Result Verdict ConvertError). Converts tells in_old in_new out_old out_mid clauses becomes r) is c)) where
-      told : Converts tells in_old in_new out_old out_mid clauses becomes (Ok verdict)
-          → ConvertsProof tells in_old in_new out_old out_new clauses becomes (Err error.WriteFault)
+    subst (λ (last : Channel). ConvertsProof tells in_old last out_old out_new into problem (Err error.WriteFault)) (sym to)
+    (told (subst (λ (r : Result Verdict ConvertError). Converts tells in_old in_new out_old out_mid into problem r) is c)) where
+      told : Converts tells in_old in_new out_old out_mid into problem (Ok verdict)
+          → ConvertsProof tells in_old in_new out_old out_new into problem (Err error.WriteFault)
       told c = record {
         judged = λ t. tt;
         decided = λ t. tt;
         undecided = λ t e. cc;
         memory = λ t e. cc;
         read_fault = λ e. cc;
-        unfailed_reads = λ _. c.read (λ e. ok_err e);
+        unfailed_reads = λ _. c.unfailed_reads (λ e. ok_err e);
         read_written = c.reads.written;
         read_name = c.reads.name;
         read_faults = c.reads.faults;
-        written = λ t. (
-          [],
-          sym (ap (drop (length out_old.written)) flushes.written ∙ Decides-whole (c.written t))
-              ∙ sym (append-nil (added out_old out_new)),
-        );
+        written = λ t. broken into problem verdict in_old.left (added out_old out_new)
+            (subst (λ (l : List ℕ). HasConverted into problem (Ok verdict) in_old.left (drop (length out_old.written) l))
+            (sym flushes.written) (Decides-whole (c.written t)));
         flushed = λ t e. cc;
         write_fault = λ _. rose_since c.writes.faults (flushes.faults.cause failed);
         unfailed_writes = λ differs. absurd (differs refl);
@@ -129,31 +135,32 @@ torn {tells = tells} {in_old = in_old} {in_new = in_new} {out_old = out_old} {ou
       }
 
 -- the proof's file was not opened
-no_answer_read : {tells : Bool} {old new : Channel} {files : Files} {file : List ℕ} {clauses : List (List ℤ)} {opened : Result ⊤ Failed}
+no_answer_read : {tells : Bool} {old new : Channel} {files : Files} {file : List ℕ} {opened : Result ⊤ Failed}
+    (into : Conversion) (problem : Formula)
     → Opens old new file opened → IsErr opened → (answer : Result Verdict CheckError)
-    → ◌≡◌ {A = Result Verdict ConvertError} (Err error.ReadFault) (converted answer) → JudgesProof Lrat tells old new files file clauses answer
-no_answer_read opens failed (Ok verdict) e = absurd (ok_err (sym e))
-no_answer_read opens failed (Err check_error.ReadFault) e = unopened opens failed
-no_answer_read opens failed (Err check_error.TooLong) e = cc
-no_answer_read opens failed (Err check_error.OutOfMemory) e = cc
+    → ◌≡◌ {A = Result Verdict ConvertError} (Err error.ReadFault) (converted answer) → JudgesProof
+    (format_before into) tells old new files file problem.clauses answer
+no_answer_read into problem opens failed (Ok verdict) e = absurd (ok_err (sym e))
+no_answer_read into problem opens failed (Err check_error.ReadFault) e = unopened opens failed
+no_answer_read into problem opens failed (Err check_error.TooLong) e = cc
+no_answer_read into problem opens failed (Err check_error.OutOfMemory) e = cc
 
 none_added : {old new : Channel} → new ≡ old → added old new ≡ []
 none_added {old = old} {new = new} same = behind old new [] (nothing_more old new (ap (λ (c : Channel). c.written) same))
 
-pub unread : {tells : Bool} {in_old in_new out_old out_new : Channel} {files : Files} {file out : List ℕ} {clauses : List (List ℤ)} {becomes : List ℕ → List DratStep}
+pub unread : {tells : Bool} {in_old in_new out_old out_new : Channel} {files : Files} {file out : List ℕ} {into : Conversion}
+    {problem : Formula}
     {opened : Result ⊤ Failed}
     → Opens in_old in_new file opened → IsErr opened → out_new ≡ out_old → out_old.name ≡ None
-    → RewritesProof tells in_old in_new out_old out_new files file out clauses becomes (Err error.ReadFault)
-unread opens failed same unnamed =
+    → RewritesProof tells in_old in_new out_old out_new files file out into problem (Err error.ReadFault)
+unread {into = into} {problem = problem} opens failed same unnamed =
     let none = ap (λ (c : Channel). c.name) same ∙ unnamed in
     record {
-      judges = no_answer_read opens failed;
+      judges = no_answer_read into problem opens failed;
       unfailed_reads = λ differs. absurd (differs refl);
       read_written = opens.idle.written ∙ sym opens.was_idle.written;
       read_name = opens.failed failed;
-      so_far = λ t. inl (none_added same);
-      lines = λ _ t. inl (none_added same);
-      whole = λ t e. cc;
+      written = λ t. inl (refl, none_added same);
       flushed = λ t e. cc;
       write_fault = λ e. cc;
       unfailed_writes = λ _. ap (λ (c : Channel). c.faults) same;
@@ -175,20 +182,20 @@ some_none {file = file} e d = apart (sym e ∙ d) where
   apart e = cc
 
 pub uncreated : {tells : Bool} {in_old in_mid in_new out_old out_mid out_new : Channel} {files : Files} {file out : List ℕ}
-    {clauses : List (List ℤ)} {becomes : List ℕ → List DratStep} {opened created : Result ⊤ Failed}
-    → Opens in_old in_mid file opened → IsOk opened → out_mid ≡ out_old → Opens out_mid out_new out created → IsErr created → in_new ≡ in_mid
-    → RewritesProof tells in_old in_new out_old out_new files file out clauses becomes (Err error.WriteFault)
-uncreated {tells = tells} {in_old = in_old} {in_mid = in_mid} {out_old = out_old} {out_mid = out_mid} {out_new = out_new} {files = files} {file = file} {out = out} {clauses = clauses} {becomes = becomes}
+    {into : Conversion} {problem : Formula} {opened created : Result ⊤ Failed}
+    → Opens in_old in_mid file opened → IsOk opened → out_mid ≡ out_old → Opens out_mid out_new out created → IsErr created
+    → in_new ≡ in_mid
+    → RewritesProof tells in_old in_new out_old out_new files file out into problem (Err error.WriteFault)
+uncreated {tells = tells} {in_old = in_old} {in_mid = in_mid} {out_old = out_old} {out_mid = out_mid} {out_new = out_new} {files = files}
+    {file = file} {out = out} {into = into} {problem = problem}
     {created = created} opens ok from creates failed to =
-    subst (λ (c : Channel). RewritesProof tells in_old c out_old out_new files file out clauses becomes (Err error.WriteFault)) (sym to)
-    (subst (λ (c : Channel). RewritesProof tells in_old in_mid c out_new files file out clauses becomes (Err error.WriteFault)) from (record {
+    subst (λ (c : Channel). RewritesProof tells in_old c out_old out_new files file out into problem (Err error.WriteFault)) (sym to)
+    (subst (λ (c : Channel). RewritesProof tells in_old in_mid c out_new files file out into problem (Err error.WriteFault)) from (record {
       judges = λ answer e. no_answer_written answer e;
       unfailed_reads = λ _. opens.faults.unfailed ok;
       read_written = opens.idle.written ∙ sym opens.was_idle.written;
       read_name = inl (opens.named ok);
-      so_far = λ t. inl (whole_of out_mid out_new creates.was_idle.written ∙ creates.idle.written);
-      lines = λ differs. absurd (differs refl);
-      whole = λ t e. cc;
+      written = λ t. inl (refl, whole_of out_mid out_new creates.was_idle.written ∙ creates.idle.written);
       flushed = λ t e. cc;
       write_fault = λ _. creates.faults.cause failed;
       unfailed_writes = λ differs. absurd (differs refl);
@@ -209,11 +216,13 @@ read_failed (Err check_error.ReadFault) e = refl
 read_failed (Err check_error.TooLong) e = cc
 read_failed (Err check_error.OutOfMemory) e = cc
 
-checks : {tells : Bool} {in_old in_new out_old out_new : Channel} {clauses : List (List ℤ)} {becomes : List ℕ → List DratStep} (answer : Result Verdict CheckError)
-    → ConvertsProof tells in_old in_new out_old out_new clauses becomes (converted answer) → ChecksProof Lrat tells in_old in_new clauses answer
-checks {in_old = in_old} {in_new = in_new} {clauses = clauses} {becomes = becomes} answer c = record {
-  judged = λ t. as_check answer (text_verdict clauses in_old.left) (c.judged t);
-  decided = λ t. as_check answer (text_verdict clauses (gained in_old in_new)) (c.decided t);
+checks : {tells : Bool} {in_old in_new out_old out_new : Channel} {into : Conversion} {problem : Formula}
+    (answer : Result Verdict CheckError)
+    → ConvertsProof tells in_old in_new out_old out_new into problem (converted answer)
+    → ChecksProof (format_before into) tells in_old in_new problem.clauses answer
+checks {in_old = in_old} {in_new = in_new} {into = into} {problem = problem} answer c = record {
+  judged = λ t. as_check answer (verdict_in (format_before into) problem.clauses in_old.left) (c.judged t);
+  decided = λ t. as_check answer (verdict_in (format_before into) problem.clauses (gained in_old in_new)) (c.decided t);
   fault = λ e. c.read_fault (ap converted e);
   unfailed = λ differs. c.unfailed_reads (λ e. differs (read_failed answer e));
   undecided = λ t e. c.undecided t (ap converted e);
@@ -223,38 +232,6 @@ checks {in_old = in_old} {in_new = in_new} {clauses = clauses} {becomes = become
   faults = c.read_faults;
 }
 
--- what was written, as a front of the text or by whole lines
-front_of_lines : {written : List ℕ} {steps : List DratStep} → AreFirstLines written steps → IsFront written steps
-front_of_lines lines = (
-  drat_text lines.rest,
-  ap drat_text lines.parts ∙ flat_map-append line_of_drat lines.front lines.rest
-      ∙ ap (λ (l : List ℕ). l ++ drat_text lines.rest) (sym lines.lines),
-)
-
-all_lines : {written : List ℕ} {steps : List DratStep} → written ≡ drat_text steps → AreFirstLines written steps
-all_lines {steps = steps} all = record { front = steps; rest = []; parts = sym (append-nil steps); lines = all }
-
-as_lines : (result : Result Verdict ConvertError) {written : List ℕ} {steps : List DratStep} → result ≢ Err error.WriteFault
-    → HasWritten result written steps → AreFirstLines written steps
-as_lines (Ok verdict) differs has = all_lines has
-as_lines (Err error.TooLong) differs has = all_lines has
-as_lines (Err error.ReadFault) differs has = has
-as_lines (Err error.OutOfMemory) differs has = has
-as_lines (Err error.WriteFault) differs has = absurd (differs refl)
-
-as_front : (result : Result Verdict ConvertError) (written : List ℕ) (steps : List DratStep) → HasWritten result written steps
-    → IsFront written steps
-as_front (Ok verdict) written steps has = front_of_lines (all_lines has)
-as_front (Err error.TooLong) written steps has = front_of_lines (all_lines has)
-as_front (Err error.ReadFault) written steps has = front_of_lines has
-as_front (Err error.OutOfMemory) written steps has = front_of_lines has
-as_front (Err error.WriteFault) written steps has = has
-
-as_whole : (result : Result Verdict ConvertError) (written : List ℕ) (steps : List DratStep) → IsOk result
-    → HasWritten result written steps → written ≡ drat_text steps
-as_whole (Ok verdict) written steps done has = has
-as_whole (Err e) written steps done has = cc
-
 -- what is said of an `Ok`, where the result is one
 pub on_ok : {P : Type 0} (result : Result ⊤ Failed) → IsOk result → OnOk result P → P
 on_ok (Ok x) done holds = holds
@@ -262,51 +239,39 @@ on_ok (Err e) done holds = cc
 
 -- both files were there, and the proof was converted
 pub rewritten : {tells : Bool} {in_old in_opened in_mid in_new out_old out_mid out_created out_new : Channel} {files : Files}
-    {file out : List ℕ} {clauses : List (List ℤ)} {becomes : List ℕ → List DratStep} {opened created : Result ⊤ Failed} {result : Result Verdict ConvertError}
+    {file out : List ℕ} {into : Conversion} {problem : Formula} {opened created : Result ⊤ Failed} {result : Result Verdict ConvertError}
     → Opens in_old in_opened file opened → IsOk opened → (IsTrue tells → files file ≡ Some in_opened.left) → out_mid ≡ out_old
     → Opens out_mid out_created out created → IsOk created → in_mid ≡ in_opened
-    → ConvertsProof tells in_mid in_new out_created out_new clauses becomes result
-    → RewritesProof tells in_old in_new out_old out_new files file out clauses becomes result
-rewritten {tells = tells} {in_old = in_old} {in_opened = in_opened} {in_mid = in_mid} {in_new = in_new} {out_old = out_old} {out_mid = out_mid}
-    {out_created = out_created} {out_new = out_new} {files = files} {file = file} {out = out} {clauses = clauses} {becomes = becomes} {result = result} opens ok
+    → ConvertsProof tells in_mid in_new out_created out_new into problem result
+    → RewritesProof tells in_old in_new out_old out_new files file out into problem result
+rewritten {tells = tells} {in_old = in_old} {in_opened = in_opened} {in_mid = in_mid} {in_new = in_new} {out_old = out_old}
+    {out_mid = out_mid}
+    {out_created = out_created} {out_new = out_new} {files = files} {file = file} {out = out} {into = into} {problem = problem}
+    {result = result} opens ok
     content from creates done to converts =
-    subst (λ (c : Channel). RewritesProof tells in_old in_new c out_new files file out clauses becomes result) from
-    (told (subst (λ (c : Channel). ConvertsProof tells c in_new out_created out_new clauses becomes result) to converts)) where
+    subst (λ (c : Channel). RewritesProof tells in_old in_new c out_new files file out into problem result) from
+    (told (subst (λ (c : Channel). ConvertsProof tells c in_new out_created out_new into problem result) to converts)) where
       -- nothing was written before
       same : added out_created out_new ≡ added out_mid out_new
       same = ap (λ (l : List ℕ). drop (length l) out_new.written) (creates.idle.written ∙ sym creates.was_idle.written)
 
-      told : ConvertsProof tells in_opened in_new out_created out_new clauses becomes result
-          → RewritesProof tells in_old in_new out_mid out_new files file out clauses becomes result
+      told : ConvertsProof tells in_opened in_new out_created out_new into problem result
+          → RewritesProof tells in_old in_new out_mid out_new files file out into problem result
       told c = record {
         judges = λ answer e. judged opens ok content
-            (checks answer (subst (λ (r : Result Verdict ConvertError). ConvertsProof tells in_opened in_new out_created out_new clauses becomes r) e c));
+            (checks answer (subst (λ (r : Result Verdict ConvertError). ConvertsProof tells in_opened in_new out_created out_new into problem r) e c));
         unfailed_reads = λ differs. c.unfailed_reads differs ∙ opens.faults.unfailed ok;
         read_written = c.read_written ∙ opens.idle.written ∙ sym opens.was_idle.written;
         read_name = inl (c.read_name ∙ opens.named ok);
-        so_far = λ t. inr (record {
-          bytes = in_opened.left;
-          stands = content t;
-          holds = as_front result _ _ (has t);
-        });
-        lines = λ differs t. inr (record {
-          bytes = in_opened.left;
-          stands = content t;
-          holds = as_lines result differs (has t);
-        });
-        whole = λ t over. record {
-          bytes = in_opened.left;
-          stands = content t;
-          holds = as_whole result _ _ over (has t);
-        };
+        written = λ t. inr (record { bytes = in_opened.left; stands = content t; holds = has t });
         flushed = c.flushed;
         write_fault = λ e. rose_since creates.faults.no_less (c.write_fault e);
         unfailed_writes = λ differs. c.unfailed_writes differs ∙ creates.faults.unfailed done;
         name = inl (c.name ∙ creates.named done);
         opened = λ _ none. some_none (c.read_name ∙ opens.named ok) none;
       } where
-        has : IsTrue tells → HasWritten result (added out_mid out_new) (becomes in_opened.left)
-        has t = subst (λ (l : List ℕ). HasWritten result l (becomes in_opened.left)) same (c.written t)
+        has : IsTrue tells → HasConverted into problem result in_opened.left (added out_mid out_new)
+        has t = subst (λ (l : List ℕ). HasConverted into problem result in_opened.left l) same (c.written t)
 
 -- what calls of the two roles leave alone, one after another
 none_some : {name : List ℕ} → ◌≡◌ {A = Option (List ℕ)} None (Some name) → ⊥

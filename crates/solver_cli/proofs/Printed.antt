@@ -13,11 +13,12 @@ use Rattle.term_runner.specs.declared.outcome.Outcome.TheVariants as outcome
 use Rattle.term_runner.specs.declared.outcome.Run.{Run as Ending}
 use Rattle.term_runner.specs.declared.error.RunError.{RunError}
 use Rattle.term_runner.specs.declared.error.RunError.TheVariants.{WriteFault as Torn}
-use Rattle.term_runner.specs.Price.{IsDecision, IsPaidFor}
+use Rattle.term_runner.specs.Price.{IsDecision}
+use Rattle.solver_cli.specs.Sums.{IsPaidAs}
 use Rattle.term_runner.specs.Proofs.{Refutation, IsProof}
 use Rattle.term_runner.specs.Ends.{Says, Shows}
 use Rattle.term_runner.specs.Recovered.{IsRecovered}
-use Rattle.command_line.specs.Command.{Command}
+use Rattle.command_line.specs.Command.{Command, command, parity_asked}
 use Rattle.solver_cli.specs.declared.status.Status.TheVariants.{Sat, Unsat, Unknown, Verified, NotVerified, WriteFault}
 use Rattle.solver_cli.specs.declared.status.Why.{Why}
 use Rattle.solver_cli.specs.declared.status.Why.TheVariants.{NodeLimit, IdLimit}
@@ -29,7 +30,7 @@ use Rattle.solver_cli.specs.Headline.{AnswerTo, IsRefuted, IsSatisfied, IsUndeci
 use Rattle.solver_cli.specs.Run.{Run, written_in, limits_given, text_for, OutputFailed, AsksFor}
 use Rattle.solver_cli.proofs.Facts.{behind, grown_by, whole_of, no_answer}
 use Rattle.solver_cli.proofs.Promised.{Core, due, no_text, no_verdict}
-use Rattle.solver_cli.proofs.Accepted.{Posed, asks_by, asks_for, decision, same_limits, solve_complete, answer_due, Accepts, accepts_write}
+use Rattle.solver_cli.proofs.Accepted.{Posed, asks_by, asks_for, decision, same_limits, same_parity, solve_complete, answer_due, Accepts, accepts_write}
 use Rattle.solver_cli.proofs.Accepted.{accepts_answer, proof_whole, so_far_of_kind, steps_stand}
 
 is_unsat : (found : Outcome) → status_of found ≡ Unsat → found ≡ outcome.Unsat
@@ -88,9 +89,12 @@ answered run {problem = problem} {order = order} {moves = moves} {job = job} pos
   given : IsTrue run.tells → AsksFor run problem
   given = asks_for run posed
 
-  writes : WritesProof run.tells a.created (run.after ProofOut) problem order moves (limits_given run) (Ok a.ending)
-  writes = subst (λ (l : Limits). WritesProof run.tells a.created (run.after ProofOut) problem order moves l (Ok a.ending))
-      (same_limits run posed) a.writes
+  writes : WritesProof (parity_asked (command run.words)) run.tells a.created (run.after ProofOut) problem order moves (limits_given run)
+      (Ok a.ending)
+  writes = subst (λ (p : Bool). WritesProof p run.tells a.created (run.after ProofOut) problem order moves (limits_given run) (Ok a.ending))
+      (same_parity run posed)
+      (subst (λ (l : Limits). WritesProof job.parity run.tells a.created (run.after ProofOut) problem order moves l (Ok a.ending))
+      (same_limits run posed) a.writes)
 
   same_bytes : written_in run ProofOut ≡ (run.after ProofOut).written
   same_bytes = whole_of (run.before ProofOut) (run.after ProofOut) a.opens.was_idle.written
@@ -128,7 +132,7 @@ answered run {problem = problem} {order = order} {moves = moves} {job = job} pos
       problem,
       given t,
       λ width price has paid. so_far_of_kind run problem
-          (IsPaidFor problem (limits_given run) moves width price) a.opens.was_idle.written (writes.price width price has paid t),
+          (IsPaidAs (parity_asked (command run.words)) problem (limits_given run) moves width price) a.opens.was_idle.written (writes.price width price has paid t),
     );
   }
 
@@ -197,6 +201,7 @@ answered run {problem = problem} {order = order} {moves = moves} {job = job} pos
     board = posed.board;
     needs = says_as (outcome_at why) is;
     short = λ width price has paid ample. none_decided why (subst IsDecision is (writes.certain width price has paid ample));
+    sums = λ adds node. writes.conflict adds (is ∙ ap outcome_at node);
     shown = λ t. record {
       asked = asks_by run posed t;
       reached = shows_as (outcome_at why) is t;

@@ -33,12 +33,13 @@ pub opened_from : {start old new : Channel} {file : List ℕ} {answer : Result �
     → Opens start new file answer
 opened_from {new = new} {file = file} {answer = answer} same opens = subst (λ (c : Channel). Opens c new file answer) same opens
 
-pub still_written : {tells : Bool} {old new now : Channel} {problem : Formula} {order : List ℕ} {moves : List Move} {limits : Limits}
+pub still_written : {parity tells : Bool} {old new now : Channel} {problem : Formula} {order : List ℕ} {moves : List Move} {limits : Limits}
     {result : Result Ending RunError} → now ≡ new
-    → WritesProof tells old new problem order moves limits result → WritesProof tells old now problem order moves limits result
-still_written {tells = tells} {old = old} {problem = problem} {order = order} {moves = moves} {limits = limits} {result = result} same
+    → WritesProof parity tells old new problem order moves limits result
+    → WritesProof parity tells old now problem order moves limits result
+still_written {parity = parity} {tells = tells} {old = old} {problem = problem} {order = order} {moves = moves} {limits = limits} {result = result} same
     writes =
-    subst (λ (c : Channel). WritesProof tells old c problem order moves limits result) (sym same) writes
+    subst (λ (c : Channel). WritesProof parity tells old c problem order moves limits result) (sym same) writes
 
 pub printed_from : {tells : Bool} {start old new : Channel} {text : List ℕ} {result : Result ⊤ Failed} → old ≡ start
     → PutsText tells old new text result → PutsText tells start new text result

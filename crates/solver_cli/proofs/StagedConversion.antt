@@ -1,5 +1,5 @@
--- How the calls of `drat` make its stages.
-use Rattle.std.proofs.Common.{◌≡◌, ℕ, ℤ, Bool, List, refl, sym, ap, ◌∙◌, subst, Some, None, Ok, Err, inl, inr}
+-- How the calls of a conversion make its stages.
+use Rattle.std.proofs.Common.{◌≡◌, ℕ, Bool, List, refl, sym, ap, ◌∙◌, subst, Some, None, Ok, Err, inl, inr}
 use Rattle.std.specs.Prelude.{Option, Result, ⊤}
 use Rattle.cnf_base.specs.Formula.{Formula}
 use Rattle.host_io.specs.declared.role.Role.{Role}
@@ -8,39 +8,39 @@ use Rattle.host_io.specs.declared.source.Failed.{Failed}
 use Rattle.host_io.specs.Channel.{Channel}
 use Rattle.host_io.specs.Files.{Files, FilesBut, Kept}
 use Rattle.lrat_checker.specs.declared.verdict.Verdict.{Verdict}
-use Rattle.drat_text.specs.declared.step.DratStep.{DratStep}
-use Rattle.drat_proof.specs.Drat.{named_drat_steps}
 use Rattle.drat_proof.specs.TwoRoles.{KeptButTwo}
 use Rattle.drat_proof.specs.declared.error.ConvertError.{ConvertError}
 use Rattle.command_line.specs.Command.{ToConvert}
+use Rattle.command_line.specs.declared.conversion.Conversion.{Conversion}
 use Rattle.solver_cli.specs.declared.status.Status.{Status}
 use Rattle.solver_cli.specs.ExitCode.{status_of_convert}
 use Rattle.solver_cli.specs.Verdict.{verdict_text}
 use Rattle.solver_cli.specs.Phases.{TakesFormula, PutsText}
-use Rattle.solver_cli.specs.DratProof.{RewritesProof}
+use Rattle.solver_cli.specs.ConvertedProof.{RewritesProof}
 use Rattle.solver_cli.specs.Stages.{streams_of, CameToConvert, status_of_printed}
 use Rattle.solver_cli.proofs.Staged.{printed_from, same_files, still_taken}
 
 -- what was told of streams that earlier and later calls left alone, and of the files before
 rewritten_from : {tells : Bool} {in_start in_old in_new in_now out_start out_old out_new out_now : Channel} {before files : Files}
-    {file out : List ℕ} {clauses : List (List ℤ)} {becomes : List ℕ → List DratStep} {result : Result Verdict ConvertError}
+    {file out : List ℕ} {into : Conversion} {problem : Formula} {result : Result Verdict ConvertError}
     → in_old ≡ in_start → in_now ≡ in_new → out_old ≡ out_start → out_now ≡ out_new → files ≡ before
-    → RewritesProof tells in_old in_new out_old out_new files file out clauses becomes result
-    → RewritesProof tells in_start in_now out_start out_now before file out clauses becomes result
+    → RewritesProof tells in_old in_new out_old out_new files file out into problem result
+    → RewritesProof tells in_start in_now out_start out_now before file out into problem result
 rewritten_from {tells = tells} {in_start = in_start} {in_new = in_new} {in_now = in_now} {out_start = out_start} {out_old = out_old}
-    {out_new = out_new} {out_now = out_now} {before = before} {files = files} {file = file} {out = out} {clauses = clauses} {becomes = becomes} {result = result}
+    {out_new = out_new} {out_now = out_now} {before = before} {files = files} {file = file} {out = out} {into = into} {problem = problem}
+    {result = result}
     in_from in_to out_from out_to same rewrites =
-    subst (λ (f : Files). RewritesProof tells in_start in_now out_start out_now f file out clauses becomes result) same
-    (subst (λ (c : Channel). RewritesProof tells in_start in_now out_start c files file out clauses becomes result) (sym out_to)
-    (subst (λ (c : Channel). RewritesProof tells in_start in_now c out_new files file out clauses becomes result) out_from
-    (subst (λ (c : Channel). RewritesProof tells in_start c out_old out_new files file out clauses becomes result) (sym in_to)
-    (subst (λ (c : Channel). RewritesProof tells c in_new out_old out_new files file out clauses becomes result) in_from rewrites))))
+    subst (λ (f : Files). RewritesProof tells in_start in_now out_start out_now f file out into problem result) same
+    (subst (λ (c : Channel). RewritesProof tells in_start in_now out_start c files file out into problem result) (sym out_to)
+    (subst (λ (c : Channel). RewritesProof tells in_start in_now c out_new files file out into problem result) out_from
+    (subst (λ (c : Channel). RewritesProof tells in_start c out_old out_new files file out into problem result) (sym in_to)
+    (subst (λ (c : Channel). RewritesProof tells c in_new out_old out_new files file out into problem result) in_from rewrites))))
 
 pub unconverted : {tells : Bool} {task : ToConvert} {problem : Formula} {error : ConvertError} {own : Option (List ℕ)} {status : Status}
     (old taken new : Role → Channel) (before files after : Files)
     → TakesFormula task.mode tells (old Cnf) (taken Cnf) before task.file (Ok problem) → Kept Cnf None old taken before files
-    → RewritesProof tells (taken ProofIn) (new ProofIn) (taken ProofOut) (new ProofOut) files task.proof task.out problem.clauses
-    (named_drat_steps task.fresh problem) (Err error)
+    → RewritesProof tells (taken ProofIn) (new ProofIn) (taken ProofOut) (new ProofOut) files task.proof task.out task.into problem
+    (Err error)
     → KeptButTwo ProofIn ProofOut own taken new files after → status ≡ status_of_convert error
     → CameToConvert tells (streams_of old) (streams_of new) before task status
 unconverted {task = task} {problem = problem} {error = error} old taken new before files after takes beside_taken rewrites beside_new ends =
@@ -62,8 +62,9 @@ unconverted {task = task} {problem = problem} {error = error} old taken new befo
 pub converted : {tells : Bool} {task : ToConvert} {problem : Formula} {verdict : Verdict} {printed : Result ⊤ Failed}
     {own name : Option (List ℕ)} {status : Status} (old taken rewritten new : Role → Channel) (before files after last : Files)
     → TakesFormula task.mode tells (old Cnf) (taken Cnf) before task.file (Ok problem) → Kept Cnf None old taken before files
-    → RewritesProof tells (taken ProofIn) (rewritten ProofIn) (taken ProofOut) (rewritten ProofOut) files task.proof task.out problem.clauses
-    (named_drat_steps task.fresh problem) (Ok verdict)
+    → RewritesProof tells (taken ProofIn) (rewritten ProofIn) (taken ProofOut)
+    (rewritten ProofOut) files task.proof task.out task.into problem
+    (Ok verdict)
     → KeptButTwo ProofIn ProofOut own taken rewritten files after
     → PutsText tells (rewritten Out) (new Out) (verdict_text verdict) printed → Kept Out name rewritten new after last
     → status ≡ status_of_printed verdict printed → CameToConvert tells (streams_of old) (streams_of new) before task status
@@ -87,7 +88,7 @@ converted {task = task} {problem = problem} {verdict = verdict} {printed = print
 none_some : {name : List ℕ} → ◌≡◌ {A = Option (List ℕ)} None (Some name) → ⊥
 none_some e = cc
 
--- no file but the DRAT proof's was changed
+-- no file but the converted proof's was changed
 pub files_unconverted : {old taken new : Role → Channel} {before files after : Files} → Kept Cnf None old taken before files
     → KeptButTwo ProofIn ProofOut (new ProofOut).name taken new files after → FilesBut (new ProofOut).name before after
 files_unconverted beside_taken beside file own = beside.files file own ∙ beside_taken.files file none_some

@@ -8,7 +8,6 @@ use Rattle.host_io.specs.declared.role.Role.{Role}
 use Rattle.host_io.specs.declared.role.Role.TheVariants.{Cnf, Order, Buckets, Schedule, ProofIn, Cubes, ProofOut, Made, Out, Err as ErrRole}
 use Rattle.lrat_checker.specs.declared.verdict.Verdict.{Verdict}
 use Rattle.lrat_checker.specs.declared.verdict.CheckError.TheVariants as check_error
-use Rattle.drat_proof.specs.Drat.{named_drat_steps}
 use Rattle.drat_proof.specs.declared.error.ConvertError.{ConvertError}
 use Rattle.drat_proof.specs.declared.error.ConvertError.TheVariants as convert_error
 use Rattle.cnf_base.specs.Formula.{Formula}
@@ -23,7 +22,7 @@ use Rattle.solver_cli.specs.declared.status.Status.TheVariants.{Usage, ReadFault
 use Rattle.solver_cli.specs.ExitCode.{status_of_buckets, status_of_error, status_of_order, status_of_plan, status_of_run, status_of_check}
 use Rattle.solver_cli.specs.ExitCode.{status_of_convert, status_of_cubes}
 use Rattle.cube_queries.specs.declared.answer.Outcome.{Outcome as Replies}
-use Rattle.solver_cli.specs.DratProof.{RewritesProof}
+use Rattle.solver_cli.specs.ConvertedProof.{RewritesProof}
 use Rattle.solver_cli.specs.TrimmedProof.{PutsNamed}
 use Rattle.solver_cli.specs.Stages.{Streams, streams_of, Misused, Helped, Untaken, Unordered, Unbucketed, Unplanned, NoneRead, Job, Solved}
 use Rattle.solver_cli.specs.Stages.{Benched, Unjudged, Judged, FormulaAlone, Came, CameToAnswer, CameToArrange, CameToBench, CameToCheck}
@@ -438,8 +437,8 @@ unconverted {tells = tells} words {old = old} {new = new} {files = files} {task 
   out = λ _. faults_of u.out;
 } where
   failed : (error : ConvertError)
-      → RewritesProof tells old.judged new.judged old.proof new.proof files task.proof task.out u.problem.clauses
-      (named_drat_steps task.fresh u.problem) (Err error)
+      → RewritesProof tells old.judged new.judged old.proof new.proof files task.proof task.out task.into
+      u.problem (Err error)
       → status ≡ status_of_convert error → status ≡ ReadFault → Rose old.judged.faults new.judged.faults
   failed convert_error.ReadFault rewrites ends e = (rewrites.judges (Err check_error.ReadFault) refl).fault refl
   failed convert_error.TooLong rewrites ends e = cc

@@ -1,5 +1,5 @@
 -- What is promised of a run that took its formula, and trimmed its proof or didn't.
-use Rattle.std.proofs.Common.{◌≡◌, ◌≤◌, ℕ, ℤ, false, List, [], ◌++◌, length, append-nil, refl, sym, ap, ap₂, ◌∙◌, subst, Some, None, Ok, Err, IsTrue}
+use Rattle.std.proofs.Common.{◌≡◌, ◌≤◌, ℕ, false, List, [], ◌++◌, length, append-nil, refl, sym, ap, ap₂, ◌∙◌, subst, Some, None, Ok, Err, IsTrue}
 use Rattle.std.proofs.Common.{inl, inr}
 use Rattle.std.specs.Prelude.{Bool, Option, Result, IsErr, IsOk, ⊤}
 use Rattle.cnf_base.specs.Formula.{Formula}
@@ -11,7 +11,6 @@ use Rattle.host_io.specs.declared.source.Failed.{Failed}
 use Rattle.answer_text.specs.Status.{trimmed_text}
 use Rattle.lrat_rules.specs.Run.{Refutes}
 use Rattle.lrat_checker.specs.TextVerdict.{max_bytes, text_verdict}
-use Rattle.lrat_checker.specs.declared.verdict.Verdict.{Verdict}
 use Rattle.lrat_checker.specs.declared.verdict.Verdict.TheVariants as judgement
 use Rattle.lrat_checker.specs.declared.verdict.CheckError.{CheckError}
 use Rattle.lrat_checker.specs.declared.verdict.CheckError.TheVariants.{ReadFault, TooLong, OutOfMemory}

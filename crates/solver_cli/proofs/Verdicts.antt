@@ -1,5 +1,5 @@
 -- What is promised of a run that judged its proof.
-use Rattle.std.proofs.Common.{◌≡◌, ℕ, true, false, List, [], ◌++◌, append-nil, refl, sym, ap, ◌∙◌, Some, Ok, Err, IsTrue, inl, inr}
+use Rattle.std.proofs.Common.{◌≡◌, ℕ, true, false, List, [], ◌++◌, append-nil, refl, sym, ap, ◌∙◌, subst, Some, Ok, Err, IsTrue, inl, inr}
 use Rattle.std.proofs.Common.{true≢false}
 use Rattle.std.specs.Prelude.{Option, Result, ⊤}
 use Rattle.cnf_base.specs.Formula.{Formula}
@@ -24,7 +24,7 @@ use Rattle.solver_cli.specs.Run.{Run, written_in, taken_in, verdict_text_for, Ou
 use Rattle.solver_cli.specs.Run.{IsConverted, IsTrimmed}
 use Rattle.solver_cli.proofs.Facts.{behind, grown_by, no_answer}
 use Rattle.solver_cli.proofs.CallsFor.{no_call_judged}
-use Rattle.solver_cli.proofs.Promised.{Core, due, no_text, no_verdict}
+use Rattle.solver_cli.proofs.Promised.{Core, due, no_verdict}
 use Rattle.solver_cli.proofs.Accepted.{Accepts, accepts_write}
 use Rattle.solver_cli.proofs.VerdictLaws.{Laws}
 use Rattle.solver_cli.proofs.Unjudged.{Judging, one_verdict, one_some, check_complete}
@@ -71,7 +71,7 @@ verdict_due run (judgement.Refused line reason) ends = due run ends tt
 
 -- the other proof that was written, where the words ask for one
 pub record Rewritten (run : Run) (problem : Formula) (bytes : List ℕ) (verdict : Verdict) : Type 0 where
-  pub converted : GivesConversion run → IsConverted run problem bytes
+  pub converted : (given : GivesConversion run) → IsConverted run given.0.into problem bytes verdict
   pub trimmed : verdict ≡ judgement.Verified → GivesTrimming run → IsTrimmed run problem bytes
 
 -- a command that prints no more than the verdict
@@ -157,7 +157,8 @@ judged laws run {problem = problem} j verdict judges rewrites {text = text} says
                   problem = problem;
                   bytes = (judged_text t).bytes;
                   has = verified;
-                  converted = (written t).converted;
+                  converted = λ given. subst (λ (v : Verdict). IsConverted run given.0.into problem (judged_text t).bytes v) is
+                      ((written t).converted given);
                   trimmed = (written t).trimmed is;
                   refuted = laws.verified (format_of j.asked) problem.clauses (judged_text t).bytes verified.judged;
                   unsatisfiable = laws.sound (format_of j.asked) problem.vars problem.clauses (judged_text t).bytes j.literals verified.judged;
@@ -174,7 +175,8 @@ judged laws run {problem = problem} j verdict judges rewrites {text = text} says
                   problem = problem;
                   bytes = (judged_text t).bytes;
                   has = refused;
-                  converted = (written t).converted;
+                  converted = λ given. subst (λ (v : Verdict). IsConverted run given.0.into problem (judged_text t).bytes v) is
+                      ((written t).converted given);
                   refused = laws.refused (format_of j.asked) problem.clauses (judged_text t).bytes line reason refused.judged;
                   printed = all t ∙ same_text t ∙ ap (verdict_text_for run problem (judged_text t).bytes) is;
                 },

@@ -29,7 +29,8 @@ use Rattle.solver_cli.proofs.Trimmings.{rejected, trimmed, untrimmed}
 use Rattle.solver_cli.proofs.Questions.{questioned, uncubed}
 use Rattle.solver_cli.proofs.Verdicts.{judged, plainly}
 use Rattle.solver_cli.proofs.Texts.{arranged, made, unarranged, unmade}
-use Rattle.solver_cli.proofs.Named.{stream_names, names, error_stands}
+use Rattle.solver_cli.proofs.Named.{stream_names, names}
+use Rattle.solver_cli.proofs.StandardError.{error_stands}
 use Rattle.solver_cli.proofs.Told.{Told, told, failures, quiet}
 
 answers : (run : Run) {problem : Formula} {order : List ℕ} {moves : List Move} {job : Job} → Posed run problem order moves job

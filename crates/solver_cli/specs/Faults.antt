@@ -114,7 +114,7 @@ abbrev pub NamedOutputFailed : Run → Type 0
 NamedOutputFailed run = HasFault run Out ⊎ ((role : Role) × IsCreated role × HasFault run role × (asked : Command) × (file : List ℕ)
     × (command run.words ≡ Some asked) × (name_given role asked ≡ Some file))
 
--- a status with which `drat` ends when it has read its proof: a verdict, or that the proof is too long
+-- a status with which `drat` and `lrat` end when they have read the proof: a verdict, or that the proof is too long
 abbrev pub ends_in_proof : Status → Bool
 ends_in_proof Sat = false
 ends_in_proof Unsat = false
@@ -144,13 +144,13 @@ ends_in_proof ReadFault = false
 ends_in_proof WriteFault = false
 ends_in_proof OutOfMemory = false
 
--- The words give `drat`, and it came to the reading of the proof: a call on that failed, or it was read.
+-- The words give `drat` or `lrat`, and it came to the reading of the proof: a call on that failed, or it was read.
 abbrev pub ConvertsAsItReads : Run → Type 0
 ConvertsAsItReads run = GivesConversion run × (HasFault run ProofIn ⊎ IsTrue (ends_in_proof run.status))
 
 -- Faults: a read fault comes only where a call on a file that is read and that the words name failed, and what was taken decides
--- nothing yet, and then nothing was written but on standard error, and by `drat`, where the proof's file failed, of the DRAT proof; a write
--- fault only where all texts were read and accepted (of `drat` the formula), or the words may ask for help, and a call on standard
+-- nothing yet, and then nothing was written but on standard error, and, where the file of a proof that is converted failed, of the other
+-- proof; a write fault only where all texts were read and accepted (of `drat` and `lrat` the formula), or the words may ask for help, and a call on standard
 -- output, or on a created file that they name, failed.
 pub record FaultsAreCounted (run : Run) : Type 0 where
   pub read : run.status ≡ ReadFault → GivesCommand run × InputFailed run

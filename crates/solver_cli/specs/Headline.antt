@@ -1,6 +1,6 @@
 -- What the program promises, over one run of it: its words, the host before and after, and how it ended. What it
 -- says of bytes is said of hosts that tell their bytes. What `solve` and `bench` are given is one sentence (`AreGiven`). Sentences that say
--- more of other commands than of `drat` have a second case (`ConvertsAsItReads`), and `trim` creates its file after the verdict.
+-- more of other commands than of `drat` and `lrat` have a second case (`ConvertsAsItReads`), and `trim` creates its file after the verdict.
 use Rattle.std.specs.Prelude.{◌≡◌, ◌≢◌, ◌⊎◌, ◌++◌, ◌<◌, ℕ, ℤ, Bool, true, false, List, [], None, Some, length, IsTrue, IsFalse}
 use Rattle.std.specs.Prelude.{⊤}
 use Rattle.cnf_base.specs.Truth.{Satisfies, assignment_of}
@@ -13,8 +13,6 @@ use Rattle.lrat_rules.specs.declared.outcome.Reason.{Reason}
 use Rattle.lrat_checker.specs.TextVerdict.{max_bytes}
 use Rattle.lrat_checker.specs.declared.verdict.Verdict.{Verdict}
 use Rattle.lrat_checker.specs.declared.verdict.Verdict.TheVariants as judgement
-use Rattle.drat_proof.specs.Drat.{named_drat, named_drat_steps}
-use Rattle.drat_proof.specs.Conversion.{AreFirstLines}
 use Rattle.proof_trim.specs.Core.{core, core_text}
 use Rattle.proof_trim.specs.Trimmed.{trim}
 use Rattle.cube_text.specs.CubeText.{CubeText, cube_text, cubes as given_cubes, refusal as cube_refusal, overlong as overlong_cubes}
@@ -30,16 +28,17 @@ use Rattle.schedule_plan.specs.declared.plan.Move.{Move}
 use Rattle.term_runner.specs.declared.outcome.Outcome.{Outcome}
 use Rattle.term_runner.specs.declared.outcome.Outcome.TheVariants as outcome
 use Rattle.term_runner.specs.Clauses.{has_empty_clause, one_line}
-use Rattle.term_runner.specs.Price.{AreAmple, IsLeanAtEnd, IsMovePrice, IsPaidFor}
+use Rattle.term_runner.specs.Price.{IsLeanAtEnd, IsMovePrice}
 use Rattle.term_runner.specs.Proofs.{AreUnsatisfiable, IsProof, IsProofOfKind, IsProofSoFar, IsProofSoFarOfKind}
 use Rattle.term_runner.specs.Width.{HasWidth}
 use Rattle.term_runner.specs.Ends.{Says, Shows}
 use Rattle.term_runner.specs.Recovered.{IsRecovered}
 use Rattle.answer_text.specs.Status.{refused_text}
-use Rattle.command_line.specs.Command.{Command, ToSolve, ToAsk, ToMake, ToOrder, Solve, Ask, Make}
+use Rattle.command_line.specs.Command.{Command, ToSolve, ToAsk, ToConvert, ToMake, ToOrder, Solve, Ask, Convert, Make}
 use Rattle.command_line.specs.Command.{Arrange, ByFile, ByBuckets, format_of, formula_file, mode_of, AsksHelp, Misuse, MayMean, CanOnlyMean, command}
-use Rattle.command_line.specs.Command.{progress_asked}
+use Rattle.command_line.specs.Command.{parity_asked, progress_asked}
 use Rattle.solver_cli.specs.declared.status.Why.{Why}
+use Rattle.solver_cli.specs.declared.status.Why.TheVariants.{NodeLimit}
 use Rattle.solver_cli.specs.declared.status.Status.{Status}
 use Rattle.solver_cli.specs.declared.status.Status.TheVariants.{Sat, Unsat, Unknown, Answered, Verified, NotVerified, Done, Help, Usage, CnfRefused}
 use Rattle.solver_cli.specs.declared.status.Status.TheVariants.{OrderRefused, BucketsRefused, PlanRefused, CubeRefused, TooLong, ReadFault, WriteFault}
@@ -48,12 +47,14 @@ use Rattle.solver_cli.specs.Comments.{are_comments, are_comments_so_far}
 use Rattle.solver_cli.specs.ErrorText.{error_text, is_answer}
 use Rattle.solver_cli.specs.Answer.{IsRead, IsOrdered, IsOrderOf, Holds, outcome_at, status_of}
 use Rattle.solver_cli.specs.Format.{verdict_in, RefutesIn, IsRefusedIn}
+use Rattle.solver_cli.specs.Sums.{AreAmpleAs, IsPaidAs, NeedsSums}
+use Rattle.solver_cli.specs.ConvertedProof.{AreLinesOfConversion, IsFrontOfConversion}
 use Rattle.solver_cli.specs.MadeText.{made_text, order_line}
 use Rattle.solver_cli.specs.Phases.{WantsProof, WantsRead, cnf_wants, cubes_wants, order_wants, schedule_wants}
 use Rattle.solver_cli.specs.Verdict.{status_of_verdict}
 use Rattle.solver_cli.specs.Replies.{answers_from, replies_at, replies_text, status_of_replies}
 use Rattle.solver_cli.specs.Run.{Run, written_in, taken_in, limits_given, HasFault, InputFailed, OutputFailed, IsUnharmed, GivesMake}
-use Rattle.solver_cli.specs.Run.{AsksByCubes, GivesAsk, goes_by_order, has_new_names}
+use Rattle.solver_cli.specs.Run.{AsksByCubes, GivesAsk, goes_by_order}
 use Rattle.solver_cli.specs.Run.{GivesConversion, GivesDecision, GivesTrimming, name_given, GivesFormula, GivesProof, GivesOrder, GivesBuckets}
 use Rattle.solver_cli.specs.Run.{GivesSchedule, AsksOver, AsksByOrder, AsksByBuckets, AsksBySchedule, AsksBy, IsBoardAsked, IsPlanAsked}
 use Rattle.solver_cli.specs.Run.{AsksFor, AsksToJudge, HasVerdict, AsksToConvert, IsConverted, IsTrimmed, text_for, verdict_text_for}
@@ -104,7 +105,8 @@ abbrev pub SatisfiableIsTrue : Run → Type 0
 SatisfiableIsTrue run = run.status ≡ Sat → IsSatisfied run
 
 -- Undecided: the words give `solve` or `bench`, and the plan is wider than the nodes that are allowed, where that is the
--- limit; no width fits into the limits. It is the formula that is asked for, by its order and plan; the proof's bytes show
+-- limit; no width fits into the limits, with the sums of the parity equations, where these are added up first. Where they are in conflict then,
+-- fewer nodes are allowed than they may need. It is the formula that is asked for, by its order and plan; the proof's bytes show
 -- that the limit is reached, and it was printed.
 pub record IsShownUndecided (run : Run) (why : Why) (problem : Formula) (order : List ℕ) (moves : List Move) : Type 0 where
   pub asked : AsksBy run problem order moves
@@ -119,7 +121,8 @@ pub record IsUndecided (run : Run) (why : Why) : Type 0 where
   pub board : IsPlanAsked run problem order moves
   pub needs : Says problem order moves (limits_given run) (outcome_at why)
   pub short : (width price : ℕ) → HasWidth problem order moves width → IsMovePrice problem.vars (limits_given run).cache width price
-      → AreAmple (limits_given run) problem moves width price → ⊥
+      → AreAmpleAs (parity_asked (command run.words)) (limits_given run) problem moves width price → ⊥
+  pub sums : IsTrue (parity_asked (command run.words)) → why ≡ NodeLimit → NeedsSums (limits_given run) problem
   pub shown : IsTrue run.tells → IsShownUndecided run why problem order moves
 
 -- Or the words give `ask`: more nodes are needed than are allowed, where that is the limit. It is the formula that is asked for, by its order
@@ -161,25 +164,26 @@ pub record IsAnswered (run : Run) : Type 0 where
 abbrev pub CubesAreAnswered : Run → Type 0
 CubesAreAnswered run = run.status ≡ Answered → IsAnswered run
 
--- Verified: the very bytes of the proof's file refute the formula's clauses, by the rules of LRAT, or with `check --format drat` by those of
--- DRAT, so that no assignment satisfies them. With `drat` the proof was converted, whole; with `trim` it was trimmed.
+-- Verified: the very bytes of the proof's file refute the formula's clauses, by the rules of LRAT, or with `check --format drat` and `lrat` by
+-- those of DRAT, so that no assignment satisfies them. With `drat` and `lrat` the proof was converted, whole: what `lrat` wrote refutes the
+-- formula's clauses by the rules of LRAT. With `trim` it was trimmed.
 pub record IsVerified (run : Run) : Type 0 where
   pub problem : Formula
   pub bytes : List ℕ
   pub has : HasVerdict run problem bytes judgement.Verified
-  pub converted : GivesConversion run → IsConverted run problem bytes
+  pub converted : (given : GivesConversion run) → IsConverted run given.0.into problem bytes judgement.Verified
   pub trimmed : GivesTrimming run → IsTrimmed run problem bytes
   pub refuted : RefutesIn (format_of has.asked.asked) problem.clauses bytes
   pub unsatisfiable : AreUnsatisfiable problem.clauses
   pub printed : written_in run Out ≡ verdict_text_for run problem bytes judgement.Verified
 
--- Not verified: this is the first bad line of the proof by the same rules, or that of its end, and why it is refused. With `drat` what comes
--- before it was converted, whole.
+-- Not verified: this is the first bad line of the proof by the same rules, or that of its end, and why it is refused. With `drat` and `lrat`
+-- what comes before it was converted, whole.
 pub record IsNotVerified (run : Run) (line : ℕ) (reason : Reason) : Type 0 where
   pub problem : Formula
   pub bytes : List ℕ
   pub has : HasVerdict run problem bytes (judgement.Refused line reason)
-  pub converted : GivesConversion run → IsConverted run problem bytes
+  pub converted : (given : GivesConversion run) → IsConverted run given.0.into problem bytes (judgement.Refused line reason)
   pub refused : IsRefusedIn (format_of has.asked.asked) problem.clauses bytes line reason
   pub printed : written_in run Out ≡ refused_text line reason
 
@@ -433,11 +437,11 @@ pub record IsAnswerTo (run : Run) (problem : Formula) (outcome : Outcome) : Type
   pub proof : IsProof problem (limits_given run) (written_in run ProofOut)
   pub flushed : (run.after ProofOut).flushed ≡ length (run.after ProofOut).written
 
--- the verdict on the proof that the words name, by `drat` after a flushed DRAT proof, which is whole, and by `trim` after the trimmed form
--- of a verified one
+-- the verdict on the proof that the words name, by `drat` and `lrat` after the flushed converted proof, which is whole, and by `trim` after
+-- the trimmed form of a verified one
 pub record IsJudged (run : Run) (problem : Formula) (bytes : List ℕ) (judged : Verdict) : Type 0 where
   pub has : HasVerdict run problem bytes judged
-  pub converted : GivesConversion run → IsConverted run problem bytes
+  pub converted : (given : GivesConversion run) → IsConverted run given.0.into problem bytes judged
   pub trimmed : judged ≡ judgement.Verified → GivesTrimming run → IsTrimmed run problem bytes
 
 -- true answers to the cubes that the words name, or a limit that was reached, after a flushed proof of whole lines
@@ -519,26 +523,31 @@ pub record ProofStands (run : Run) : Type 0 where
       ⊎ ((problem : Formula) × AsksFor run problem × IsProof problem (limits_given run) (written_in run ProofOut))
   pub price : IsTrue run.tells → (written_in run ProofOut ≡ []) ⊎ ((problem : Formula) × (asked : AsksFor run problem)
       × ((width price : ℕ) → HasWidth problem asked.order asked.moves width → IsMovePrice problem.vars (limits_given run).cache width price
-      → IsProofSoFarOfKind problem.clauses (IsPaidFor problem (limits_given run) asked.moves width price) (written_in run ProofOut)))
+      → IsProofSoFarOfKind problem.clauses (IsPaidAs (parity_asked (command run.words)) problem (limits_given run) asked.moves width price)
+      (written_in run ProofOut)))
 
--- The DRAT proof that `drat` writes: nothing, or what the first lines of the proof become, in turn, by new names where the words ask for
--- them. A front of one more line may stand behind it only after a failed write.
-pub record IsFrontOfDrat (run : Run) : Type 0 where
+-- The proof that `drat` or `lrat` writes: nothing, or, of `drat`, what the first lines of the proof become, in turn, by new names where the
+-- words ask for them, and, of `lrat`, the lines of good steps from the formula's clauses. A front of one more line may stand behind it only
+-- after a failed write.
+pub record IsFrontOfConverted (run : Run) : Type 0 where
+  pub task : ToConvert
+  pub given : command run.words ≡ Some (Convert task)
   pub problem : Formula
   pub bytes : List ℕ
   pub asked : AsksToJudge run problem bytes
-  pub rest : List ℕ
-  pub front : named_drat (has_new_names run) problem bytes ≡ written_in run ProofOut ++ rest
+  pub front : IsFrontOfConversion task.into problem bytes (written_in run ProofOut)
 
-pub record AreLinesOfDrat (run : Run) : Type 0 where
+pub record AreLinesOfConverted (run : Run) : Type 0 where
+  pub task : ToConvert
+  pub given : command run.words ≡ Some (Convert task)
   pub problem : Formula
   pub bytes : List ℕ
   pub asked : AsksToJudge run problem bytes
-  pub lines : AreFirstLines (written_in run ProofOut) (named_drat_steps (has_new_names run) problem bytes)
+  pub lines : AreLinesOfConversion task.into problem bytes (written_in run ProofOut)
 
-pub record DratStands (run : Run) : Type 0 where
-  pub so_far : IsTrue run.tells → (written_in run ProofOut ≡ []) ⊎ IsFrontOfDrat run
-  pub whole : run.status ≢ WriteFault → IsTrue run.tells → (written_in run ProofOut ≡ []) ⊎ AreLinesOfDrat run
+pub record ConversionStands (run : Run) : Type 0 where
+  pub so_far : IsTrue run.tells → (written_in run ProofOut ≡ []) ⊎ IsFrontOfConverted run
+  pub whole : run.status ≢ WriteFault → IsTrue run.tells → (written_in run ProofOut ≡ []) ⊎ AreLinesOfConverted run
 
 -- The proof that `trim` writes: nothing, or the trimmed form of the proof that the words name, which is verified. Only after a failed write
 -- is it a front of that.
@@ -568,15 +577,15 @@ pub record AskStands (run : Run) : Type 0 where
       → IsMovePrice problem.vars (limits_given run).cache width price
       → IsProofSoFarOfKind problem.clauses (IsPaid problem cubes price) (written_in run ProofOut)))
 
--- what stands in a written proof: of `drat`, of `trim`, of `ask`, and of every other command
+-- what stands in a written proof: of `drat` and `lrat`, of `trim`, of `ask`, and of every other command
 pub record WrittenStands (run : Run) : Type 0 where
-  pub converted : GivesConversion run → DratStands run
+  pub converted : GivesConversion run → ConversionStands run
   pub trimmed : GivesTrimming run → TrimStands run
   pub asked : GivesAsk run → AskStands run
   pub proved : (GivesConversion run → ⊥) → (GivesTrimming run → ⊥) → (GivesAsk run → ⊥) → ProofStands run
 
--- a status with which a run ends that creates no file, or before it does; but `drat` creates its own before it reads the proof, and `trim`
--- once that is verified
+-- a status with which a run ends that creates no file, or before it does; but `drat` and `lrat` create their own before they read the proof,
+-- and `trim` once that is verified
 abbrev pub ends_before_proof : Status → Bool
 ends_before_proof Sat = false
 ends_before_proof Unsat = false
@@ -599,9 +608,9 @@ ends_before_proof OutOfMemory = false
 
 -- Names: a role has none, or the one that the words give it. Files: none changed but the proof's, which is created only
 -- once all reading is over and all texts were accepted, however the run ends, and the made one, which is created only
--- where its text was written or a call of it failed. `drat` creates its proof once the formula was accepted and the proof opened, `trim`
--- once the proof is verified; from then on only a failed write ends it otherwise than with that verdict, and the core's file is made behind
--- the trimmed proof.
+-- where its text was written or a call of it failed. `drat` and `lrat` create their proof once the formula was accepted and the proof
+-- opened, `trim` once the proof is verified; from then on only a failed write ends it otherwise than with that verdict, and the core's file
+-- is made behind the trimmed proof, so that it has its name where `trim` ends with 'verified', too.
 pub record NamesAreGiven (run : Run) : Type 0 where
   pub names : (role : Role) → ((run.after role).name ≡ None) ⊎ ((asked : Command) × (command run.words ≡ Some asked)
       × ((run.after role).name ≡ name_given role asked))
@@ -651,7 +660,7 @@ CallsFor run WriteFault = ⊥
 CallsFor run OutOfMemory = ⊥
 
 -- Complete: what is asked for is answered, unless a call of the host failed or memory ran out; a text that isn't accepted
--- is refused, unless a read failed or memory ran out, or, where it is a proof that `drat` converts, a write failed; words that can mean
+-- is refused, unless a read failed or memory ran out, or, where it is a proof that is converted, a write failed; words that can mean
 -- nothing else are refused, or answered by help, and words that give no command by one of both.
 pub record IsComplete (run : Run) : Type 0 where
   pub misused : CanOnlyMean run.words Misuse → (run.status ≡ Usage) ⊎ (run.status ≡ OutOfMemory)

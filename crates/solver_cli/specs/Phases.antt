@@ -41,12 +41,14 @@ use Rattle.schedule_plan.specs.Bucket.{bucket}
 use Rattle.solver_cli.specs.Answer.{AreFound, IsOrderOf, last_identifier, moves_of_plan}
 use Rattle.solver_cli.specs.declared.basis.Basis.{Basis}
 use Rattle.solver_cli.specs.Format.{may_want_memory_in, so_far_in, verdict_in}
+use Rattle.solver_cli.specs.Sums.{AreAmpleAs, IsPaidAs, NeedsSums}
 use Rattle.schedule_plan.specs.declared.limits.Limits.{Limits}
 use Rattle.term_runner.specs.Ends.{Says, Shows}
-use Rattle.term_runner.specs.Price.{AreAmple, IsDecision, IsMovePrice, IsPaidFor}
+use Rattle.term_runner.specs.Price.{IsDecision, IsMovePrice}
 use Rattle.term_runner.specs.Proofs.{IsProof, IsProofSoFar, IsProofSoFarOfKind}
 use Rattle.term_runner.specs.Width.{HasWidth}
 use Rattle.term_runner.specs.declared.outcome.Run.{Run as Ending}
+use Rattle.term_runner.specs.declared.outcome.Outcome.TheVariants.{NodeLimit}
 use Rattle.term_runner.specs.declared.error.RunError.{RunError}
 use Rattle.term_runner.specs.declared.error.RunError.TheVariants.{WriteFault as Torn}
 use Rattle.solver_cli.specs.ErrorText.{error_text}
@@ -280,19 +282,21 @@ pub record OnlyWritten (old new : Channel) : Type 0 where
   pub faults : old.faults ≤ new.faults
 
 -- A formula was decided, and its proof written: exactly the lines of good steps, within the limits, flushed where the
--- formula was decided; a line that is cut short only after a failed write. It keeps within what the plan's width needs.
+-- formula was decided; a line that is cut short only after a failed write. It keeps within what the plan's width needs, and the sums of its
+-- parity equations, where these are added up first.
 -- The greatest identifier, which `bench` prints, is the ledger's, and that to which the bytes lead (`Ends.last`): so no proof is read back.
-pub record WritesProof (tells : Bool) (old new : Channel) (problem : Formula) (order : List ℕ) (moves : List Move) (limits : Limits)
+pub record WritesProof (parity tells : Bool) (old new : Channel) (problem : Formula) (order : List ℕ) (moves : List Move) (limits : Limits)
     (result : Result Ending RunError) : Type 0 where
   pub says : IfOk result (λ ending. Says problem order moves limits ending.outcome)
   pub certain : (width price : ℕ) → HasWidth problem order moves width → IsMovePrice problem.vars limits.cache width price
-      → AreAmple limits problem moves width price → IfOk result (λ ending. IsDecision ending.outcome)
+      → AreAmpleAs parity limits problem moves width price → IfOk result (λ ending. IsDecision ending.outcome)
   pub shows : IsTrue tells → IfOk result (λ ending. Shows problem limits new.written ending.outcome)
   pub last : IsTrue tells → IfOk result (λ ending. ending.last_id ≡ last_identifier problem.clauses new.written)
   pub whole : result ≢ Err Torn → IsTrue tells → IsProof problem limits new.written
   pub so_far : IsTrue tells → IsProofSoFar problem limits new.written
   pub price : (width price : ℕ) → HasWidth problem order moves width → IsMovePrice problem.vars limits.cache width price → IsTrue tells
-      → IsProofSoFarOfKind problem.clauses (IsPaidFor problem limits moves width price) new.written
+      → IsProofSoFarOfKind problem.clauses (IsPaidAs parity problem limits moves width price) new.written
+  pub conflict : IsTrue parity → IfOk result (λ ending. ending.outcome ≡ NodeLimit → NeedsSums limits problem)
   pub flushed : IsOk result → IsTrue tells → new.flushed ≡ length new.written
   pub fault : result ≡ Err Torn → Rose old.faults new.faults
   pub unfailed : result ≢ Err Torn → new.faults ≡ old.faults

@@ -11,7 +11,6 @@ use Rattle.lrat_rules.specs.Run.{Refutes}
 use Rattle.lrat_checker.specs.TextVerdict.{max_bytes, text_verdict}
 use Rattle.lrat_checker.specs.declared.verdict.Verdict.{Verdict}
 use Rattle.lrat_checker.specs.declared.verdict.Verdict.TheVariants as judgement
-use Rattle.drat_proof.specs.Drat.{named_drat}
 use Rattle.proof_trim.specs.Core.{RefutesFrom, clauses_at, core, core_start, core_text}
 use Rattle.proof_trim.specs.Trimmed.{each_named, trim, trimmed}
 use Rattle.schedule_plan.specs.OrderText.{OrderText, order_text}
@@ -23,12 +22,14 @@ use Rattle.term_runner.specs.declared.outcome.Outcome.{Outcome}
 use Rattle.command_line.specs.Command.{Command, ToSolve, ToAsk, ToBench, ToMake, ToConvert, ToTrim, Solve, Check, Bench, Make, Ask}
 use Rattle.command_line.specs.Command.{Arrange, Convert, Trim, Planned, ByName, ByFile, ByBuckets, Found}
 use Rattle.command_line.specs.Command.{command, format_of, formula_file, limits_asked, mode_of}
+use Rattle.command_line.specs.declared.conversion.Conversion.{Conversion}
 use Rattle.solver_cli.specs.declared.status.Status.{Status}
 use Rattle.workload.specs.Board.{board_formula}
 use Rattle.solver_cli.specs.Answer.{AreGiven, AreOfBoard, IsRead, IsOrdered, answer_text}
 use Rattle.solver_cli.specs.Format.{verdict_in}
 use Rattle.solver_cli.specs.Verdict.{printed_verdict}
 use Rattle.solver_cli.specs.Phases.{buckets_file}
+use Rattle.solver_cli.specs.ConvertedProof.{IsConversion}
 
 -- One run of the program: whether the host tells its bytes, the words, the roles and the files before, the roles
 -- and the files after, and how it ended.
@@ -67,7 +68,8 @@ OutputFailed run = (role : Role) × (IsCreated role ⊎ (role ≡ Out)) × HasFa
 abbrev pub IsUnharmed : Run → Type 0
 IsUnharmed run = (InputFailed run → ⊥) × (OutputFailed run → ⊥)
 
--- the words give a command; they give `solve`; they give `make`; they give `drat`; they give `trim`; they give `ask`
+-- the words give a command; they give `solve`; they give `make`; they give `drat` or `lrat`; they give `trim`;
+-- they give `ask`
 abbrev pub GivesCommand : Run → Type 0
 GivesCommand run = (asked : Command) × (command run.words ≡ Some asked)
 
@@ -152,7 +154,7 @@ name_given Err asked = None
 abbrev pub GivesFormula : Run → Type 0
 GivesFormula run = (asked : Command) × (command run.words ≡ Some asked) × (file : List ℕ) × (formula_file asked ≡ Some file)
 
--- With `check`, `drat` and `trim` they name a proof's file, which is to be judged.
+-- With `check`, `drat`, `lrat` and `trim` they name a proof's file, which is to be judged.
 abbrev pub GivesProof : Run → Type 0
 GivesProof run = (asked : Command) × (command run.words ≡ Some asked) × (file : List ℕ) × (name_given ProofIn asked ≡ Some file)
 
@@ -240,22 +242,14 @@ pub record HasVerdict (run : Run) (problem : Formula) (bytes : List ℕ) (verdic
   pub asked : AsksToJudge run problem bytes
   pub judged : verdict_in (format_of asked.asked) problem.clauses bytes ≡ Some verdict
 
--- They ask to judge a proof over this formula, and to write it as a DRAT proof.
+-- They ask to judge a proof over this formula, and to write it in the other format.
 abbrev pub AsksToConvert : Run → Type 0
 AsksToConvert run = (task : ToConvert) × (problem : Formula) × AsksOver run (Convert task) (formula problem)
 
--- `drat` is to give new names to the variables above the formula's
-abbrev pub asks_new_names : Option Command → Bool
-asks_new_names (Some (Convert task)) = task.fresh
-asks_new_names _ = false
-
-abbrev pub has_new_names : Run → Bool
-has_new_names run = asks_new_names (command run.words)
-
--- The file that the DRAT proof goes to gained exactly what this proof over the formula becomes, by new names where the words ask for them,
--- and that is flushed.
-pub record IsConverted (run : Run) (problem : Formula) (bytes : List ℕ) : Type 0 where
-  pub written : written_in run ProofOut ≡ named_drat (has_new_names run) problem bytes
+-- The file that the converted proof goes to gained what this proof over the formula becomes with this verdict on it: as DRAT exactly that,
+-- as LRAT good steps, which refute the formula's clauses where the proof is verified. It is flushed.
+pub record IsConverted (run : Run) (into : Conversion) (problem : Formula) (bytes : List ℕ) (judged : Verdict) : Type 0 where
+  pub written : IsConversion into problem bytes judged (written_in run ProofOut)
   pub flushed : (run.after ProofOut).flushed ≡ length (run.after ProofOut).written
 
 -- The file that the core goes to gained exactly the numbers of those of the formula's clauses that the trimmed proof names, a line each, and

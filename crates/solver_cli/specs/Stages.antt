@@ -1,5 +1,5 @@
 -- How far a run came, over the streams that it serves.
-use Rattle.std.specs.Prelude.{◌≡◌, ◌≢◌, ◌⊎◌, ℕ, ℤ, Bool, List, Option, None, Some, Result, Ok, Err, IsOk, IsErr, IsFalse, ⊤}
+use Rattle.std.specs.Prelude.{◌≡◌, ◌≢◌, ◌⊎◌, ℕ, ℤ, Bool, false, List, Option, None, Some, Result, Ok, Err, IsOk, IsErr, IsFalse, ⊤}
 use Rattle.cnf_base.specs.Formula.{Formula}
 use Rattle.host_io.specs.declared.role.Role.{Role}
 use Rattle.host_io.specs.declared.role.Role.TheVariants.{Cnf, Order, Buckets, Schedule, ProofIn, Cubes, ProofOut, Made, Out}
@@ -10,7 +10,6 @@ use Rattle.lrat_checker.specs.declared.verdict.Verdict.{Verdict}
 use Rattle.lrat_checker.specs.declared.verdict.CheckError.{CheckError}
 use Rattle.lrat_checker.specs.declared.verdict.Verdict.TheVariants as judgement
 use Rattle.lrat_rules.specs.declared.outcome.Reason.{Reason}
-use Rattle.drat_proof.specs.Drat.{named_drat_steps}
 use Rattle.drat_proof.specs.declared.error.ConvertError.{ConvertError}
 use Rattle.proof_trim.specs.declared.text.Trimmed.TheVariants.{Steps, Refused as IsRefused}
 use Rattle.answer_text.specs.Status.{trimmed_text}
@@ -46,7 +45,7 @@ use Rattle.command_line.specs.Command.{ToSolve, ToAsk, ToCheck, ToBench, ToMake,
 use Rattle.command_line.specs.Command.{Convert, Trim, AsksHelp, Misuse}
 use Rattle.command_line.specs.Command.{MayMean, command}
 use Rattle.solver_cli.specs.Phases.{TakesCubes, TakesFormula, HasOrder, HasBuckets, HasPlan, JudgesProof, WritesProof, PutsText, basis_of, buckets_file}
-use Rattle.solver_cli.specs.DratProof.{RewritesProof}
+use Rattle.solver_cli.specs.ConvertedProof.{RewritesProof}
 use Rattle.solver_cli.specs.TrimmedProof.{PutsFile, PutsNamed, TrimsProof}
 
 -- the files of the formula, of its order, of the buckets' order and of a schedule, the proof that is judged, the cubes, the proof that is
@@ -191,11 +190,13 @@ pub record NoneRead (old new : Streams) : Type 0 where
   pub judged : new.judged ≡ old.judged
   pub cubes : new.cubes ≡ old.cubes
 
--- What is done with a formula, an order and moves: the proof's file, the limits, and the board that they are of, if any.
+-- What is done with a formula, an order and moves: the proof's file, the limits, the board that they are of, if any, and whether its parity
+-- equations are added up first.
 pub record Job : Type 0 where
   pub proof : List ℕ
   pub limits : Limits
   pub shape : Option Shape
+  pub parity : Bool
 
 -- What comes of it is told of the proof's stream and of standard output, before and after.
 
@@ -215,7 +216,7 @@ pub record Undecided (tells : Bool) (old new old_out out : Channel) (problem : F
   pub done : IsOk created_answer
   pub opens : Opens old created job.proof created_answer
   pub error : RunError
-  pub writes : WritesProof tells created new problem order moves job.limits (Err error)
+  pub writes : WritesProof job.parity tells created new problem order moves job.limits (Err error)
   pub same : out ≡ old_out
   pub ends : status ≡ status_of_run error
 
@@ -232,7 +233,7 @@ pub record Answered (tells : Bool) (old new old_out out : Channel) (problem : Fo
   pub done : IsOk created_answer
   pub opens : Opens old created job.proof created_answer
   pub ending : Ending
-  pub writes : WritesProof tells created new problem order moves job.limits (Ok ending)
+  pub writes : WritesProof job.parity tells created new problem order moves job.limits (Ok ending)
   pub printed : Result ⊤ Failed
   pub puts : PutsText tells old_out out (ending_text job.shape job.limits ending) printed
   pub ends : status ≡ status_after ending printed
@@ -245,10 +246,10 @@ CameToAnswer tells old new old_out out problem order moves job status = Uncreate
 
 -- what `solve` and `bench` do with what they are given
 abbrev pub solve_job : ToSolve → Job
-solve_job task = record { proof = task.proof; limits = task.limits; shape = None }
+solve_job task = record { proof = task.proof; limits = task.limits; shape = None; parity = task.parity }
 
 abbrev pub bench_job : ToBench → Formula → Job
-bench_job task problem = record { proof = task.proof; limits = task.limits; shape = Some (shape_of task.size problem) }
+bench_job task problem = record { proof = task.proof; limits = task.limits; shape = Some (shape_of task.size problem); parity = false }
 
 -- `solve` had all that it decides by
 pub record Solved (tells : Bool) (old new : Streams) (files : Files) (task : ToSolve) (status : Status) : Type 0 where
@@ -260,7 +261,7 @@ pub record Solved (tells : Bool) (old new : Streams) (files : Files) (task : ToS
 
 -- the job as the program holds it
 abbrev pub job_of : HeldJob → Job
-job_of job = record { proof = job.proof.now; limits = job.limits; shape = job.shape }
+job_of job = record { proof = job.proof.now; limits = job.limits; shape = job.shape; parity = job.parity }
 
 -- what a call left alone that answers: files that are read, and the text that is made
 pub record LeavesInputs (old new : Role → Channel) : Type 0 where
@@ -290,6 +291,7 @@ task_of task = record {
   mode = task.mode;
   order = text_of task.order;
   plan = planned_of task.plan;
+  parity = task.parity;
   limits = task.limits;
   progress = task.progress;
 }
@@ -378,7 +380,7 @@ CameToReply tells old new old_out out problem order cubes job status = Uncreated
 
 -- what `ask` does with what it is given
 abbrev pub ask_job : ToAsk → Job
-ask_job task = record { proof = task.proof; limits = task.limits; shape = None }
+ask_job task = record { proof = task.proof; limits = task.limits; shape = None; parity = false }
 
 -- `ask` had all that it answers by
 pub record Questioned (tells : Bool) (old new : Streams) (files : Files) (task : ToAsk) (status : Status) : Type 0 where
@@ -450,8 +452,8 @@ pub record Unconverted (tells : Bool) (old new : Streams) (files : Files) (task 
   pub buckets : new.buckets ≡ old.buckets
   pub schedule : new.schedule ≡ old.schedule
   pub error : ConvertError
-  pub rewrites : RewritesProof tells old.judged new.judged old.proof new.proof files task.proof task.out problem.clauses
-      (named_drat_steps task.fresh problem) (Err error)
+  pub rewrites : RewritesProof tells old.judged new.judged old.proof new.proof files task.proof task.out task.into problem
+      (Err error)
   pub cubes : new.cubes ≡ old.cubes
   pub made : new.made ≡ old.made
   pub out : new.out ≡ old.out
@@ -465,15 +467,15 @@ pub record Converted (tells : Bool) (old new : Streams) (files : Files) (task : 
   pub buckets : new.buckets ≡ old.buckets
   pub schedule : new.schedule ≡ old.schedule
   pub verdict : Verdict
-  pub rewrites : RewritesProof tells old.judged new.judged old.proof new.proof files task.proof task.out problem.clauses
-      (named_drat_steps task.fresh problem) (Ok verdict)
+  pub rewrites : RewritesProof tells old.judged new.judged old.proof new.proof files task.proof task.out task.into problem
+      (Ok verdict)
   pub cubes : new.cubes ≡ old.cubes
   pub made : new.made ≡ old.made
   pub printed : Result ⊤ Failed
   pub puts : PutsText tells old.out new.out (verdict_text verdict) printed
   pub ends : status ≡ status_of_printed verdict printed
 
--- how far `drat` came
+-- how far `drat` or `lrat` came
 abbrev pub CameToConvert : Bool → Streams → Streams → Files → ToConvert → Status → Type 0
 CameToConvert tells old new files task status = Untaken task.mode tells old new files task.file status
     ⊎ (Unconverted tells old new files task status ⊎ Converted tells old new files task status)
@@ -702,7 +704,7 @@ pub record Arranging (tells : Bool) (words : List (List ℕ)) (old new : Streams
   pub asked : command words ≡ Some (Arrange task)
   pub came : CameToArrange tells old new files task status
 
--- `drat` was tried
+-- `drat` or `lrat` was tried
 pub record Converting (tells : Bool) (words : List (List ℕ)) (old new : Streams) (files : Files) (status : Status) : Type 0 where
   pub task : ToConvert
   pub asked : command words ≡ Some (Convert task)

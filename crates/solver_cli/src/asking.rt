@@ -50,6 +50,7 @@ pub fn ask<H: Host>(alloc: Global, asked: &AskTask<'_>, host: &mut H) -> Status
         proof: asked.files.proof,
         limits: asked.limits,
         shape: None,
+        parity: false,
         progress: false,
     };
     answer_cubes(alloc, host, &formula, &order, &cubes, &job)

@@ -8,7 +8,7 @@ ghost use Rattle.solver_cli.specs.Headline.{Promises};
 ghost use Rattle.solver_cli.specs.Run.{Run, written_in};
 ghost use Rattle.solver_cli.specs.MadeText.{order_line};
 ghost use Rattle.solver_cli.specs.SolveThenCheck.{ChecksSolved, MayEnd};
-ghost use Rattle.solver_cli.specs.DratThenCheck.{ChecksConverted};
+ghost use Rattle.solver_cli.specs.ConvertThenCheck.{ChecksDrat, ChecksLrat};
 
 use cnf_base::number_laws;
 use dimacs_reader::cnf_law;
@@ -29,12 +29,21 @@ pub fn solve_then_check_law()
 /// mode, unless it is longer than is looked at, memory runs out or a call of the host fails. It holds of any two runs that keep what `run`
 /// promises.
 pub fn drat_then_check_law()
-    ensures { (converted checked : Run) → Promises converted → Promises checked → ChecksConverted converted checked
+    ensures { (converted checked : Run) → Promises converted → Promises checked → ChecksDrat converted checked
         → MayEnd checked (written_in converted ProofOut) checked.status }
 {
     cnf_law();
     drat_law();
     fresh_drat_law();
+}
+
+/// The LRAT proof that `lrat` leaves of a verified DRAT proof is verified by `check`, where both read the formula in the same mode, unless it
+/// is too long, memory runs out or a call of the host fails. It holds of any two runs that keep what `run` promises.
+pub fn lrat_then_check_law()
+    ensures { (converted checked : Run) → Promises converted → Promises checked → ChecksLrat converted checked
+        → MayEnd checked (written_in converted ProofOut) checked.status }
+{
+    check_law();
 }
 
 /// The text that `order` writes is read, by `--order` and `--buckets` of a formula of as many variables, as the order that was written.

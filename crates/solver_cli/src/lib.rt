@@ -1,8 +1,9 @@
 //! The program as a library. `run` does all that it does, over any host: it reads the words, decides a formula and writes the
-//! proof, or judges a proof, and prints the answer, and may write that proof in DRAT, or trimmed; or it answers cubes over a formula, by one
-//! proof; or it makes a workload's texts, or an order of a formula's variables. Its contract, `Promises` of `specs/Headline.antt`, is what the program is worth; `run_with` is that over the
-//! words as the system gives them. It stands on `command_line`, `term_runner`, `plan_search`, `variable_order`, `lrat_checker`,
-//! `drat_checker`, `drat_proof`, `proof_trim`, `cube_queries`, `cube_text`, `dimacs_reader` and `answer_text`.
+//! proof, or judges a proof, and prints the answer, and may write that proof in the other format, or trimmed; or it answers cubes over a
+//! formula, by one proof; or it makes a workload's texts, or an order of a formula's variables. Its contract, `Promises` of
+//! `specs/Headline.antt`, is what the program is worth; `run_with` is that over the words as the system gives them. It stands on
+//! `command_line`, `term_runner`, `plan_search`, `variable_order`, `lrat_checker`, `drat_checker`, `drat_proof`, `lrat_from_drat`,
+//! `proof_trim`, `cube_queries`, `cube_text`, `dimacs_reader` and `answer_text`.
 #![tactic(auto)]
 
 mod answer;
@@ -36,10 +37,11 @@ mod verdict;
 
 pub use answer::Shape;
 pub use command_line::{
-    AskTask, Asked, BenchTask, BoardText, CheckTask, ConvertTask, FileNames, MakeTask, OrderMethod,
-    OrderTask, PlanName, PlanSource, ProofFormat, Refusal, SolveTask, TrimTask, gather, read_words,
+    AskTask, Asked, BenchTask, BoardText, CheckTask, Conversion, ConvertTask, FileNames, MakeTask,
+    OrderMethod, OrderTask, PlanName, PlanSource, ProofFormat, Refusal, SolveTask, TrimTask,
+    gather, read_words,
 };
 pub use complaint::complain;
-pub use laws::{drat_then_check_law, order_line_law, solve_then_check_law};
+pub use laws::{drat_then_check_law, lrat_then_check_law, order_line_law, solve_then_check_law};
 pub use program::{run, run_in_memory, run_with};
 pub use status::{Status, Why};

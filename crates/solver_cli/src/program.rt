@@ -68,7 +68,7 @@ fn work<H: Host>(alloc: Global, words: &[String], host: &mut H) -> Status
         Ok(Asked::Make(task)) => make(alloc, &task, host),
         Ok(Asked::Order(task)) => arrange(alloc, &task, host),
         Ok(Asked::Ask(task)) => ask(alloc, &task, host),
-        Ok(Asked::Convert(task)) => drat(alloc, &task, host),
+        Ok(Asked::Convert(task)) => convert(alloc, &task, host),
         Ok(Asked::Trim(task)) => trim(alloc, &task, host),
         Err(Refusal::Help(text)) => show_help(&text, host),
         Err(Refusal::Usage) => Status::Usage,
@@ -127,6 +127,7 @@ fn solve<H: Host>(alloc: Global, asked: &SolveTask<'_>, host: &mut H) -> Status
         proof: asked.files.proof,
         limits: asked.limits,
         shape: None,
+        parity: asked.parity,
         progress: is_telling,
     };
     answer(alloc, host, &formula, &basis.order, &basis.plan, &job)
@@ -153,6 +154,7 @@ fn bench<H: Host>(alloc: Global, asked: &BenchTask<'_>, host: &mut H) -> Status
             vars: board.cnf.vars(),
             clauses: board.cnf.len(),
         }),
+        parity: false,
         progress: asked.progress,
     };
     answer(alloc, host, &board.cnf, &board.order, &board.plan, &job)
@@ -190,6 +192,7 @@ fn answer<H: Host>(
         order,
         plan,
         job.limits,
+        job.parity,
         &mut is_telling,
     ) {
         Ok(ending) => ending,
@@ -276,8 +279,8 @@ fn check<H: Host>(alloc: Global, asked: &CheckTask<'_>, host: &mut H) -> Status
     }
 }
 
-// Reads the formula, judges the proof over it, writes it as a DRAT proof and prints the verdict.
-fn drat<H: Host>(alloc: Global, asked: &ConvertTask<'_>, host: &mut H) -> Status
+// Reads the formula, judges the proof over it, writes it in the other format and prints the verdict.
+fn convert<H: Host>(alloc: Global, asked: &ConvertTask<'_>, host: &mut H) -> Status
     requires unnamed { (role : Role) → (H.channel host.old role).name ≡ None }
     ensures came { CameToConvert H.tells (streams_of (H.channel host.old)) (streams_of (H.channel host.new)) (H.files host.old)
         (convert_of asked.now) result }
@@ -294,7 +297,7 @@ fn drat<H: Host>(alloc: Global, asked: &ConvertTask<'_>, host: &mut H) -> Status
         &problem,
         asked.files.proof,
         asked.out,
-        asked.fresh,
+        asked.into,
     ) {
         Ok(verdict) => verdict,
         Err(error) => return Status::from(error),
@@ -375,7 +378,8 @@ fn show<H: Host>(host: &mut H, verdict: Verdict) -> Status
 }
 
 /// Does all that the program does: reads the words (the program's own name first), decides the formula and writes the
-/// proof, answers cubes over it, judges a proof, or writes it in DRAT, or trimmed, or makes a text, prints the answer or what went wrong, and says how the run ends.
+/// proof, answers cubes over it, judges a proof, or writes it in the other format, or trimmed, or makes a text, prints the answer or what went
+/// wrong, and says how the run ends.
 pub fn run<H: Host>(alloc: Global, words: &[String], host: &mut H) -> Status
     requires unnamed { (role : Role) → (H.channel host.old role).name ≡ None }
     ensures promises { Promises (record {

@@ -13,6 +13,7 @@ use crate::reporting_sink::ReportingSink;
 use cnf_base::Cnf;
 use host_io::{Host, HostSink, Role, Sink, beside_kept};
 use lrat_rules::derivation_law;
+use parity_runs::run_with_parity;
 use schedule_plan::{Order, Plan};
 use std::alloc::Global;
 use term_runner::{Gauge, Limits, Run, RunError, run_plan_shown};
@@ -25,6 +26,7 @@ pub fn prove<H: Host>(
     order: &Order,
     plan: &Plan,
     limits: Limits,
+    parity: bool,
     is_telling: &mut bool,
 ) -> Result<Run, RunError>
     requires created { (H.channel host.old ProofOut).name ≢ None }
@@ -33,16 +35,18 @@ pub fn prove<H: Host>(
     requires order { length order.now ≡ formula.now.vars }
     requires plan { IsAdmissible formula.now plan.now }
     requires limits { AreLimits limits }
-    ensures writes { WritesProof H.tells (H.channel host.old ProofOut)
+    ensures writes { WritesProof parity H.tells (H.channel host.old ProofOut)
         (H.channel host.new ProofOut) formula.now order.now plan.now limits result }
     ensures notes { Notes is_telling.old is_telling.new H.tells (H.channel host.old ErrRole) (H.channel host.new ErrRole) }
     ensures kept { KeptButTwo ProofOut ErrRole (H.channel host.old ProofOut).name (H.channel host.old) (H.channel host.new)
         (H.files host.old) (H.files host.new) }
 {
     if *is_telling {
-        prove_telling(alloc, host, formula, order, plan, limits, is_telling)
+        prove_telling(
+            alloc, host, formula, order, plan, limits, parity, is_telling,
+        )
     } else {
-        prove_silently(alloc, host, formula, order, plan, limits)
+        prove_silently(alloc, host, formula, order, plan, limits, parity)
     }
 }
 
@@ -53,6 +57,7 @@ fn prove_telling<H: Host>(
     order: &Order,
     plan: &Plan,
     limits: Limits,
+    parity: bool,
     is_telling: &mut bool,
 ) -> Result<Run, RunError>
     requires created { (H.channel host.old ProofOut).name ≢ None }
@@ -61,7 +66,7 @@ fn prove_telling<H: Host>(
     requires order { length order.now ≡ formula.now.vars }
     requires plan { IsAdmissible formula.now plan.now }
     requires limits { AreLimits limits }
-    ensures writes { WritesProof H.tells (H.channel host.old ProofOut)
+    ensures writes { WritesProof parity H.tells (H.channel host.old ProofOut)
         (H.channel host.new ProofOut) formula.now order.now plan.now limits result }
     ensures told { Comments is_telling.new H.tells (H.channel host.old ErrRole) (H.channel host.new ErrRole) }
     ensures kept { KeptButTwo ProofOut ErrRole (H.channel host.old ProofOut).name (H.channel host.old) (H.channel host.new)
@@ -69,7 +74,9 @@ fn prove_telling<H: Host>(
 {
     let gauge = Gauge::new(plan.len());
     let mut sink = ReportingSink::new(host, &gauge, formula.len() as u64);
-    let result = decide(alloc, formula, order, plan, limits, &mut sink, &gauge);
+    let result = decide(
+        alloc, formula, order, plan, limits, parity, &mut sink, &gauge,
+    );
     report_end(&mut sink, &gauge, &result);
     *is_telling = sink.is_telling;
     let _host = sink.close();
@@ -101,13 +108,14 @@ fn prove_silently<H: Host>(
     order: &Order,
     plan: &Plan,
     limits: Limits,
+    parity: bool,
 ) -> Result<Run, RunError>
     requires created { (H.channel host.old ProofOut).name ≢ None }
     requires fresh { (H.channel host.old ProofOut).written ≡ [] }
     requires order { length order.now ≡ formula.now.vars }
     requires plan { IsAdmissible formula.now plan.now }
     requires limits { AreLimits limits }
-    ensures writes { WritesProof H.tells (H.channel host.old ProofOut)
+    ensures writes { WritesProof parity H.tells (H.channel host.old ProofOut)
         (H.channel host.new ProofOut) formula.now order.now plan.now limits result }
     ensures kept { Kept ProofOut (H.channel host.old ProofOut).name (H.channel host.old) (H.channel host.new) (H.files host.old)
         (H.files host.new) }
@@ -115,7 +123,9 @@ fn prove_silently<H: Host>(
     beside_kept::<H>();
     let gauge = Gauge::new(plan.len());
     let mut sink = HostSink::new(host, Role::ProofOut);
-    decide(alloc, formula, order, plan, limits, &mut sink, &gauge)
+    decide(
+        alloc, formula, order, plan, limits, parity, &mut sink, &gauge,
+    )
 }
 
 fn decide<S: Sink + Drop>(
@@ -124,6 +134,7 @@ fn decide<S: Sink + Drop>(
     order: &Order,
     plan: &Plan,
     limits: Limits,
+    parity: bool,
     sink: &mut S,
     gauge: &Gauge,
 ) -> Result<Run, RunError>
@@ -131,9 +142,13 @@ fn decide<S: Sink + Drop>(
     requires order { length order.now ≡ formula.now.vars }
     requires plan { IsAdmissible formula.now plan.now }
     requires limits { AreLimits limits }
-    ensures writes { WritesProof S.tells (S.channel sink.old) (S.channel sink.new) formula.now order.now plan.now limits result }
+    ensures writes { WritesProof parity S.tells (S.channel sink.old) (S.channel sink.new) formula.now order.now plan.now limits result }
     ensures beside { S.beside sink.new ≡ S.beside sink.old }
 {
     derivation_law();
-    run_plan_shown(alloc, formula, order, plan, limits, sink, gauge)
+    if parity {
+        run_with_parity(alloc, formula, order, plan, limits, sink)
+    } else {
+        run_plan_shown(alloc, formula, order, plan, limits, sink, gauge)
+    }
 }

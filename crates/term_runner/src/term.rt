@@ -25,7 +25,7 @@ use crate::runner::Runner;
 use crate::unit::{is_same, is_same_term, retire_unit};
 use host_io::Sink;
 use node_table::{
-    Justification, Node, TableError, growth_law, reach_law, steps_law, subfunction_law,
+    Justification, Node, Table, TableError, growth_law, reach_law, steps_law, subfunction_law,
 };
 use operations::entry_law;
 use reclaim::reclaim;
@@ -91,6 +91,13 @@ impl<'a, S: Sink + Drop> Runner<'a, S> {
         ensures { result ≡ live_nodes self.now.terms.table.graph }
     {
         self.terms.table.live()
+    }
+
+    /// The table of its nodes, to be read.
+    pub fn table(&self) -> &Table<S>
+        ensures { result.now ≡ self.now.terms.table }
+    {
+        &self.terms.table
     }
 
     /// Takes a term back. Its unit is retired, but for the first empty clause; after a failed write nothing changes.

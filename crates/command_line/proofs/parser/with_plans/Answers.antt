@@ -13,12 +13,16 @@ returns-clause-app c =
     let two_are : app_of c.in_ok-arg-2.field-0 ≡ with_rule (with_rule (app_of c.args.command) (option_rule (codes "buckets")))
     (option_rule (codes "schedule")) =
     c.in_ok-arg-2.ensures.shape c.option_arg-2.ensures.local ∙ ap₂ with_rule one_is c.option_arg-2.ensures.rule in
-    IfOk-weaker c.arg-3.result _ _ (λ r adds. adds.shape c.option_arg-3.ensures.local
-    ∙ ap₂ with_rule two_are c.option_arg-3.ensures.rule) c.arg-3.ensures
+    let three_are : app_of c.in_ok-arg-3.field-0 ≡ with_rule (with_rule (with_rule (app_of c.args.command) (option_rule (codes "buckets")))
+    (option_rule (codes "schedule"))) (option_rule (codes "plan")) =
+    c.in_ok-arg-3.ensures.shape c.option_arg-3.ensures.local ∙ ap₂ with_rule two_are c.option_arg-3.ensures.rule in
+    IfOk-weaker c.arg-4.result _ _ (λ r adds. adds.shape c.flag_arg.ensures.local
+    ∙ ap₂ with_rule three_are c.flag_arg.ensures.rule) c.arg-4.ensures
 
 pub returns-clause-local : goal.returns-clause-local
 returns-clause-local c =
-    IfOk-weaker c.arg-3.result _ _
-    (λ r adds. adds.globals ∙ stays _ _ c.option_arg-3.ensures.local ∙ c.in_ok-arg-2.ensures.globals
+    IfOk-weaker c.arg-4.result _ _
+    (λ r adds. adds.globals ∙ stays _ _ c.flag_arg.ensures.local ∙ c.in_ok-arg-3.ensures.globals
+    ∙ stays _ _ c.option_arg-3.ensures.local ∙ c.in_ok-arg-2.ensures.globals
     ∙ stays _ _ c.option_arg-2.ensures.local
-    ∙ c.in_ok-arg.ensures.globals ∙ stays _ _ c.option_arg.ensures.local) c.arg-3.ensures
+    ∙ c.in_ok-arg.ensures.globals ∙ stays _ _ c.option_arg.ensures.local) c.arg-4.ensures

@@ -26,6 +26,7 @@ at_place cubes place cube is = let back : place + 1 - 1 ≡ place = omega arith 
 
 pub cubes-init : goal.cubes-init
 cubes-init g c = record {
+  finder = c.new-finder.ensures;
   stays = stays_none c.steps_law.ensures c.args.runner.now c.requires.runner;
   paid = no_cubes c.args.cubes.now c.args.runner.now;
   answers = subst (λ (l : List Answer). AnswersIn c.args.runner.now [] l) (sym c.new-answers.ensures) tt;
@@ -33,6 +34,9 @@ cubes-init g c = record {
 
 pub reply-requires-clause-runner : goal.reply-requires-clause-runner
 reply-requires-clause-runner g c = c.cubes.invariant.stays.runner
+
+pub reply-requires-clause-finder : goal.reply-requires-clause-finder
+reply-requires-clause-finder g c = c.cubes.invariant.finder
 
 pub reply-requires-clause-alone : goal.reply-requires-clause-alone
 reply-requires-clause-alone g c =
@@ -101,6 +105,7 @@ cubes-preserved g c =
     let more = answers_more c.cubes.runner c.reply.new.runner c.args.cubes.now c.cubes.place (omega (arith, c.cubes-test.true, c.len-place-end.ensures)) c.cubes.answers
     c.in_ok-answer.answer c.cubes.invariant.answers (rw (at_place c.args.cubes.now c.cubes.place c.cube.result.now c.cube.ensures) at c.in_ok-answer.ensures.replies) in
     record {
+      finder = c.in_ok-answer.ensures.finder;
       paid = cubes_back c.args.cubes.now (c.cubes.place + 1) c.args.runner.now c.reply.new.runner c.tidied.new.runner
           (Ok c.in_ok-left.left) (cube_costs c.args.cubes.now c.args.runner.now c.cubes.runner c.reply.new.runner c.cubes.place
           (omega (arith, c.cubes-test.true, c.len-place-end.ensures)) c.cubes.invariant.stays.goes c.cubes.invariant.paid None (rw (at_place c.args.cubes.now c.cubes.place c.cube.result.now c.cube.ensures) at c.in_ok-answer.ensures.costs))

@@ -1,5 +1,6 @@
 -- What the loop of `reply_each` keeps.
 use Rattle.std.proofs.Common.{take}
+use Rattle.cube_models.specs.Finder.{IsFinder}
 use Rattle.cube_queries.proofs.Asked.{AnswersIn}
 use Rattle.cube_queries.proofs.Stays.{Stays}
 use Rattle.cube_queries.proofs.Totals.{PaidCubes}
@@ -8,6 +9,7 @@ use Rattle.cube_queries.proofs.session.reply_each.Given as goal
 abbrev pub invariant-cubes : goal.invariant-cubes
 invariant-cubes g l = record {
   stays : Stays l.fn.runner l.runner;
+  finder : IsFinder l.finder;
   paid : PaidCubes l.cubes l.place l.fn.runner l.runner;
   answers : AnswersIn l.runner (take l.place l.cubes) l.answers;
 }

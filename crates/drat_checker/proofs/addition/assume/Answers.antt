@@ -1,45 +1,74 @@
 -- One literal more, a clash, and the end of the clause.
-use Rattle.std.proofs.Common.{◌&&◌, sym, ◌∙◌, ap}
+use Rattle.std.proofs.Common.{◌&&◌, None, sym, ◌∙◌, ap}
 use Rattle.std.specs.List.{list_all}
 use Rattle.std.proofs.lemmas.List.{take_all}
 use Rattle.lrat_rules.specs.Trail.{with_last}
 use Rattle.drat_checker.specs.Propagation.{Extends}
-use Rattle.drat_checker.proofs.FalseSets.{and_nothing, also-more, clash-at}
+use Rattle.drat_checker.specs.Trail.{with_reason}
+use Rattle.drat_checker.proofs.FalseSets.{and_nothing, also-more, clash-at, own-literal}
+use Rattle.drat_checker.proofs.Reasoned.{clash-held, keeps-any, keeps-assumed, keeps-falsified, keeps-then}
 use Rattle.drat_checker.proofs.Propagated.{extends-none, extends-then, extends-last, either, unclashed, extends-is}
 use Rattle.drat_checker.proofs.addition.assume.Goals as goal
 
 pub loop-literal-init : goal.loop-literal-init
-loop-literal-init c = record { extends = extends-none c.args.trail.now; also = λ q. and_nothing (list_all q c.args.trail.now) }
+loop-literal-init c = record {
+  extends = extends-none c.args.trail.now.literals;
+  reasons = λ places. keeps-any places c.args.clause.now c.args.trail.now;
+  also = λ q. and_nothing (list_all q c.args.trail.now.literals);
+}
 
 pub loop-literal-preserved : goal.loop-literal-preserved
 loop-literal-preserved c =
     let x = c.literal-item.result in
-    let old = c.loop-literal.trail in
-    let new = unclashed c.in_ok-clash.clash c.falsify.new.self old (with_last x old) c.if-clash.false c.in_ok-clash.ensures.literals in
+    let old = c.loop-literal.trail.literals in
+    let new = unclashed c.in_ok-clash.clash c.falsify.new.self.literals old (with_last x old) c.if-clash.false
+    c.in_ok-clash.ensures.literals in
     record {
       extends = extends-then c.loop-literal.invariant.extends (extends-is new (extends-last x old));
-      also = λ q. also-more c.args.trail.now old c.args.clause.now c.loop-literal.literal-index x c.loop-literal-test.true
+      reasons = λ places. keeps-then (c.loop-literal.invariant.reasons places)
+          (keeps-falsified c.in_ok-clash.clash (with_reason x None c.loop-literal.trail)
+          (keeps-assumed places c.args.clause.now c.loop-literal.trail x (own-literal c.args.clause.now c.loop-literal.literal-index x
+          c.loop-literal-test.true c.literal-item.is)) c.in_ok-clash.ensures.reasons);
+      also = λ q. also-more c.args.trail.now.literals old c.args.clause.now c.loop-literal.literal-index x c.loop-literal-test.true
           c.literal-item.is q
-          c.falsify.new.self new (c.loop-literal.invariant.also q);
+          c.falsify.new.self.literals new (c.loop-literal.invariant.also q);
     }
 
 pub returns-then-clash-clause-clash : goal.returns-then-clash-clause-clash
 returns-then-clash-clause-clash c = λ is.
-    clash-at c.args.trail.now c.loop-literal.trail c.args.clause.now c.loop-literal.literal-index c.literal-item.result
+    clash-at c.args.trail.now.literals c.loop-literal.trail.literals c.args.clause.now c.loop-literal.literal-index c.literal-item.result
     c.loop-literal-test.true c.literal-item.is c.loop-literal.invariant.also (sym c.in_ok-clash.ensures.clash ∙ c.if-clash.true)
+
+pub returns-then-clash-clause-held : goal.returns-then-clash-clause-held
+returns-then-clash-clause-held c =
+    let x = c.literal-item.result in
+    clash-held c.falsify.new.self c.args.clause.now c.in_ok-clash.clash c.loop-literal.trail.literals
+    (with_last x c.loop-literal.trail.literals) x c.if-clash.true c.in_ok-clash.ensures.literals c.in_ok-clash.ensures.clash
+    (own-literal c.args.clause.now c.loop-literal.literal-index x c.loop-literal-test.true c.literal-item.is)
 
 pub returns-then-clash-clause-extends : goal.returns-then-clash-clause-extends
 returns-then-clash-clause-extends c =
     let x = c.literal-item.result in
-    let old = c.loop-literal.trail in
+    let old = c.loop-literal.trail.literals in
     extends-then c.loop-literal.invariant.extends
-    (either (Extends old) c.in_ok-clash.clash c.falsify.new.self old (with_last x old) (extends-none old) (extends-last x old)
+    (either (Extends old) c.in_ok-clash.clash c.falsify.new.self.literals old (with_last x old) (extends-none old) (extends-last x old)
     c.in_ok-clash.ensures.literals)
+
+pub returns-then-clash-clause-reasons : goal.returns-then-clash-clause-reasons
+returns-then-clash-clause-reasons c = λ places.
+    let x = c.literal-item.result in
+    keeps-then (c.loop-literal.invariant.reasons places)
+    (keeps-falsified c.in_ok-clash.clash (with_reason x None c.loop-literal.trail)
+    (keeps-assumed places c.args.clause.now c.loop-literal.trail x (own-literal c.args.clause.now c.loop-literal.literal-index x
+    c.loop-literal-test.true c.literal-item.is)) c.in_ok-clash.ensures.reasons)
+
+pub returns-clause-reasons : goal.returns-clause-reasons
+returns-clause-reasons c = c.loop-literal.invariant.reasons
 
 pub returns-clause-also : goal.returns-clause-also
 returns-clause-also c = λ is. record {
   also = λ q. c.loop-literal.invariant.also q
-      ∙ ap (λ l. list_all q c.args.trail.now && list_all q l)
+      ∙ ap (λ l. list_all q c.args.trail.now.literals && list_all q l)
       (take_all c.loop-literal.literal-index c.args.clause.now c.loop-literal-test.false);
 }
 

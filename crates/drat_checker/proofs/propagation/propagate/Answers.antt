@@ -1,9 +1,12 @@
 -- One literal more, a false clause, and the end.
-use Rattle.std.proofs.Common.{◌<◌, ◌≤◌, length, arith}
+use Rattle.std.proofs.Common.{◌<◌, ◌≤◌, length, ap, is_some, arith}
 use Rattle.drat_checker.specs.Places.{standing}
+use Rattle.drat_checker.specs.Reasons.{IsFalsified}
 use Rattle.drat_checker.specs.Watches.{IsSettled}
+use Rattle.drat_checker.proofs.Lifts.{if-some-at}
 use Rattle.drat_checker.proofs.Propagated.{none-before}
 use Rattle.drat_checker.proofs.Derived.{derives-none, derives-then, derives-extends, derives-same}
+use Rattle.drat_checker.proofs.Reasoned.{keeps-none, keeps-then}
 use Rattle.drat_checker.proofs.Settled.{guard-end, guard-next, holds-more, settled-closed}
 use Rattle.drat_checker.proofs.Visited.{more-false}
 use Rattle.drat_checker.proofs.Watched.{moves-none, moves-then}
@@ -12,8 +15,9 @@ use Rattle.drat_checker.proofs.propagation.propagate.Goals as goal
 pub literals-init : goal.literals-init
 literals-init c = record {
   watched = c.requires.watched;
-  moves = moves-none c.args.kept.now.pairs.items c.args.trail.now;
-  derives = derives-none (standing c.args.db.now) c.args.trail.now;
+  moves = moves-none c.args.kept.now.pairs.items c.args.trail.now.literals;
+  derives = derives-none (standing c.args.db.now) c.args.trail.now.literals;
+  reasons = keeps-none c.args.db.now c.args.trail.now;
   guarded = c.requires.guarded;
   holds = c.requires.holds;
 }
@@ -23,44 +27,60 @@ literals-preserved c =
     let so_far = c.literals.invariant in
     let step = c.in_ok-conflict.ensures in
     let e = derives-extends step.derives in
-    let within : c.literals.place < length c.literals.trail = omega (arith, c.literals-test.true, c.len.ensures) in
+    let within : c.literals.place < length c.literals.trail.literals = omega (arith, c.literals-test.true, c.len.ensures.literals) in
     record {
       watched = step.watched;
-      moves = moves-then c.args.trail.now c.literals.trail (more-false (derives-extends so_far.derives)) so_far.moves step.moves;
+      moves = moves-then c.args.trail.now.literals c.literals.trail.literals (more-false (derives-extends so_far.derives)) so_far.moves
+          step.moves;
       derives = derives-then so_far.derives step.derives;
-      guarded = guard-next c.args.db.now c.literals.kept.pairs.items c.visit.new.self.pairs.items c.literals.trail c.visit.new.trail
+      reasons = keeps-then so_far.reasons step.reasons;
+      guarded = guard-next c.args.db.now c.literals.kept.pairs.items c.visit.new.self.pairs.items c.literals.trail.literals
+          c.visit.new.trail.literals
           c.literals.place c.literal-literal.result within c.literal-literal.ensures e so_far.guarded step.moves
-          (step.visited c.if-conflict.false);
+          (step.visited c.in-None.is);
       holds = holds-more c.args.db.now e so_far.holds;
     }
 
-pub returns-then-conflict-clause-conflict : goal.returns-then-conflict-clause-conflict
-returns-then-conflict-clause-conflict c = λ is.
-    none-before c.quiet_law.ensures.none c.quiet_law.ensures.fails (standing c.args.db.now) c.args.trail.now c.literals.trail
+pub returns-in-Some-clause-conflict : goal.returns-in-Some-clause-conflict
+returns-in-Some-clause-conflict c = λ is.
+    none-before c.quiet_law.ensures.none c.quiet_law.ensures.fails (standing c.args.db.now) c.args.trail.now.literals
+    c.literals.trail.literals
     (derives-same c.propagation_law.ensures.forced c.literals.invariant.derives)
-    (c.in_ok-conflict.ensures.conflict c.if-conflict.true)
+    (c.in_ok-conflict.ensures.conflict (ap is_some c.in-Some.is))
 
-pub returns-then-conflict-clause-derives : goal.returns-then-conflict-clause-derives
-returns-then-conflict-clause-derives c = derives-then c.literals.invariant.derives c.in_ok-conflict.ensures.derives
+pub returns-in-Some-clause-derives : goal.returns-in-Some-clause-derives
+returns-in-Some-clause-derives c = derives-then c.literals.invariant.derives c.in_ok-conflict.ensures.derives
 
-pub returns-then-conflict-clause-moves : goal.returns-then-conflict-clause-moves
-returns-then-conflict-clause-moves c =
-    moves-then c.args.trail.now c.literals.trail (more-false (derives-extends c.literals.invariant.derives)) c.literals.invariant.moves
+pub returns-in-Some-clause-reasons : goal.returns-in-Some-clause-reasons
+returns-in-Some-clause-reasons c = keeps-then c.literals.invariant.reasons c.in_ok-conflict.ensures.reasons
+
+pub returns-in-Some-clause-falsified : goal.returns-in-Some-clause-falsified
+returns-in-Some-clause-falsified c =
+    if-some-at (IsFalsified c.args.db.now c.visit.new.trail.literals) c.in_ok-conflict.conflict c.in-Some.number c.in-Some.is
+    c.in_ok-conflict.ensures.falsified
+
+pub returns-in-Some-clause-moves : goal.returns-in-Some-clause-moves
+returns-in-Some-clause-moves c =
+    moves-then c.args.trail.now.literals c.literals.trail.literals (more-false (derives-extends c.literals.invariant.derives))
+    c.literals.invariant.moves
     c.in_ok-conflict.ensures.moves
 
 pub returns-clause-settled : goal.returns-clause-settled
 returns-clause-settled c = λ is.
-    let past : length c.literals.trail ≤ c.literals.place = omega (arith, c.literals-test.false, c.len.ensures) in
+    let past : length c.literals.trail.literals ≤ c.literals.place = omega (arith, c.literals-test.false, c.len.ensures.literals) in
     record {
-      guarded = guard-end c.args.db.now c.literals.kept.pairs.items c.literals.place c.literals.trail past c.literals.invariant.guarded;
+      guarded = guard-end c.args.db.now c.literals.kept.pairs.items c.literals.place c.literals.trail.literals past
+          c.literals.invariant.guarded;
       holds = c.literals.invariant.holds;
     }
 
 pub returns-clause-closed : goal.returns-clause-closed
 returns-clause-closed c = λ is.
-    let past : length c.literals.trail ≤ c.literals.place = omega (arith, c.literals-test.false, c.len.ensures) in
-    let settled : IsSettled c.literals.kept c.args.db.now c.literals.trail = record {
-      guarded = guard-end c.args.db.now c.literals.kept.pairs.items c.literals.place c.literals.trail past c.literals.invariant.guarded;
+    let past : length c.literals.trail.literals ≤ c.literals.place = omega (arith, c.literals-test.false, c.len.ensures.literals) in
+    let settled : IsSettled c.literals.kept c.args.db.now c.literals.trail.literals = record {
+      guarded = guard-end c.args.db.now c.literals.kept.pairs.items c.literals.place c.literals.trail.literals past
+          c.literals.invariant.guarded;
       holds = c.literals.invariant.holds;
     } in
-    settled-closed c.literals.kept c.args.db.now c.literals.trail c.literals.invariant.watched.watched.are c.apart_law.ensures settled
+    settled-closed c.literals.kept c.args.db.now c.literals.trail.literals c.literals.invariant.watched.watched.are c.apart_law.ensures
+    settled

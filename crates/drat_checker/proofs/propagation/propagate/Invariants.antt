@@ -1,17 +1,19 @@
 -- The literals before the place are propagated; and a list has fewer than 2 ^ 64.
-use Rattle.std.proofs.Common.{◌-◌, ◌^◌, take}
+use Rattle.std.proofs.Common.{◌-◌, ◌^◌, [], take}
 use Rattle.drat_checker.specs.Places.{standing}
 use Rattle.drat_checker.specs.Propagation.{Derives}
+use Rattle.drat_checker.specs.Reasons.{KeepsReasons}
 use Rattle.drat_checker.specs.Watches.{AreTrue, AreWatched, IsGuarded, MovesWatches}
 use Rattle.drat_checker.proofs.propagation.propagate.Given as goal
 
 abbrev pub invariant-literals : goal.invariant-literals
 invariant-literals l = record {
   watched : AreWatched l.kept l.fn.db;
-  moves : MovesWatches l.fn.kept.pairs.items l.kept.pairs.items l.fn.trail;
-  derives : Derives (standing l.fn.db) l.fn.trail l.trail;
-  guarded : IsGuarded l.fn.db l.kept.pairs.items (take l.place l.trail) l.trail;
-  holds : AreTrue l.fn.db l.trail;
+  moves : MovesWatches l.fn.kept.pairs.items l.kept.pairs.items l.fn.trail.literals;
+  derives : Derives (standing l.fn.db) l.fn.trail.literals l.trail.literals;
+  reasons : KeepsReasons l.fn.db [] l.fn.trail l.trail;
+  guarded : IsGuarded l.fn.db l.kept.pairs.items (take l.place l.trail.literals) l.trail.literals;
+  holds : AreTrue l.fn.db l.trail.literals;
 }
 
 abbrev pub decreases-literals : goal.decreases-literals

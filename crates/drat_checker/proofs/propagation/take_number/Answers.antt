@@ -5,7 +5,8 @@ use Rattle.lrat_rules.specs.Chain.{literals_of, effect}
 use Rattle.drat_rules.specs.Clauses.{is_among}
 use Rattle.drat_checker.specs.Places.{standing}
 use Rattle.drat_checker.specs.Watches.{is_true}
-use Rattle.drat_checker.proofs.Lifts.{if-ok, on-ok}
+use Rattle.drat_checker.proofs.Lifts.{if-ok, on-ok, some-each}
+use Rattle.drat_checker.proofs.Reasoned.{keeps-none}
 use Rattle.drat_checker.proofs.Standing.{among-place, same_inside}
 use Rattle.drat_checker.proofs.propagation.take_number.Goals as goal
 
@@ -15,11 +16,23 @@ returns-in-Some-clause-conflict c =
     among-place c.args.db.now c.args.number c.in-Some.clause.now (sym c.in-Some.ensures) in
     if-ok c.take_clause.result (λ conflict h is. h is (standing c.args.db.now) among) c.take_clause.ensures.conflict
 
+pub returns-in-Some-clause-falsified : goal.returns-in-Some-clause-falsified
+returns-in-Some-clause-falsified c =
+    if-ok c.take_clause.result (λ conflict h. some-each conflict (λ n h'. h' c.args.db.now (sym c.in-Some.ensures)) h)
+    c.take_clause.ensures.falsified
+
 pub returns-in-Some-clause-derives : goal.returns-in-Some-clause-derives
 returns-in-Some-clause-derives c =
     let among : is_among (standing c.args.db.now) c.in-Some.clause.now ≡ true =
     among-place c.args.db.now c.args.number c.in-Some.clause.now (sym c.in-Some.ensures) in
     on-ok c.take_clause.result (λ h. h (standing c.args.db.now) among) c.take_clause.ensures.derives
+
+pub returns-in-Some-clause-reasons : goal.returns-in-Some-clause-reasons
+returns-in-Some-clause-reasons c =
+    on-ok c.take_clause.result (λ h. h c.args.db.now (sym c.in-Some.ensures)) c.take_clause.ensures.reasons
+
+pub returns-in-None-clause-reasons : goal.returns-in-None-clause-reasons
+returns-in-None-clause-reasons c = keeps-none c.args.db.now c.args.trail.now
 
 -- both are the clause that stands under the number
 taken-of : (old new a b : List ℤ) → Some a ≡ Some b → (effect (literals_of old) a ≡ NotUnit) ⊎ (is_true new a ≡ true)
@@ -31,7 +44,7 @@ pub returns-in-Some-clause-taken : goal.returns-in-Some-clause-taken
 returns-in-Some-clause-taken c =
     if-ok c.take_clause.result
     (λ conflict h is clause stands.
-    taken-of c.args.trail.now c.take_clause.new.trail c.in-Some.clause.now clause (c.in-Some.ensures ∙ stands) (h is))
+    taken-of c.args.trail.now.literals c.take_clause.new.trail.literals c.in-Some.clause.now clause (c.in-Some.ensures ∙ stands) (h is))
     c.take_clause.ensures.taken
 
 none-some : (clause : List ℤ) → None ≡ Some clause → ⊥

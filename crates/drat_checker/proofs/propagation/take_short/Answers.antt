@@ -1,5 +1,5 @@
 -- One number more, a clause that is false, and the end.
-use Rattle.std.proofs.Common.{◌≡◌, ℕ, List, take, get_or, inl, inr, sym, ◌∙◌, ap, subst, nat_eq}
+use Rattle.std.proofs.Common.{◌≡◌, ℕ, List, is_some, take, get_or, inl, inr, sym, ◌∙◌, ap, subst, nat_eq}
 use Rattle.std.specs.Prelude.{IsTrue, slice_index}
 use Rattle.std.proofs.lemmas.Bool.{or_cases}
 use Rattle.std.proofs.lemmas.List.{take_all}
@@ -8,15 +8,19 @@ use Rattle.std.proofs.lemmas.Map.Views.{exact_unsigned_eq}
 use Rattle.lrat_rules.specs.Chain.{literals_of}
 use Rattle.drat_checker.specs.Places.{place_at, standing}
 use Rattle.drat_checker.specs.Numbers.{has_number}
+use Rattle.drat_checker.specs.Reasons.{IsFalsified}
+use Rattle.drat_checker.proofs.Lifts.{if-some-at}
 use Rattle.drat_checker.proofs.Propagated.{none-before}
 use Rattle.drat_checker.proofs.Derived.{derives-none, derives-then, derives-extends, derives-same}
+use Rattle.drat_checker.proofs.Reasoned.{keeps-none, keeps-then}
 use Rattle.drat_checker.proofs.Guarded.{short-not-unit}
 use Rattle.drat_checker.proofs.Visited.{true-more}
 use Rattle.drat_checker.proofs.propagation.take_short.Goals as goal
 
 pub loop-number-init : goal.loop-number-init
 loop-number-init c = record {
-  derives = derives-none (standing c.args.db.now) c.args.trail.now;
+  derives = derives-none (standing c.args.db.now) c.args.trail.now.literals;
+  reasons = keeps-none c.args.db.now c.args.trail.now;
   holds = λ number clause none stands short. absurd (cc);
 }
 
@@ -28,27 +32,40 @@ loop-number-preserved c =
     let i = c.loop-number.number-index in
     record {
       derives = derives-then so_far.derives step.derives;
+      reasons = keeps-then so_far.reasons step.reasons;
       holds = λ number clause m stands short.
           elim (or_cases (has_number number (take i numbers)) _
           (sym (list_any_more (nat_eq number) numbers i 0 c.loop-number-test.true) ∙ m)) [
             | inl earlier ↦ true-more clause (derives-extends step.derives) (so_far.holds number clause earlier stands short)
             | inr now ↦
                 let is : number ≡ slice_index numbers i = exact_unsigned_eq number (get_or numbers i 0) now in
-                elim (step.taken c.if-conflict.false clause (ap (place_at c.args.db.now) (sym is) ∙ stands)) [
-                  | inl nothing ↦ absurd (short-not-unit (literals_of c.loop-number.trail) clause short nothing)
+                elim (step.taken c.in-None.is clause (ap (place_at c.args.db.now) (sym is) ∙ stands)) [
+                  | inl nothing ↦ absurd (short-not-unit (literals_of c.loop-number.trail.literals) clause short nothing)
                   | inr holds ↦ holds
                 ]
           ];
     }
 
-pub returns-then-conflict-clause-conflict : goal.returns-then-conflict-clause-conflict
-returns-then-conflict-clause-conflict c = λ is.
-    none-before c.quiet_law.ensures.none c.quiet_law.ensures.fails (standing c.args.db.now) c.args.trail.now c.loop-number.trail
+pub returns-in-Some-clause-conflict : goal.returns-in-Some-clause-conflict
+returns-in-Some-clause-conflict c = λ is.
+    none-before c.quiet_law.ensures.none c.quiet_law.ensures.fails (standing c.args.db.now) c.args.trail.now.literals
+    c.loop-number.trail.literals
     (derives-same c.propagation_law.ensures.forced c.loop-number.invariant.derives)
-    (c.in_ok-conflict.ensures.conflict c.if-conflict.true)
+    (c.in_ok-conflict.ensures.conflict (ap is_some c.in-Some.is))
 
-pub returns-then-conflict-clause-derives : goal.returns-then-conflict-clause-derives
-returns-then-conflict-clause-derives c = derives-then c.loop-number.invariant.derives c.in_ok-conflict.ensures.derives
+pub returns-in-Some-clause-falsified : goal.returns-in-Some-clause-falsified
+returns-in-Some-clause-falsified c =
+    if-some-at (IsFalsified c.args.db.now c.take_number.new.trail.literals) c.in_ok-conflict.conflict c.in-Some.own c.in-Some.is
+    c.in_ok-conflict.ensures.falsified
+
+pub returns-in-Some-clause-derives : goal.returns-in-Some-clause-derives
+returns-in-Some-clause-derives c = derives-then c.loop-number.invariant.derives c.in_ok-conflict.ensures.derives
+
+pub returns-in-Some-clause-reasons : goal.returns-in-Some-clause-reasons
+returns-in-Some-clause-reasons c = keeps-then c.loop-number.invariant.reasons c.in_ok-conflict.ensures.reasons
+
+pub returns-clause-reasons : goal.returns-clause-reasons
+returns-clause-reasons c = c.loop-number.invariant.reasons
 
 pub returns-clause-holds : goal.returns-clause-holds
 returns-clause-holds c = λ is. record {

@@ -12,13 +12,13 @@ loop-literal-init c = refl
 
 pub loop-literal-preserved-then-eq : goal.loop-literal-preserved-then-eq
 loop-literal-preserved-then-eq c =
-    one-more (λ y. int_eq y c.args.other || literals_of c.args.trail.now y) c.args.clause.now c.loop-literal.literal-index
+    one-more (λ y. int_eq y c.args.other || literals_of c.args.trail.now.literals y) c.args.clause.now c.loop-literal.literal-index
     c.literal-item.result c.loop-literal-test.true c.literal-item.is (or_left _ _ (sym c.eq.ensures
     ∙ c.if-eq.true)) c.loop-literal.invariant
 
 pub loop-literal-preserved : goal.loop-literal-preserved
 loop-literal-preserved c =
-    one-more (λ y. int_eq y c.args.other || literals_of c.args.trail.now y) c.args.clause.now c.loop-literal.literal-index
+    one-more (λ y. int_eq y c.args.other || literals_of c.args.trail.now.literals y) c.args.clause.now c.loop-literal.literal-index
     c.literal-item.result c.loop-literal-test.true c.literal-item.is
     (or_right (int_eq c.literal-item.result c.args.other) _ (sym c.contains.ensures ∙ c.if-contains.true)) c.loop-literal.invariant
 
@@ -34,5 +34,5 @@ returns-in-loop-literal-clause-differs c = sym c.eq.ensures ∙ c.if-eq.false
 
 pub returns-clause-none : goal.returns-clause-none
 returns-clause-none c = λ is.
-    subst (λ (l : List ℤ). is_last c.args.trail.now c.args.other l ≡ true)
+    subst (λ (l : List ℤ). is_last c.args.trail.now.literals c.args.other l ≡ true)
     (take_all c.loop-literal.literal-index c.args.clause.now c.loop-literal-test.false) c.loop-literal.invariant

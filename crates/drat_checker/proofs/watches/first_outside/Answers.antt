@@ -11,7 +11,8 @@ loop-literal-init c = refl
 
 pub loop-literal-preserved : goal.loop-literal-preserved
 loop-literal-preserved c =
-    one-more (literals_of c.args.trail.now) c.args.clause.now c.loop-literal.literal-index c.literal-item.result c.loop-literal-test.true
+    one-more (literals_of c.args.trail.now.literals) c.args.clause.now c.loop-literal.literal-index c.literal-item.result
+    c.loop-literal-test.true
     c.literal-item.is (sym c.contains.ensures ∙ c.if-contains.true) c.loop-literal.invariant
 
 pub returns-in-loop-literal-clause-found : goal.returns-in-loop-literal-clause-found
@@ -23,5 +24,5 @@ returns-in-loop-literal-clause-unfalse c = sym c.contains.ensures ∙ c.if-conta
 
 pub returns-clause-none : goal.returns-clause-none
 returns-clause-none c = λ is.
-    subst (λ (l : List ℤ). list_all (literals_of c.args.trail.now) l ≡ true)
+    subst (λ (l : List ℤ). list_all (literals_of c.args.trail.now.literals) l ≡ true)
     (take_all c.loop-literal.literal-index c.args.clause.now c.loop-literal-test.false) c.loop-literal.invariant

@@ -5,4 +5,4 @@ use Rattle.lrat_rules.specs.Chain.{literals_of}
 use Rattle.drat_checker.proofs.watches.first_outside.Given as goal
 
 abbrev pub invariant-loop-literal : goal.invariant-loop-literal
-invariant-loop-literal l = list_all (literals_of l.fn.trail) (take l.literal-index l.fn.clause) ≡ true
+invariant-loop-literal l = list_all (literals_of l.fn.trail.literals) (take l.literal-index l.fn.clause) ≡ true

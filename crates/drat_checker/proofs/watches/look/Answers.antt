@@ -10,7 +10,7 @@ returns-in-None c = λ clause stands. c.in-None.ensures
 
 pub returns-then-contains : goal.returns-then-contains
 returns-then-contains c = λ clause stands.
-    true-by c.args.trail.now clause c.in-Some.other
+    true-by c.args.trail.now.literals clause c.in-Some.other
     (beside-held c.args.pairs.now c.args.db.now c.requires.pairs c.args.literal c.args.number c.in-Some.other c.in-Some.ensures clause
     stands)
-    (ap (literals_of c.args.trail.now) (sym c.negated.ensures) ∙ sym c.contains.ensures ∙ c.if-contains.true)
+    (ap (literals_of c.args.trail.now.literals) (sym c.negated.ensures) ∙ sym c.contains.ensures ∙ c.if-contains.true)

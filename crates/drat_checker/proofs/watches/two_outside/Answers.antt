@@ -14,11 +14,12 @@ not-forced k e = cc
 
 pub returns-in-None : goal.returns-in-None
 returns-in-None c =
-    absurd (not-conflict (sym (none-outside (literals_of c.args.trail.now) c.args.clause.now (c.in-None.ensures.none refl)) ∙ c.requires))
+    absurd (not-conflict (sym (none-outside (literals_of c.args.trail.now.literals) c.args.clause.now (c.in-None.ensures.none refl)) ∙
+    c.requires))
 
 pub returns-in-None-find : goal.returns-in-None-find
 returns-in-None-find c =
     absurd (not-forced c.in-Some.second
-    (sym (last-forced (literals_of c.args.trail.now) c.in-Some.second c.args.clause.now
+    (sym (last-forced (literals_of c.args.trail.now.literals) c.in-Some.second c.args.clause.now
     (c.in-None-find.ensures.none refl) c.in-Some.ensures.found
     c.in-Some.ensures.unfalse) ∙ c.requires))

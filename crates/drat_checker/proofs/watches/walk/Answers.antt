@@ -12,12 +12,15 @@ use Rattle.lrat_rules.specs.Trail.{with_last}
 use Rattle.drat_checker.specs.Places.{Places, place_at, standing}
 use Rattle.drat_checker.specs.Numbers.{has_number}
 use Rattle.drat_checker.specs.Propagation.{Derives, Extends}
+use Rattle.drat_checker.specs.Trail.{Trail, with_reason}
+use Rattle.drat_checker.specs.Reasons.{IsFalsified, KeepsReasons}
 use Rattle.drat_checker.specs.Watches.{Pairs, ArePairs, AreVisited, is_in, watchers_with, watches}
 use Rattle.drat_checker.specs.Visits.{IsMoved}
 use Rattle.drat_checker.proofs.Propagated.{extends-none, extends-is, extends-last, false_clause, none-before, unclashed}
 use Rattle.drat_checker.proofs.Derived.{derives-none, derives-then, derives-extends, derives-forced, derives-is, derives-same}
+use Rattle.drat_checker.proofs.Reasoned.{keeps-falsified, keeps-forced, keeps-is, keeps-none, keeps-then}
 use Rattle.drat_checker.proofs.FalseSets.{int_eq-true}
-use Rattle.drat_checker.proofs.Guarded.{all-false, last-forced}
+use Rattle.drat_checker.proofs.Guarded.{all-false, all-known, last-forced}
 use Rattle.drat_checker.proofs.Placed.{same-each}
 use Rattle.drat_checker.proofs.Standing.{among-place, place-within}
 use Rattle.drat_checker.proofs.Visited.{entered-at, keeps-dropped, last-negated, more-false, true-by, visited-next, visited-start}
@@ -29,11 +32,12 @@ numbers-init c = record {
   many = c.requires.many;
   within = omega (arith, c.len-left.ensures);
   watched = c.requires.watched;
-  moves = moves-none c.args.pairs.now.items c.args.trail.now;
-  derives = derives-none (standing c.args.db.now) c.args.trail.now;
-  visited = subst (λ (l : List ℕ). AreVisited c.args.db.now c.args.pairs.now.items c.args.literal c.args.trail.now l)
+  moves = moves-none c.args.pairs.now.items c.args.trail.now.literals;
+  derives = derives-none (standing c.args.db.now) c.args.trail.now.literals;
+  reasons = keeps-none c.args.db.now c.args.trail.now;
+  visited = subst (λ (l : List ℕ). AreVisited c.args.db.now c.args.pairs.now.items c.args.literal c.args.trail.now.literals l)
       (sym (take_all c.len-left.result c.args.out.now (omega (arith, c.len-left.ensures))))
-      (visited-start c.args.db.now c.args.pairs.now.items c.args.lists.now c.args.literal c.args.trail.now c.args.out.now
+      (visited-start c.args.db.now c.args.pairs.now.items c.args.lists.now c.args.literal c.args.trail.now.literals c.args.out.now
       c.requires.watched);
 }
 
@@ -57,9 +61,12 @@ numbers-preserved-in-Stays c =
       watched = so_far.watched;
       moves = so_far.moves;
       derives = so_far.derives;
-      visited = visited-next c.args.db.now c.numbers.pairs.items c.numbers.pairs.items c.args.literal c.numbers.trail c.numbers.trail
+      reasons = so_far.reasons;
+      visited = visited-next c.args.db.now c.numbers.pairs.items c.numbers.pairs.items c.args.literal c.numbers.trail.literals
+          c.numbers.trail.literals
           c.numbers.out c.numbers.out i c.numbers.left c.number-number.result more within c.number-number.ensures
-          (extends-none c.numbers.trail) refl (λ n other w. w) (λ clause stands w. c.in-Stays.ensures clause stands) so_far.visited;
+          (extends-none c.numbers.trail.literals) refl (λ n other w. w) (λ clause stands w. c.in-Stays.ensures clause stands)
+          so_far.visited;
     }
 
 pub numbers-preserved-in-Gone : goal.numbers-preserved-in-Gone
@@ -84,8 +91,11 @@ numbers-preserved-in-Gone c =
           gone;
       moves = so_far.moves;
       derives = so_far.derives;
-      visited = visited-next c.args.db.now c.numbers.pairs.items c.numbers.pairs.items c.args.literal c.numbers.trail c.numbers.trail
-          c.numbers.out out' i c.numbers.left k more within c.number-number.ensures (extends-none c.numbers.trail) c.drop_at.ensures.front
+      reasons = so_far.reasons;
+      visited = visited-next c.args.db.now c.numbers.pairs.items c.numbers.pairs.items c.args.literal c.numbers.trail.literals
+          c.numbers.trail.literals
+          c.numbers.out out' i c.numbers.left k more within c.number-number.ensures (extends-none c.numbers.trail.literals)
+          c.drop_at.ensures.front
           (λ n other w. w)
           (λ clause stands w. absurd (both_ways (watches c.numbers.pairs.items k c.args.literal) (gone clause stands) w))
           so_far.visited;
@@ -105,7 +115,7 @@ numbers-preserved-in-Moved c =
     let pair = c.in-Moved.pair in
     let places = c.args.db.now in
     let literal = c.args.literal in
-    let trail = c.numbers.trail in
+    let trail = c.numbers.trail.literals in
     let pairs = c.numbers.pairs.items in
     let moved : IsMoved places pairs trail literal c.number-number.result pair =
     subst (λ (ps : Pairs). IsMoved places ps trail literal c.number-number.result pair) c.as_slice.ensures.value c.in-Moved.ensures in
@@ -133,9 +143,10 @@ numbers-preserved-in-Moved c =
       within = omega (arith, so_far.within, c.drop_at-in-Moved.ensures.len);
       watched = watched-moved pairs all all' places k literal so_far.watched keeps trail pair moved (set pairs k
           (Some pair)) refl room entered;
-      moves = moves-then c.args.trail.now trail (more-false (derives-extends so_far.derives)) so_far.moves
+      moves = moves-then c.args.trail.now.literals trail (more-false (derives-extends so_far.derives)) so_far.moves
           (moves-to pairs all all' places k literal so_far.watched keeps trail pair moved (set pairs k (Some pair)) refl room);
       derives = so_far.derives;
+      reasons = so_far.reasons;
       visited = visited-next places pairs (set pairs k (Some pair)) literal trail trail out out' i c.numbers.left k more within
           c.number-number.ensures (extends-none trail) c.drop_at-in-Moved.ensures.front
           (λ n other w. ap (λ p. is_in p literal) (sym (get_or-set_other pairs k n (Some pair) None other)) ∙ w)
@@ -148,7 +159,7 @@ numbers-preserved c =
     let last = c.in-Last.ensures in
     let other = c.in-Last.other in
     let places = c.args.db.now in
-    let trail = c.numbers.trail in
+    let trail = c.numbers.trail.literals in
     let i = c.numbers.left - 1 in
     let k = c.number-number.result in
     let more : c.numbers.left ≡ i + 1 = omega arith in
@@ -158,14 +169,19 @@ numbers-preserved c =
     ∙ sym c.in_ok-clash-in-Last.ensures.clash ∙ c.if-clash.false in
     let e : effect (literals_of trail) last.clause ≡ Forced other = last-forced (literals_of trail) other last.clause last.last last.held
     unfalse in
-    let new : c.falsify.new.self ≡ with_last (neg_ℤ other) trail =
-    unclashed c.in_ok-clash-in-Last.clash c.falsify.new.self trail (with_last c.negated.result trail) c.if-clash.false
+    let new : c.falsify.new.self.literals ≡ with_last (neg_ℤ other) trail =
+    unclashed c.in_ok-clash-in-Last.clash c.falsify.new.self.literals trail (with_last c.negated.result trail) c.if-clash.false
     c.in_ok-clash-in-Last.ensures.literals
     ∙ ap (λ z. with_last z trail) c.negated.ensures in
-    let grown : Extends trail c.falsify.new.self = extends-is new (extends-last (neg_ℤ other) trail) in
-    let derived : Derives (standing places) trail c.falsify.new.self =
+    let grown : Extends trail c.falsify.new.self.literals = extends-is new (extends-last (neg_ℤ other) trail) in
+    let derived : Derives (standing places) trail c.falsify.new.self.literals =
     derives-is new (derives-forced trail last.clause other e (standing places) (among-place places k last.clause last.stands)) in
-    let negated : literals_of c.falsify.new.self (neg_ℤ other) ≡ true =
+    let reasoned : KeepsReasons places [] c.numbers.trail c.falsify.new.self =
+    keeps-falsified c.in_ok-clash-in-Last.clash (with_reason c.negated.result (Some k) c.numbers.trail)
+    (subst (λ (z : ℤ). KeepsReasons places [] c.numbers.trail (with_reason z (Some k) c.numbers.trail)) (sym c.negated.ensures)
+    (keeps-forced places c.numbers.trail k last.clause other last.stands e))
+    c.in_ok-clash-in-Last.ensures.reasons in
+    let negated : literals_of c.falsify.new.self.literals (neg_ℤ other) ≡ true =
     subst (λ (l : List ℤ). literals_of l (neg_ℤ other) ≡ true) (sym new) (last-negated (neg_ℤ other) trail) in
     record {
       many = so_far.many;
@@ -173,12 +189,14 @@ numbers-preserved c =
       watched = so_far.watched;
       moves = so_far.moves;
       derives = derives-then so_far.derives derived;
-      visited = visited-next places c.numbers.pairs.items c.numbers.pairs.items c.args.literal trail c.falsify.new.self c.numbers.out
+      reasons = keeps-then so_far.reasons reasoned;
+      visited = visited-next places c.numbers.pairs.items c.numbers.pairs.items c.args.literal trail c.falsify.new.self.literals
+          c.numbers.out
           c.numbers.out i c.numbers.left k more within c.number-number.ensures grown refl (λ n apart w. w)
           (λ clause stands w.
           let both : Some last.clause ≡ Some clause = sym last.stands ∙ stands in
           let same : last.clause ≡ clause = cc in
-          true-by c.falsify.new.self clause other (subst (λ (d : List ℤ). literals_of d other ≡ true) same last.held) negated)
+          true-by c.falsify.new.self.literals clause other (subst (λ (d : List ℤ). literals_of d other ≡ true) same last.held) negated)
           so_far.visited;
     }
 
@@ -187,12 +205,12 @@ returns-then-clash-clause-conflict c = λ is.
     let last = c.in-Last.ensures in
     let other = c.in-Last.other in
     let places = c.args.db.now in
-    let trail = c.numbers.trail in
+    let trail = c.numbers.trail.literals in
     let is_false : literals_of trail other ≡ true =
     ap (literals_of trail) (sym (neg_ℤ-neg_ℤ other)) ∙ ap (λ z. literals_of trail (neg_ℤ z)) (sym c.negated.ensures)
     ∙ sym c.in_ok-clash-in-Last.ensures.clash ∙ c.if-clash.true in
     let e : effect (literals_of trail) last.clause ≡ Conflict = all-false (literals_of trail) other last.clause last.last is_false in
-    none-before c.quiet_law.ensures.none c.quiet_law.ensures.fails (standing places) c.args.trail.now trail
+    none-before c.quiet_law.ensures.none c.quiet_law.ensures.fails (standing places) c.args.trail.now.literals trail
     (derives-same c.propagation_law.ensures.forced c.numbers.invariant.derives)
     (false_clause c.quiet_law.ensures.fails c.propagation_law.ensures.forced c.propagation_law.ensures.conflict trail last.clause e
     (standing places) (among-place places c.number-number.result last.clause last.stands))
@@ -201,12 +219,39 @@ clashed-same : (b : Bool) (new old last : List ℤ) → b ≡ true → new ≡ (
 clashed-same true new old last e is = is
 clashed-same false new old last e is = cc
 
+pub returns-then-clash-clause-falsified : goal.returns-then-clash-clause-falsified
+returns-then-clash-clause-falsified c =
+    let last = c.in-Last.ensures in
+    let other = c.in-Last.other in
+    let trail = c.numbers.trail.literals in
+    let is_false : literals_of trail other ≡ true =
+    ap (literals_of trail) (sym (neg_ℤ-neg_ℤ other)) ∙ ap (λ z. literals_of trail (neg_ℤ z)) (sym c.negated.ensures)
+    ∙ sym c.in_ok-clash-in-Last.ensures.clash ∙ c.if-clash.true in
+    let same : c.falsify.new.self.literals ≡ trail =
+    clashed-same c.in_ok-clash-in-Last.clash c.falsify.new.self.literals trail (with_last c.negated.result trail) c.if-clash.true
+    c.in_ok-clash-in-Last.ensures.literals in
+    subst (λ (l : List ℤ). IsFalsified c.args.db.now l c.number-number.result) (sym same) (record {
+      clause = last.clause;
+      stands = last.stands;
+      falsified = all-known (literals_of trail) other last.clause last.last is_false;
+    })
+
+clashed-trail : (b : Bool) (new old last : Trail) → b ≡ true → new ≡ (if b then old else last) → new ≡ old
+clashed-trail true new old last e is = is
+clashed-trail false new old last e is = cc
+
 -- behind a clash the false literals are as they were
 pub returns-then-clash-clause-derives : goal.returns-then-clash-clause-derives
 returns-then-clash-clause-derives c =
-    derives-is (clashed-same c.in_ok-clash-in-Last.clash c.falsify.new.self c.numbers.trail
-    (with_last c.negated.result c.numbers.trail) c.if-clash.true
+    derives-is (clashed-same c.in_ok-clash-in-Last.clash c.falsify.new.self.literals c.numbers.trail.literals
+    (with_last c.negated.result c.numbers.trail.literals) c.if-clash.true
     c.in_ok-clash-in-Last.ensures.literals) c.numbers.invariant.derives
+
+pub returns-then-clash-clause-reasons : goal.returns-then-clash-clause-reasons
+returns-then-clash-clause-reasons c =
+    keeps-is (clashed-trail c.in_ok-clash-in-Last.clash c.falsify.new.self c.numbers.trail
+    (with_reason c.negated.result (Some c.number-number.result) c.numbers.trail) c.if-clash.true
+    c.in_ok-clash-in-Last.ensures.reasons) c.numbers.invariant.reasons
 
 none-left : (places : Places) (pairs : Pairs) (literal : ℤ) (literals : List ℤ) (out : List ℕ) (left : ℕ) → left ≡ 0
     → AreVisited places pairs literal literals (take left out) → AreVisited places pairs literal literals []
@@ -214,5 +259,6 @@ none-left places pairs literal literals out left none visited =
     subst (λ (n : ℕ). AreVisited places pairs literal literals (take n out)) none visited
 
 pub returns-clause-visited : goal.returns-clause-visited
-returns-clause-visited c = λ is. none-left c.args.db.now c.numbers.pairs.items c.args.literal c.numbers.trail c.numbers.out c.numbers.left
+returns-clause-visited c = λ is. none-left c.args.db.now c.numbers.pairs.items c.args.literal c.numbers.trail.literals c.numbers.out
+    c.numbers.left
     (omega arith) c.numbers.invariant.visited

@@ -7,50 +7,17 @@ use Rattle.solver_cli.proofs.conversion.convert_opened.Goals as goal
 pub returns-in_err-verdict-clause-converts : goal.returns-in_err-verdict-clause-converts
 returns-in_err-verdict-clause-converts g c =
     unflushed
-    (record {
-      decides = c.convert.ensures.decides;
-      written = c.convert.ensures.written;
-      undecided = c.convert.ensures.undecided;
-      read_fault = c.convert.ensures.read_fault;
-      write_fault = c.convert.ensures.write_fault;
-      read = c.convert.ensures.read;
-      unfailed = c.convert.ensures.unfailed;
-      memory = c.convert.ensures.memory;
-      reads = c.convert.ensures.reads;
-      writes = c.convert.ensures.writes;
-    })
+    c.convert_into.ensures.converts
     c.in_err-verdict.was (first_of (search rules, cc))
 
 pub returns-in-Ok-clause-converts : goal.returns-in-Ok-clause-converts
 returns-in-Ok-clause-converts g c =
     flushed
-    (record {
-      decides = c.convert.ensures.decides;
-      written = c.convert.ensures.written;
-      undecided = c.convert.ensures.undecided;
-      read_fault = c.convert.ensures.read_fault;
-      write_fault = c.convert.ensures.write_fault;
-      read = c.convert.ensures.read;
-      unfailed = c.convert.ensures.unfailed;
-      memory = c.convert.ensures.memory;
-      reads = c.convert.ensures.reads;
-      writes = c.convert.ensures.writes;
-    })
+    c.convert_into.ensures.converts
     c.in_ok-verdict.was (Ok c.in-Ok.field-0) c.in-Ok.ensures.flushes refl (c.flush.ensures.kept.others ProofIn refl)
 
 pub returns-in-Err-clause-converts : goal.returns-in-Err-clause-converts
 returns-in-Err-clause-converts g c =
     torn
-    (record {
-      decides = c.convert.ensures.decides;
-      written = c.convert.ensures.written;
-      undecided = c.convert.ensures.undecided;
-      read_fault = c.convert.ensures.read_fault;
-      write_fault = c.convert.ensures.write_fault;
-      read = c.convert.ensures.read;
-      unfailed = c.convert.ensures.unfailed;
-      memory = c.convert.ensures.memory;
-      reads = c.convert.ensures.reads;
-      writes = c.convert.ensures.writes;
-    })
+    c.convert_into.ensures.converts
     c.in_ok-verdict.was (Err c.in-Err.field-0) c.in-Err.ensures.flushes refl (c.flush.ensures.kept.others ProofIn refl)

@@ -4,11 +4,11 @@ use Rattle.lrat_checker.specs.declared.verdict.Verdict.TheVariants.{Verified}
 use Rattle.lrat_checker.specs.TextVerdict.{max_bytes}
 use Rattle.drat_proof.specs.Drat.{named_drat}
 use Rattle.drat_checker.specs.DratVerdict.{drat_text_verdict}
-use Rattle.solver_cli.proofs.DratThenCheck.{ends}
+use Rattle.solver_cli.proofs.ConvertThenCheck.{drat_ends}
 use Rattle.solver_cli.proofs.laws.drat_then_check_law.Goals as goal
 
 pub returns : goal.returns
-returns c = ends (record {
+returns c = drat_ends (record {
   few = c.cnf_law.ensures.vars;
   literals = c.cnf_law.ensures.literals;
   written = λ new_names problem bytes few literals verified.

@@ -5,4 +5,5 @@ use Rattle.drat_checker.proofs.Passes.{effect_at}
 use Rattle.drat_checker.proofs.false_list.FalseList.effect_of.Given as goal
 
 abbrev pub invariant-loop-literal : goal.invariant-loop-literal
-invariant-loop-literal l = effect_at (literals_of l.self) l.clause l.literal-index l.forced ≡ effect (literals_of l.self) l.clause
+invariant-loop-literal l = effect_at (literals_of l.self.literals) l.clause l.literal-index l.forced ≡ effect (literals_of l.self.literals)
+    l.clause

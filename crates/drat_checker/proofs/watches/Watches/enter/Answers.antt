@@ -39,5 +39,6 @@ returns-clause-unfalse c = λ clause at nothing x watched.
     let last : pair_at c.push.new.self.items c.args.number ≡ pair =
     ap (λ (ps : Pairs). pair_at ps c.args.number) c.in_ok-push.ensures.items ∙ ap (pair_at (pairs ++ pair ∷ [])) c.requires
     ∙ get_or-append_seam pairs pair [] None in
-    unfalse-in pair c.args.trail.now x (λ p is. c.pair_of-pair.ensures.unfalse clause p at is nothing) (ap (λ p. is_in p x) (sym last)
+    unfalse-in pair c.args.trail.now.literals x (λ p is. c.pair_of-pair.ensures.unfalse clause p at is nothing)
+    (ap (λ p. is_in p x) (sym last)
     ∙ watched)

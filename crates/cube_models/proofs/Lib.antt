@@ -1,0 +1,4 @@
+mod Ways
+mod Searches
+mod Said
+mod Downs

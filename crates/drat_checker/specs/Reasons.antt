@@ -1,0 +1,55 @@
+-- Why each literal of a trail is false: it is assumed, or the clause of its reason forces its negation under the literals before it. (Such
+-- a clause is the literal's antecedent in the implication graph: Marques Silva, Sakallah: GRASP, ICCAD 1996.)
+use Rattle.std.specs.Prelude.{◌≡◌, ℕ, ◌<◌, Bool, true, false, ℤ, pos, neg_ℤ, List, ◌++◌, Option, None, Some, length, take, slice_index_or}
+use Rattle.std.specs.List.{list_all}
+use Rattle.lrat_rules.specs.Chain.{literals_of, effect}
+use Rattle.drat_checker.specs.declared.addition.Refutation.{Refutation}
+use Rattle.drat_checker.specs.declared.addition.Refutation.TheVariants.{Clash, Conflict}
+use Rattle.drat_checker.specs.Places.{Place, Places, place_at}
+use Rattle.drat_checker.specs.Propagation.{makes_false}
+use Rattle.drat_checker.specs.Trail.{Trail}
+
+-- the clause of the place makes the literal false where those of the front are
+abbrev pub place_forces : List ℤ → ℤ → Place → Bool
+place_forces front x None = false
+place_forces front x (Some clause) = makes_false x (effect (literals_of front) clause)
+
+-- why a literal is false behind a front
+abbrev pub is_reason : Places → List ℤ → List ℤ → ℤ → Option ℕ → Bool
+is_reason places assumed front x None = literals_of assumed x
+is_reason places assumed front x (Some number) = place_forces front x (place_at places number)
+
+-- each literal has its reason
+pub record AreReasons (places : Places) (assumed : List ℤ) (trail : Trail) : Type 0 where
+  pub many : length trail.reasons ≡ length trail.literals
+  pub reason : (k : ℕ) → k < length trail.literals → is_reason places assumed (take k trail.literals)
+      (slice_index_or trail.literals k (pos 0)) (slice_index_or trail.reasons k None) ≡ true
+
+-- The reasons that were there stay, and what comes behind them is forced, or is one of the literals that are assumed beside.
+pub record KeepsReasons (places : Places) (more : List ℤ) (old new : Trail) : Type 0 where
+  pub kept : (assumed : List ℤ) → list_all (literals_of assumed) more ≡ true → AreReasons places assumed old
+      → AreReasons places assumed new
+  pub rest : List (Option ℕ)
+  pub parts : new.reasons ≡ old.reasons ++ rest
+
+-- a literal stands at a place that has this reason
+pub record HasReason (trail : Trail) (literal : ℤ) (reason : Option ℕ) : Type 0 where
+  pub place : ℕ
+  pub within : place < length trail.literals
+  pub own : literal ≡ slice_index_or trail.literals place (pos 0)
+  pub reason_is : slice_index_or trail.reasons place None ≡ reason
+
+-- the clause of this number stands, and each of its literals is false
+pub record IsFalsified (places : Places) (literals : List ℤ) (number : ℕ) : Type 0 where
+  pub clause : List ℤ
+  pub stands : place_at places number ≡ Some clause
+  pub falsified : list_all (literals_of literals) clause ≡ true
+
+-- the literal is one of those that are assumed, and its negation is false
+pub record ClashesAt (trail : Trail) (assumed : List ℤ) (literal : ℤ) : Type 0 where
+  pub own : literals_of assumed literal ≡ true
+  pub negation : literals_of trail.literals (neg_ℤ literal) ≡ true
+
+abbrev pub Refutes : Places → Trail → List ℤ → Refutation → Type 0
+Refutes places trail assumed (Clash literal) = ClashesAt trail assumed literal
+Refutes places trail assumed (Conflict number) = IsFalsified places trail.literals number

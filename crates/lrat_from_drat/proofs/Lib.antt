@@ -1,0 +1,6 @@
+pub mod Followed
+pub mod Taken
+pub mod Started
+pub mod Leading
+pub mod Exits
+pub mod Whole

@@ -1,0 +1,4 @@
+pub mod Following
+pub mod Writing
+pub mod Starting
+pub mod Conversion

@@ -1,0 +1,5 @@
+pub mod Began
+pub mod Stands
+pub mod Told
+pub mod Without
+pub mod Lent

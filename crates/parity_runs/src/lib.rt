@@ -1,0 +1,7 @@
+//! Runs of a plan behind parity reasoning: the formula's parity equations are added up first, on the same proof.
+#![tactic(auto)]
+
+mod behind;
+mod run;
+
+pub use run::run_with_parity;

@@ -1,0 +1,141 @@
+-- A term weakened to the sum of some variables, which it implies: first the sum's node, then its term.
+use Rattle.std.proofs.Common.{◌≡◌, ◌∙◌, ℕ, Bool, true, false, List, [], ◌∷◌, Contains, Some, Ok, Err, Result, refl, sym}
+use Rattle.std.proofs.Common.{ap, subst, inl, inr}
+use Rattle.std.specs.Prelude.{IsTrue}
+use Rattle.cnf_base.specs.Truth.{Assignment}
+use Rattle.node_table.specs.declared.error.TableError.{TableError}
+use Rattle.node_table.specs.declared.node.Node.{Node}
+use Rattle.node_table.specs.declared.node.Node.TheVariants.{False, True}
+use Rattle.node_table.specs.Diagram.{is_node}
+use Rattle.node_table.specs.HandedOn.{no_error}
+use Rattle.node_table.specs.Laws.{Cofactors, Growth, StepByStep}
+use Rattle.node_table.specs.Value.{Levels, value_of}
+use Rattle.parity_nodes.specs.Sums.{sum_is}
+use Rattle.clause_terms.specs.Term.{by_variable}
+use Rattle.imply.specs.Implication.{IsRefuted}
+use Rattle.term_runner.specs.declared.held.HeldTerm.{HeldTerm}
+use Rattle.term_runner.specs.declared.runner.Runner.{Runner}
+use Rattle.term_runner.specs.declared.term.Term.{Term}
+use Rattle.term_runner.specs.Parity.{GivesNone, IsNodeOf, Weakens, always, node_holds}
+use Rattle.term_runner.specs.Runner.{IsGood, IsRunner, holds_in}
+use Rattle.parity_terms.specs.Owned.{Owns}
+use Rattle.parity_terms.specs.Steps.{Goes, Takes}
+use Rattle.parity_terms.proofs.ByAssignment.{by_assignment}
+use Rattle.parity_terms.proofs.Owned.{owned_there}
+use Rattle.parity_terms.proofs.Taken.{takes_further, takes_of}
+
+-- the same function by other words
+pub takes_same : {S : Type 0} (terms : List HeldTerm) (other holds : Assignment → Bool) (old new : Runner S)
+    (result : Result Term TableError)
+    → ((a : Assignment) → other a ≡ holds a) → Takes terms other old new result → Takes terms holds old new result
+takes_same terms other holds old new (Ok term) same takes = record {
+  goes_on = takes.goes_on;
+  stands = takes.stands;
+  value = λ a. takes.value a ∙ same a;
+  owns = takes.owns;
+  refutes = takes.refutes;
+  unrefuted = takes.unrefuted;
+  keeps = takes.keeps;
+  leaves = takes.leaves;
+}
+takes_same terms other holds old new (Err error) same takes = record {
+  goes_on = takes.goes_on;
+  stands = tt;
+  value = tt;
+  owns = takes.owns;
+  refutes = tt;
+  unrefuted = takes.unrefuted;
+  keeps = takes.keeps;
+  leaves = takes.leaves;
+}
+
+-- an error says nothing of the function
+takes_refused : {S : Type 0} (terms : List HeldTerm) (other holds : Assignment → Bool) (old new : Runner S) (error : TableError)
+    → Takes terms other old new (Err error) → Takes terms holds old new (Err error)
+takes_refused terms other holds old new error takes = record {
+  goes_on = takes.goes_on;
+  stands = tt;
+  value = tt;
+  owns = takes.owns;
+  refutes = tt;
+  unrefuted = takes.unrefuted;
+  keeps = takes.keeps;
+  leaves = takes.leaves;
+}
+
+module _ {S : Type 0} (growth : Growth) (cofactors : Cofactors) (steps : StepByStep S) (old mid : Runner S) (runner : IsRunner old)
+    (terms : List HeldTerm) (owns : Owns terms old.terms.out.items) (function : Levels → Bool) (variables : List ℕ) (bit : Bool) where
+  -- the sum's node wasn't found
+  pub torn_node : (error : TableError) → GivesNone {T = Node} function [] old mid (Err error)
+      → Takes terms (sum_is bit variables) old mid (Err error)
+  torn_node error none =
+      takes_refused terms (λ a. true) (sum_is bit variables) old mid error
+      (takes_of growth old mid runner terms owns function (λ a. true) [] (Err error) none.gives)
+
+  module _ (node : Node) (none : GivesNone {T = Node} function [] old mid (Ok node))
+      (is : IsNodeOf mid.terms.table.graph (sum_is bit variables) node) (u : HeldTerm) (good : IsGood old u) where
+    same_out : mid.terms.out.items ≡ old.terms.out.items
+    same_out = none.out no_error
+
+    first : Takes terms (λ a. true) old mid (Ok always)
+    first = takes_of growth old mid runner terms owns function (λ a. true) [] (Ok always) none.gives
+
+    goes : Goes terms old mid
+    goes = record {
+      runner = first.goes_on no_error;
+      owns = subst (Owns terms) (sym same_out) owns;
+      refuted = first.unrefuted no_error (λ false_one. let e : True ≡ False = false_one in cc);
+      keeps = first.keeps no_error;
+      continues = first.leaves;
+    }
+
+    pub good_mid : IsGood mid u
+    good_mid = elim good [
+      | inl true_one ↦ inl true_one
+      | inr among ↦ inr (subst (λ (l : List HeldTerm). Contains l u) (sym same_out) among)
+    ]
+
+    module _ (new : Runner S) where
+      -- the term wasn't found
+      pub torn_weaker : (error : TableError) → Weakens u node mid new (Err error) → Takes terms (sum_is bit variables) old new (Err error)
+      torn_weaker error weakens =
+          takes_refused terms (node_holds mid.terms.table.graph node) (sum_is bit variables) old new error
+          (takes_further steps terms old mid new (node_holds mid.terms.table.graph node) (Err error) goes
+          (takes_of growth mid new goes.runner terms goes.owns (λ a. value_of mid.terms.table.graph a node)
+          (node_holds mid.terms.table.graph node) (u ∷ []) (Err error) weakens.gives))
+
+      -- it was
+      pub takes_weaker : (term : Term) → Weakens u node mid new (Ok (Some term)) → Takes terms (sum_is bit variables) old new (Ok term)
+      takes_weaker term weakens =
+          takes_same terms (node_holds mid.terms.table.graph node) (sum_is bit variables) old new (Ok term) is.value
+          (takes_further steps terms old mid new (node_holds mid.terms.table.graph node) (Ok term) goes
+          (takes_of growth mid new goes.runner terms goes.owns (λ a. value_of mid.terms.table.graph a node)
+          (node_holds mid.terms.table.graph node) (u ∷ []) (Ok term) weakens.gives))
+
+    -- what the term implies isn't refuted
+    pub not_refuted : ((a : Assignment) → holds_in old u a ≡ true → sum_is bit variables a ≡ true)
+        → IsRefuted mid.terms.table.graph u.node node → ⊥
+    not_refuted implies refuted =
+        let graph = mid.terms.table.graph in
+        let a = by_variable graph.order refuted.values in
+        let reduced = goes.runner.over.sound.tied.reduced in
+        let ordered = goes.runner.over.sound.tied.ordered in
+        let holds : holds_in mid u a ≡ true =
+        by_assignment cofactors graph reduced ordered refuted.values u.node stands ∙ refuted.holds in
+        let fails : sum_is bit variables a ≡ false =
+        sym (is.value a) ∙ by_assignment cofactors graph reduced ordered refuted.values node is.stands ∙ refuted.fails in
+        let e : true ≡ false = sym (implies a (sym (same_value a) ∙ holds)) ∙ fails in
+        cc
+      where
+        stands : IsTrue (is_node mid.terms.table.graph u.node)
+        stands = elim good [
+          | inl true_one ↦ subst (λ (h : HeldTerm). IsTrue (is_node mid.terms.table.graph h.node)) (sym true_one) refl
+          | inr among ↦ goes.keeps.stand u (owned_there u terms old.terms.out.items owns among)
+        ]
+
+        same_value : (a : Assignment) → holds_in mid u a ≡ holds_in old u a
+        same_value a = elim good [
+          | inl true_one ↦
+              ap (λ (h : HeldTerm). holds_in mid h a) true_one ∙ sym (ap (λ (h : HeldTerm). holds_in old h a) true_one)
+          | inr among ↦ goes.keeps.values u (owned_there u terms old.terms.out.items owns among) a
+        ]
