@@ -1,9 +1,13 @@
-"""Other programs that judge proofs, and a run of one of them by its CPU seconds."""
+"""Runs of programs by their CPU seconds; other programs that judge proofs, and the words of the scripts that call them."""
 import os
 import resource
 import shutil
 import subprocess
 import sys
+import tempfile
+
+import calling
+import formulas
 
 PACKAGES = {
     "acl2": "apt-get install acl2 acl2-books (2.4 GB)",
@@ -17,7 +21,7 @@ class Run:
 
     def __init__(self, words, seconds, text=""):
         limit = lambda: resource.setrlimit(resource.RLIMIT_CPU, (seconds, seconds))
-        with open("input", "w+") as given:
+        with tempfile.TemporaryFile("w+") as given:
             given.write(text)
             given.seek(0)
             child = subprocess.Popen(words, stdin=given, stdout=subprocess.PIPE, stderr=subprocess.STDOUT, text=True, preexec_fn=limit)
@@ -26,6 +30,13 @@ class Run:
         child.returncode = 0  # (it is waited for)
         self.code = None if os.WIFSIGNALED(status) else os.waitstatus_to_exitcode(status)
         self.seconds, self.memory = used.ru_utime + used.ru_stime, used.ru_maxrss / 1024
+
+
+def run(words, seconds):
+    """The same of a run that ends by itself, or by the limit of its seconds."""
+    it = Run(words, seconds)
+    assert it.code is not None or it.seconds > 0.9 * seconds, (words, "ended by another signal than that of the limit")
+    return it.code, it.output, it.seconds, it.memory
 
 
 def found(name, given, folder, script):
@@ -46,3 +57,18 @@ def found(name, given, folder, script):
 def lines_in(path):
     with open(path, "rb") as it:
         return sum(block.count(b"\n") for block in iter(lambda: it.read(1 << 20), b""))
+
+
+def words(page, **more):
+    """The words of a script that calls some of these programs on formulas of FAMILY SIZE .., with its further options."""
+    call = calling.Calling(page)
+    call.add_argument("--drat-trim", type=os.path.abspath)
+    call.add_argument("--seconds", type=int, default=600)
+    for option, kind in more.items():
+        call.add_argument("--" + option.replace("_", "-"), **kind)
+    call.add_argument("rows", nargs="*")
+    given = call.words()
+    given.rows = calling.rows_of(given.rows, formulas.FAMILIES, int)
+    if given.rows is None:
+        sys.exit(page)
+    return given

@@ -30,6 +30,7 @@ ladders N        odd parity in a ladder of N rungs
 regular N        odd parity in a random graph of N nodes, three edges at each
 parity N         two chains of exclusive ors over N inputs (Chew, Heule 2020)
 near N           the same where the second chain's order is near the first one's
+systems N        1.05 N random parity equations over N variables, five in each, which are in conflict
 chains N         each variable follows from the next one, and the last is true
 gates N          N circuits of five inputs without a connection
 """
@@ -459,6 +460,36 @@ def mixed(inputs, window):
     return [literal for row in rows for literal in draw.sample(row, len(row))]
 
 
+def are_in_conflict(equations):
+    """By vectors over the bits, the equation's own bit as the lowest one."""
+    rows = []
+    for variables, bit in equations:
+        vector = sum(1 << it for it in variables) + bit
+        for row in rows:
+            vector = min(vector, vector ^ row)
+        if vector == 1:
+            return True
+        if vector:
+            rows.append(vector)
+    return False
+
+
+def add_system(it, count, row=5, seed=0):
+    """1.05 equations a variable, each over so many variables, drawn until they are in conflict."""
+    draw, inputs = random.Random(f"{count} {seed}"), it.some(count)
+    equations = []
+    while not are_in_conflict(equations):
+        equations = [(sorted(draw.sample(inputs, row)), draw.randint(0, 1)) for _ in range(round(1.05 * count))]
+    for variables, bit in equations:
+        it.parity(variables, bit)
+
+
+def system(count, row, seed):
+    it = Formula()
+    add_system(it, count, row, seed)
+    return it
+
+
 def chains(it, size):
     inputs = it.some(size)
     for one, following in zip(inputs, inputs[1:]):
@@ -503,6 +534,7 @@ FAMILIES = {
     "regular": (regular, UNSATISFIABLE),
     "parity": (lambda it, size: parity(it, size, lambda inputs: mixed(inputs, size)), UNSATISFIABLE),
     "near": (lambda it, size: parity(it, size, lambda inputs: mixed(inputs, 4)), UNSATISFIABLE),
+    "systems": (add_system, UNSATISFIABLE),
     "chains": (chains, SATISFIABLE),
     "gates": (gates, SATISFIABLE),
 }

@@ -93,8 +93,8 @@ class Tables:
         return functools.reduce(operator.and_, (term for term, _ in buckets[rest])) if buckets[rest] else None, trail
 
     def by_buckets(self, order, clauses):
-        """The values that the bucket plan over this order gives, where the clauses have a solution: those of the natural order of the formula
-        whose variables are numbered by their places."""
+        """The values that the bucket plan over this order gives, where the clauses have a solution: those of the natural order of the
+        formula whose variables are numbered by their places."""
         place = {variable: at + 1 for at, variable in enumerate(order)}
         last, trail = self.bucket([[place[abs(x)] * (1 if x > 0 else -1) for x in clause] for clause in clauses])
         found = self.values(self.recovered(last, trail[::-1]))

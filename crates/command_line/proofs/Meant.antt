@@ -19,12 +19,14 @@ use Rattle.clap.proofs.WalkLemmas.{first_value-rows}
 use Rattle.dimacs_reader.specs.declared.mode.Mode.{Mode}
 use Rattle.schedule_plan.specs.declared.limits.Limits.{Limits}
 use Rattle.command_line.specs.Parser.{the_app}
-use Rattle.command_line.specs.Command.{Command, Meaning, Asks, AsksHelp, Misuse, IsOneOf, MayMean, Planned, bench_means, check_means, command}
+use Rattle.command_line.specs.Command.{Command, Meaning, Asks, AsksHelp, Misuse, IsOneOf, MayMean, Planned, bench_means, check_means}
+use Rattle.command_line.specs.Command.{command}
 use Rattle.command_line.specs.Command.{any_order_among, parity_among, planned_with, rewrite_among, format_given}
 use Rattle.command_line.specs.Command.{is_set, limits_among, make_means, means, meanings, method_named, mode_given, names_among}
 use Rattle.command_line.specs.Command.{only_command, order_means, part_named, plan_among, plan_given, progress_among, refusal_means}
 use Rattle.command_line.specs.Command.{ask_means, both, names_differ, same_name, size_among, to_ask}
-use Rattle.command_line.specs.Command.{solve_means, taken_means, to_bench, to_check, to_rewrite, to_make, to_trim, trim_means, to_order, to_solve, two_names}
+use Rattle.command_line.specs.Command.{solve_means, taken_means, to_bench, to_check, to_rewrite, to_make, to_trim, trim_means, to_order}
+use Rattle.command_line.specs.Command.{to_solve, two_names}
 
 -- the parser is one whose meaning is known
 simple : is_simple the_app ≡ true

@@ -330,8 +330,8 @@ part_named name =
     if bytes_eq name (codes "cnf") then Some Cnf else if bytes_eq name (codes "order") then Some Order else if bytes_eq name
     (codes "schedule") then Some Schedule else if bytes_eq name (codes "sets") then Some Sets else None
 
--- two files, a mode, an order, what gives the plan, limits to solve within, whether progress is told, and whether parity equations are added
--- up
+-- two files, a mode, an order, what gives the plan, limits to solve within, whether progress is told, and whether parity equations are
+-- added up
 abbrev pub to_solve : Option (Text × Text) → Mode → Option Text → Option Planned → Option Limits → Bool → Bool → Meaning
 to_solve (Some names) mode order (Some plan) (Some limits) progress parity = Asks (Solve (record {
   file = names.0;

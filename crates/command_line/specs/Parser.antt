@@ -72,8 +72,8 @@ check_app = with_rules (new_app (codes "check"))
 abbrev pub fresh_rule : Rule
 fresh_rule = flag_rule (codes "fresh")
 
--- `drat FILE PROOF --out P [--lax]`, behind which `[--fresh]` stands; so `lrat`, behind which `[--any-order]` does, and `trim`, behind which
--- `[--core C]` does
+-- `drat FILE PROOF --out P [--lax]`, behind which `[--fresh]` stands; so `lrat`, behind which `[--any-order]` does, and `trim`, behind
+-- which `[--core C]` does
 abbrev pub rewrite_app : Text → App
 rewrite_app name = with_rules (new_app name) (file_rule ∷ proof_file_rule ∷ needed_rule (codes "out") ∷ lax_rule ∷ [])
 

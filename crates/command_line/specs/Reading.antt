@@ -14,7 +14,8 @@ use Rattle.command_line.specs.declared.words.Asked.{Asked}
 use Rattle.command_line.specs.declared.words.Asked.TheVariants as asked
 use Rattle.command_line.specs.declared.words.Refusal.{Refusal}
 use Rattle.command_line.specs.declared.words.Refusal.TheVariants as refusal
-use Rattle.command_line.specs.Command.{Command, Solve, Check, Bench, Make, Arrange, Ask, Convert, Trim, ToConvert, ToRewrite, ToTrim, Planned, ByName, ByFile, ByBuckets, Found}
+use Rattle.command_line.specs.Command.{Command, Solve, Check, Bench, Make, Arrange, Ask, Convert, Trim, ToConvert, ToRewrite, ToTrim}
+use Rattle.command_line.specs.Command.{Planned, ByName, ByFile, ByBuckets, Found}
 use Rattle.command_line.specs.Command.{Asks, AsksHelp, Misuse, MayMean, IsSize, limits_of, refusal_means, size_of, taken_means}
 
 -- the text behind a reference that may be there

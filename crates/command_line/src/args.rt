@@ -10,11 +10,11 @@ use std::alloc::{AllocError, Global};
 
 const PROOF_HELP: &str = "The proof in LRAT, or its steps so far where a run stops";
 
-const LAX_HELP: &str = "The clause count may be wrong, and the last 0 missing";
+const LAX_HELP: &str = "Accept a wrong clause count and a missing last 0";
 
-const ANY_ORDER_HELP: &str = "DRAT: a deletion names its literals in any order";
+const ANY_ORDER_HELP: &str = "DRAT: let a deletion name its literals in any order";
 
-const PROGRESS_HELP: &str = "Tells on standard error how far it is";
+const PROGRESS_HELP: &str = "Report progress on standard error";
 
 const MAX_NODES_HELP: &str = "Most nodes at once, 0 to 100000000 [default: 10000000]";
 

@@ -11,7 +11,7 @@ use clap::Command;
 use std::alloc::{AllocError, Global};
 
 const ASK: Texts<'static> = Texts {
-    about: "Answers the cubes in Q over FILE, and writes one proof to P",
+    about: "Answer the cubes in Q over FILE and write one proof to P",
     usage: "\
 bddsat ask FILE --cubes Q --proof P [--lax] [--order F]
                   [--max-nodes N] [--max-ids N] [--cache N]",
@@ -20,9 +20,9 @@ Example:
   bddsat ask formula.cnf --cubes questions.cubes --proof formula.lrat",
 };
 
-const CUBES_HELP: &str = "The cubes: literals, each cube ended by 0";
+const CUBES_HELP: &str = "A file with the cubes: literals, each cube ended by 0";
 
-const ORDER_HELP: &str = "The order of the variables, the top one first";
+const ORDER_HELP: &str = "A file with the variables' order [default: 1, 2, ..]";
 
 pub fn ask_parser<'a>(alloc: Global) -> Result<Command<'a>, AllocError>
     ensures app { IfOk result (λ command. app_of command ≡ ask_app) }

@@ -9,7 +9,7 @@ use clap::Command;
 use std::alloc::{AllocError, Global};
 
 const BENCH: Texts<'static> = Texts {
-    about: "Decides the mutilated chessboard of N by N, and writes the proof to P",
+    about: "Decide the mutilated chessboard of N by N and write the proof to P",
     usage: "\
 bddsat bench board N --proof P [--max-nodes N] [--max-ids N] [--cache N]
                     [--progress]",
@@ -19,7 +19,7 @@ Example:
 };
 
 const MAKE: Texts<'static> = Texts {
-    about: "Writes a text of the mutilated chessboard of N by N to F",
+    about: "Write a text of the mutilated chessboard of N by N to F",
     usage: "bddsat make board N --part PART --out F",
     after: "\
 Example:

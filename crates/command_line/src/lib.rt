@@ -1,5 +1,5 @@
-//! The words of the command line. `read_words` gives the command that they ask for, or why they ask for none, as `Command.antt`
-//! defines it over the functions of the parser `clap`. The words are not tied to any file or run; the layer above acts on them.
+//! The command line. `read_words` gives the command that it asks for, or why it asks for none, as `Command.antt` defines it over the
+//! functions of the parser `clap`. No file is touched here; the layer above acts on the command.
 #![tactic(auto)]
 
 mod args;

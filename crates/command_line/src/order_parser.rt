@@ -9,7 +9,7 @@ use clap::Command;
 use std::alloc::{AllocError, Global};
 
 const ORDER: Texts<'static> = Texts {
-    about: "Writes an order of FILE's variables, found by METHOD, to F",
+    about: "Write an order of FILE's variables, found by METHOD, to F",
     usage: "bddsat order FILE --by METHOD --out F [--lax]",
     after: "\
 Example:

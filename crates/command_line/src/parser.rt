@@ -20,13 +20,14 @@ use std::alloc::{AllocError, Global};
 const VERSION: &str = "0.1.0";
 
 const ALL: Texts<'static> = Texts {
-    about: "Decides a CNF formula and proves the answer, or checks a proof.",
+    about: "Decide a CNF formula and prove the answer, or check a proof",
     usage: "\
 bddsat solve FILE --proof P [--lax] [--order F]
                     [--search | --buckets F | --schedule F | --plan PLAN]
                     [--parity] [--max-nodes N] [--max-ids N] [--cache N]
                     [--progress]
-       bddsat check FILE PROOF [--format FORMAT] [--any-order] [--lax] [--progress]
+       bddsat check FILE PROOF [--format FORMAT] [--any-order] [--lax]
+                    [--progress]
        bddsat drat FILE PROOF --out P [--lax] [--fresh]
        bddsat lrat FILE PROOF --out P [--lax] [--any-order]
        bddsat trim FILE PROOF --out P [--lax] [--core C]
@@ -43,16 +44,16 @@ Exit codes:
    0  solve, bench: undecided, since a limit was reached; P has the steps so far
    0  check, drat, lrat, trim: the proof is verified
    1  check, drat, lrat, trim: it isn't; standard output has the line and why
-   0  make, order: the text is in F
    0  ask: each cube is answered on standard output, or a limit was reached
+   0  make, order: the text is in F
    0  help or the version was shown
    2  a file's text is not of its format, or too large
    3  a file couldn't be opened or read
    4  a file or standard output couldn't be written
    5  out of memory
-   6  the words are not as shown here
+   6  the command line is invalid
 
-Example:
+Examples:
   bddsat solve formula.cnf --search --proof formula.lrat
   bddsat check formula.cnf formula.lrat
   bddsat drat formula.cnf formula.lrat --out formula.drat
@@ -65,7 +66,7 @@ Example:
 };
 
 const SOLVE: Texts<'static> = Texts {
-    about: "Decides FILE, and writes the proof, as far as it comes, to P",
+    about: "Decide FILE and write the proof to P",
     usage: "\
 bddsat solve FILE --proof P [--lax] [--order F]
                     [--search | --buckets F | --schedule F | --plan PLAN]
@@ -77,10 +78,12 @@ Example:
 };
 
 const CHECK: Texts<'static> = Texts {
-    about: "Judges the proof in PROOF that FILE is unsatisfiable",
-    usage: "bddsat check FILE PROOF [--format FORMAT] [--any-order] [--lax] [--progress]",
+    about: "Check the proof in PROOF that FILE is unsatisfiable",
+    usage: "\
+bddsat check FILE PROOF [--format FORMAT] [--any-order] [--lax]
+                    [--progress]",
     after: "\
-Example:
+Examples:
   bddsat check formula.cnf formula.lrat
   bddsat check formula.cnf formula.drat --format drat --any-order",
 };
@@ -89,17 +92,17 @@ const PROOF_HELP: &str = "The proof, in LRAT or in textual DRAT";
 
 const FORMAT_HELP: &str = "lrat, or drat, which has no hints [default: lrat]";
 
-const SEARCH_HELP: &str = "Finds the orders by trial runs; what to try first";
+const SEARCH_HELP: &str = "Find both orders by trial runs; try this first";
 
 const ORDER_HELP: &str = "A file with the variables' order [default: 1, 2, ..]";
 
 const BUCKETS_HELP: &str = "A file with the order that the bucket plan goes by";
 
-const SCHEDULE_HELP: &str = "A file with the plan, as lines of commands c, a and q";
+const SCHEDULE_HELP: &str = "A file with the plan, as lines of commands c, a, q and e";
 
 const PLAN_HELP: &str = "bucket quantifies early, conjoin never [default: bucket]";
 
-const PARITY_HELP: &str = "Adds up parity equations first; not with --search";
+const PARITY_HELP: &str = "Add up parity equations first; not with --search";
 
 /// The parser: one of nine commands after the program's name.
 pub fn parser<'a>(alloc: Global) -> Result<Command<'a>, AllocError>

@@ -1,5 +1,5 @@
 // The parser's commands that make another proof, with their texts of help.
-ghost use Rattle.std.specs.Prelude.{◌≡◌, IfOk, codes, false};
+ghost use Rattle.std.specs.Prelude.{◌≡◌, IfOk, false};
 ghost use Rattle.clap.specs.Words.{app_of};
 ghost use Rattle.clap.specs.declared.Command.TheViews.{out-Command};
 ghost use Rattle.command_line.specs.Parser.{drat_app, lrat_app, rewrite_app, trim_app};
@@ -12,7 +12,7 @@ use clap::Command;
 use std::alloc::{AllocError, Global};
 
 const DRAT: Texts<'static> = Texts {
-    about: "Judges PROOF as check does, and writes it as a DRAT proof to P",
+    about: "Check PROOF, an LRAT proof, and write it in DRAT to P",
     usage: "bddsat drat FILE PROOF --out P [--lax] [--fresh]",
     after: "\
 Example:
@@ -20,7 +20,7 @@ Example:
 };
 
 const LRAT: Texts<'static> = Texts {
-    about: "Judges PROOF, a DRAT proof, and writes it in LRAT to P",
+    about: "Check PROOF, a DRAT proof, and write it in LRAT to P",
     usage: "bddsat lrat FILE PROOF --out P [--lax] [--any-order]",
     after: "\
 Example:
@@ -28,7 +28,7 @@ Example:
 };
 
 const TRIM: Texts<'static> = Texts {
-    about: "Judges PROOF as check does, and writes what it needs to P",
+    about: "Check PROOF, an LRAT proof, and write what it needs to P",
     usage: "bddsat trim FILE PROOF --out P [--lax] [--core C]",
     after: "\
 Example:
@@ -37,13 +37,13 @@ Example:
 
 const PROOF_HELP: &str = "The proof, in LRAT";
 
-const DRAT_HELP: &str = "The DRAT proof. PROOF itself by another name would be emptied";
+const DRAT_HELP: &str = "The DRAT proof; never PROOF's own file: it would be emptied";
 
 const DRAT_PROOF_HELP: &str = "The proof, in textual DRAT";
 
-const LRAT_HELP: &str = "The LRAT proof. PROOF itself by another name would be emptied";
+const LRAT_HELP: &str = "The LRAT proof; never PROOF's own file: it would be emptied";
 
-const FRESH_HELP: &str = "Gives each extension variable a name of its own";
+const FRESH_HELP: &str = "Give each definition a variable of its own";
 
 const CORE_HELP: &str = "The numbers of FILE's clauses that P names, one a line";
 

@@ -1,4 +1,4 @@
-// The words of the command line: what the parser takes, and this program's own test of the names.
+// A command line as a command: what the parser takes, and this program's own test of the names.
 ghost use Rattle.std.specs.Prelude.{◌≡◌, MatchOption, MatchResult, IfOk, IfErr, IfSome, Some, map};
 ghost use Rattle.std.specs.String.{string_bytes};
 ghost use Rattle.std.specs.Result.{IsErrAnd};
@@ -27,7 +27,7 @@ use dimacs_reader::Mode;
 use schedule_plan::Limits;
 use std::alloc::Global;
 
-/// What the words ask for.
+/// The command that a command line asks for.
 #[derive(Drop)]
 pub enum Asked<'a> {
     /// To decide a formula, and to write the proof.
@@ -76,17 +76,17 @@ pub struct CheckTask<'a> {
     pub progress: bool,
 }
 
-/// Why the words ask for nothing that is to be done.
+/// Why a command line asks for no command.
 #[derive(Drop)]
 pub enum Refusal {
-    /// They ask for help, or for the version, which is this text.
+    /// It asks for help, or for the version, which is this text.
     Help(String),
-    /// They are faulty.
+    /// It is invalid.
     Usage,
     OutOfMemory,
 }
 
-/// What the words ask for, the program's own name first.
+/// The command that these words ask for; the program's own name is the first.
 pub fn read_words(alloc: Global, words: &[String]) -> Result<Asked<'_>, Refusal>
     ensures meant { MatchResult result (λ asked. command (map string_bytes words.now) ≡ Some (command_of asked))
         (IsRefusal (map string_bytes words.now)) }
@@ -114,7 +114,7 @@ fn answer_to<'a>(
     }
 }
 
-// What the words that the parser took ask for; else they are faulty, whatever memory there is.
+// The command of the words that the parser took; else they are invalid, whatever memory there is.
 fn asked_of<'a>(matches: &ArgMatches<'a>) -> Result<Asked<'a>, Refusal>
     ensures meant { IsTaken (subcommand_rows_of matches.now) result }
     ensures within { IfOk result (λ asked. IsWithin (command_of asked)) }

@@ -17,7 +17,8 @@ use Rattle.node_table.specs.Laws.{Cofactors}
 use Rattle.node_table.specs.Made.{inner}
 use Rattle.node_table.specs.Value.{Levels, by_level, value_of}
 use Rattle.cube_models.specs.Least.{HasNoModel, IsLeastModel}
-use Rattle.cube_models.specs.Way.{Agrees, AreMarks, Assumes, IsDead, IsDown, IsStep, Leads, allows, is_marked, is_on, is_open, levels_of, next_in}
+use Rattle.cube_models.specs.Way.{Agrees, AreMarks, Assumes, IsDead, IsDown, IsStep, Leads, allows, is_marked, is_on, is_open, levels_of}
+use Rattle.cube_models.specs.Way.{next_in}
 use Rattle.cube_models.specs.Way.{sign_at, sign_of}
 use Rattle.cube_models.proofs.Said.{all_at, allowed_same, from_each, value_said}
 use Rattle.cube_models.proofs.Ways.{HasBranch, chosen, chosen_high, chosen_low, closed_marked, has_branch, open_allows}
@@ -90,7 +91,8 @@ high_down graph reduced signs a later first key b has down dead allowed on same 
     let here : level_of graph (inner key) ≡ b.level = has.here in
     let small : b.level < levels graph = has.small in
     let below : b.level < level_of graph b.high = has.high.below in
-    let above_same : (i : ℕ) → i < b.level → later i ≡ a i = λ i early. same i (omega (arith, early, small)) (λ e. omega (arith, e, early)) in
+    let above_same : (i : ℕ) → i < b.level
+    → later i ≡ a i = λ i early. same i (omega (arith, early, small)) (λ e. omega (arith, e, early)) in
     let never : (c : Levels) → Agrees graph signs c → c b.level ≡ false → value_of graph c (inner key) ≡ false = λ c agrees off.
     has.value c ∙ chosen_low (c b.level) (value_of graph c b.high) (value_of graph c b.low) off
     ∙ dead (ap (allows (sign_at graph signs b.level)) (sym off) ∙ agrees b.level small) c agrees in
@@ -145,7 +147,8 @@ set_others graph ordered values level small i inside differ =
 abbrev pub IsOn : Graph → List (Option Bool) → Node → List Bool → Node → Type 0
 IsOn graph signs first values node = IsDown graph signs (levels_of graph values) first node
 
-pub stays_low : Cofactors → (graph : Graph) → IsReduced graph → (signs : List (Option Bool)) (round : ℕ) (marks : List ℕ) (values : List Bool)
+pub stays_low : Cofactors → (graph : Graph) → IsReduced graph
+    → (signs : List (Option Bool)) (round : ℕ) (marks : List ℕ) (values : List Bool)
     (first node : Node) (key : ℕ) (child : Node) (b : Branch) → branch_at graph key ≡ Some b → IsOn graph signs first values node
     → IsStep graph (next_in graph signs marks round) node key child
     → is_open (is_marked marks round) (sign_at graph signs b.level) false b.low ≡ true → IsOn graph signs first values child
@@ -163,7 +166,8 @@ stays_low cofactors graph reduced signs round marks values first node key child 
     some_branch : (x y : Branch) → Some x ≡ Some y → x ≡ y
     some_branch x y same = cc
 
-pub goes_high : Cofactors → (graph : Graph) → IsReduced graph → IsOrder graph.order → (signs : List (Option Bool)) (round : ℕ) (marks : List ℕ)
+pub goes_high : Cofactors → (graph : Graph) → IsReduced graph → IsOrder graph.order
+    → (signs : List (Option Bool)) (round : ℕ) (marks : List ℕ)
     (values : List Bool) (first node : Node) (key : ℕ) (child : Node) (b : Branch) → AreMarks graph signs round marks
     → length values ≡ levels graph → branch_at graph key ≡ Some b → IsOn graph signs first values node
     → IsStep graph (next_in graph signs marks round) node key child
@@ -177,7 +181,8 @@ goes_high cofactors graph reduced ordered signs round marks values first node ke
     let later = slice_set values (variable_at graph b.level - 1) true in
     elim (chosen (is_marked marks round) (sign_at graph signs) b child goes) [
       | inl low ↦ absurd (let no : is_open (is_marked marks round) (sign_at graph signs b.level) false b.low ≡ true = low.allowed in cc)
-      | inr high ↦ subst (IsOn graph signs first later) high.is (high_down graph reduced signs (levels_of graph values) (levels_of graph later)
+      | inr high ↦ subst (IsOn graph signs first later) high.is (high_down graph reduced signs (levels_of graph values)
+          (levels_of graph later)
           first key b has from
           (λ allowed. known.dead b.low has.low.stands
           (closed_marked (allows (sign_at graph signs b.level) false) (is_marked marks round b.low) closed allowed))
@@ -202,7 +207,8 @@ level_for graph ordered literal range =
     let found = ordered.each (nat_abs literal) (ltb-true 0 (nat_abs literal) parts.0) (leb-true (nat_abs literal) (levels graph) parts.1) in
     (found.0, (found.1, found.2))
 
-cube_agrees : (graph : Graph) → IsOrder graph.order → (cube : List ℤ) (signs : List (Option Bool)) → Assumes (levels graph) cube (length cube) signs
+cube_agrees : (graph : Graph) → IsOrder graph.order → (cube : List ℤ) (signs : List (Option Bool))
+    → Assumes (levels graph) cube (length cube) signs
     → IsTrue (list_all (is_literal_of (levels graph)) cube) → (a : Assignment) → Agrees graph signs (by_level graph.order a)
     → cube_holds a cube ≡ true
 cube_agrees graph ordered cube signs assumes within a agrees = from_each (literal_holds a) cube (λ i d small.
@@ -213,13 +219,15 @@ cube_agrees graph ordered cube signs assumes within a agrees = from_each (litera
     ap (λ (o : Option Bool). allows o (a (variable_at graph found.0))) (sym sign) ∙ agrees found.0 found.1.0 in
     value_said a literal (allowed_same (not (is_negative literal)) (a (variable_at graph found.0)) allowed ∙ ap a found.1.1))
 
-agrees_cube : (graph : Graph) → IsOrder graph.order → (cube : List ℤ) (signs : List (Option Bool)) → Assumes (levels graph) cube (length cube) signs
+agrees_cube : (graph : Graph) → IsOrder graph.order → (cube : List ℤ) (signs : List (Option Bool))
+    → Assumes (levels graph) cube (length cube) signs
     → (a : Assignment) → cube_holds a cube ≡ true → Agrees graph signs (by_level graph.order a)
 agrees_cube graph ordered cube signs assumes a holds level small =
     assumes.given a holds (variable_at graph level) (ordered.within level small).0
 
 -- at the end of the way
-pub least_model : (graph : Graph) → IsOrder graph.order → (cube : List ℤ) (signs : List (Option Bool)) → Assumes (levels graph) cube (length cube) signs
+pub least_model : (graph : Graph) → IsOrder graph.order → (cube : List ℤ) (signs : List (Option Bool))
+    → Assumes (levels graph) cube (length cube) signs
     → IsTrue (list_all (is_literal_of (levels graph)) cube) → (node : Node) (values : List Bool) → length values ≡ levels graph
     → IsOn graph signs node values True → IsLeastModel graph node cube values
 least_model graph ordered cube signs assumes within node values one_each down = record {
@@ -232,16 +240,19 @@ least_model graph ordered cube signs assumes within node values one_each down = 
       holds.cube_holds) holds.node_holds place small agree on;
 }
 
-pub no_model : (graph : Graph) → IsOrder graph.order → (cube : List ℤ) (signs : List (Option Bool)) → Assumes (levels graph) cube (length cube) signs
+pub no_model : (graph : Graph) → IsOrder graph.order → (cube : List ℤ) (signs : List (Option Bool))
+    → Assumes (levels graph) cube (length cube) signs
     → (node : Node) → IsDead graph signs node → HasNoModel graph node cube
 no_model graph ordered cube signs assumes node dead a holds =
-    let no : value_of graph (by_level graph.order a) node ≡ false = dead (by_level graph.order a) (agrees_cube graph ordered cube signs assumes a
+    let no : value_of graph (by_level graph.order a) node ≡ false = dead (by_level graph.order a)
+    (agrees_cube graph ordered cube signs assumes a
     holds.cube_holds) in
     let is : value_of graph (by_level graph.order a) node ≡ true = holds.node_holds in
     absurd (let wrong : true ≡ false = sym is ∙ no in cc)
 
 -- The same, each list as a call has it.
-pub found_model : (graph : Graph) → IsOrder graph.order → (cube : List ℤ) (signs one two : List (Option Bool)) (marks also path as_path : List ℕ)
+pub found_model : (graph : Graph) → IsOrder graph.order
+    → (cube : List ℤ) (signs one two : List (Option Bool)) (marks also path as_path : List ℕ)
     (round : ℕ) (node : Node) (values : List Bool) → one ≡ signs → two ≡ signs → also ≡ marks → as_path ≡ path
     → Assumes (levels graph) cube (length cube) signs → IsTrue (list_all (is_literal_of (levels graph)) cube)
     → length values ≡ levels graph → Leads graph (next_in graph one marks round) node path True

@@ -2,3 +2,7 @@ mod Ways
 mod Searches
 mod Said
 mod Downs
+mod Denied
+mod Refuted
+mod Summed
+mod Stated

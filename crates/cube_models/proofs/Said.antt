@@ -10,7 +10,7 @@ use Rattle.std.proofs.lemmas.Bool.Decides.{Decides-int_eq}
 use Rattle.std.proofs.lemmas.List.{get_or-set_same, get_or-set_other, get_or_default, length-set}
 use Rattle.cnf_base.specs.Cube.{cube_holds, is_consistent, is_denied}
 use Rattle.cnf_base.specs.Truth.{Assignment, is_literal_of, literal_holds}
-use Rattle.cube_models.specs.Way.{Assumes, allows, sign_of}
+use Rattle.cube_models.specs.Way.{Assumes, allows, literal_with, sign_of}
 
 pub all_at : {X : Type 0} (p : X → Bool) (xs : List X) (i : ℕ) (d : X) → list_all p xs ≡ true → i < length xs
     → p (slice_index_or xs i d) ≡ true
@@ -72,6 +72,14 @@ witnessed cube consistent i d small =
     literal_witnessed cube literal (among literal cube i small (get_or_default cube i d literal small))
     (all_at (λ l. not (is_denied l cube)) cube i d consistent small)
 
+-- a literal by its variable and its value
+literal_is : (literal : ℤ) → literal_with (nat_abs literal) (not (is_negative literal)) ≡ literal
+literal_is (pos n) = ap (λ (t : Bool). literal_with n (not t)) (not_negative n)
+literal_is (negsuc n) = refl
+
+same_value : (s t : Bool) → ◌≡◌ {A = Option Bool} (Some s) (Some t) → s ≡ t
+same_value s t is = cc
+
 -- One literal more is read.
 pub Assumes-more : (vars : ℕ) (cube : List ℤ) (count : ℕ) (signs : List (Option Bool)) (literal : ℤ) (variable : ℕ) (value : Bool)
     → IsTrue (list_all (is_literal_of vars) cube) → IsTrue (is_consistent cube) → Assumes vars cube count signs → count < length cube
@@ -80,7 +88,8 @@ pub Assumes-more : (vars : ℕ) (cube : List ℤ) (count : ℕ) (signs : List (O
 Assumes-more vars cube count signs literal variable value within consistent known small is var_is value_is =
     let own : (a : Assignment) → cube_holds a cube ≡ true → literal_holds a literal ≡ true =
     λ a holds. ap (literal_holds a) is ∙ all_at (literal_holds a) cube count literal holds small in
-    let range : is_literal_of vars literal ≡ true = ap (is_literal_of vars) is ∙ all_at (is_literal_of vars) cube count literal within small in
+    let range : is_literal_of vars literal ≡ true = ap (is_literal_of vars) is
+    ∙ all_at (is_literal_of vars) cube count literal within small in
     let parts = and_parts (nat_lt 0 (nat_abs literal)) (nat_le (nat_abs literal) vars) range in
     let some : 0 < nat_abs literal = ltb-true 0 (nat_abs literal) parts.0 in
     let most : nat_abs literal ≤ vars = leb-true (nat_abs literal) vars parts.1 in
@@ -125,4 +134,16 @@ Assumes-more vars cube count signs literal variable value within consistent know
                       absurd (differ (ap (λ (n : ℕ). n - 1) (ap nat_abs same_literal ∙ sym var_is)))
                 ])
           ];
+      only = λ other other_value above is_said. elim (cases_eq (other - 1) (variable - 1)) [
+        | inl same ↦
+            let as_own : other ≡ nat_abs literal = omega (arith, same, above, some, var_is) in
+            let own_value : value ≡ other_value = same_value value other_value
+            (sym at_own ∙ ap (λ (n : ℕ). slice_index_or (slice_set signs (variable - 1) (Some value)) n None) (sym same) ∙ is_said) in
+            let own_literal : literal_with other other_value ≡ literal =
+            ap (λ (n : ℕ). literal_with n other_value) as_own ∙ ap (literal_with (nat_abs literal)) (sym own_value ∙ value_is)
+            ∙ literal_is literal in
+            ap (λ (l : ℤ). list_any (int_eq l) cube) own_literal ∙ among literal cube count small is
+        | inr differ ↦ known.only other other_value above
+            (sym (get_or-set_other signs (variable - 1) (other - 1) (Some value) None differ) ∙ is_said)
+      ];
     }

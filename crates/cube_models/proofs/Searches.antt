@@ -28,7 +28,8 @@ no_way cofactors graph reduced signs round marks known key b at none a agrees =
     elim (a b.level) as (λ t. a b.level ≡ t → value_of graph a (inner key) ≡ false) [
       | true ↦ λ on.
           let allowed : allows sign true ≡ true = ap (allows sign) (sym on) ∙ agrees b.level has.small in
-          let dead = known.dead b.high has.high.stands (closed_marked (allows sign true) (is_marked marks round b.high) shut.high allowed) in
+          let dead = known.dead b.high has.high.stands (closed_marked (allows sign true)
+          (is_marked marks round b.high) shut.high allowed) in
           has.value a ∙ chosen_high (a b.level) (value_of graph a b.high) (value_of graph a b.low) on ∙ dead a agrees
       | false ↦ λ off.
           let allowed : allows sign false ≡ true = ap (allows sign) (sym off) ∙ agrees b.level has.small in
@@ -85,14 +86,16 @@ pub record IsLast (graph : Graph) (signs : List (Option Bool)) (round : ℕ) (fi
   pub first_unmarked : is_marked marks round first ≡ false
   pub way : Leads graph (next_in graph signs marks round) first rest (inner key)
 
-found_branch : (graph : Graph) (key : ℕ) → is_node graph (inner key) ≡ true → (b : Branch) × (branch_at graph key ≡ Some b)
-found_branch graph key stands = elim (branch_at graph key) as (λ o. branch_at graph key ≡ o → (b : Branch) × (branch_at graph key ≡ Some b)) [
-  | None ↦ λ none. absurd (let no : is_some (branch_at graph key) ≡ false = ap is_some none in let is : is_some (branch_at graph key)
-      ≡ true = stands in cc)
-  | Some b ↦ λ at. (b, at)
-] refl
+pub found_branch : (graph : Graph) (key : ℕ) → is_node graph (inner key) ≡ true → (b : Branch) × (branch_at graph key ≡ Some b)
+found_branch graph key stands = elim (branch_at graph key) as (λ o. branch_at graph key ≡ o
+    → (b : Branch) × (branch_at graph key ≡ Some b)) [
+      | None ↦ λ none. absurd (let no : is_some (branch_at graph key) ≡ false = ap is_some none in let is : is_some (branch_at graph key)
+          ≡ true = stands in cc)
+      | Some b ↦ λ at. (b, at)
+    ] refl
 
-pub last_of : Cofactors → (graph : Graph) → IsReduced graph → (signs : List (Option Bool)) (round : ℕ) (first : Node) (marks path rest : List ℕ)
+pub last_of : Cofactors → (graph : Graph) → IsReduced graph
+    → (signs : List (Option Bool)) (round : ℕ) (first : Node) (marks path rest : List ℕ)
     (key : ℕ) → is_node graph first ≡ true → IsSearch graph signs round first marks path → path ≡ rest ++ key ∷ []
     → IsLast graph signs round first marks rest key
 last_of cofactors graph reduced signs round first marks path rest key stands known is =
@@ -128,13 +131,15 @@ step_back cofactors graph reduced signs round first marks path rest key stands k
     let later = is_marked (slice_set marks key round) round in
     let sign = sign_at graph signs in
     let dead = no_way cofactors graph reduced signs round marks known.known key last.branch last.stands none in
-    let ends = λ (front : List ℕ) (before : ℕ) (cut : rest ≡ front ++ before ∷ []). way_shorter graph (next_of marked sign) first front before
+    let ends = λ (front : List ℕ) (before : ℕ) (cut : rest ≡ front ++ before ∷ []). way_shorter graph
+    (next_of marked sign) first front before
     (inner key) (subst (λ (l : List ℕ). Leads graph (next_of marked sign) first l (inner key)) cut last.way) in
     record {
       known = AreMarks-more graph signs round marks known.known key last.small dead;
       way = λ front before cut.
           let end = ends front before cut in
-          let below : IsBelow graph end.step.branch.level (inner key) = next_below graph reduced marked sign before end.step.branch (inner key)
+          let below : IsBelow graph end.step.branch.level (inner key) = next_below graph reduced marked sign before end.step.branch
+          (inner key)
           end.step.stands end.step.goes in
           let here : level_of graph (inner before) ≡ end.step.branch.level = (has_branch cofactors graph reduced before end.step.branch
           end.step.stands).here in
@@ -158,7 +163,8 @@ pub step_down : (graph : Graph) (signs : List (Option Bool)) (round : ℕ) (firs
     → IsSearch graph signs round first marks ((rest ++ key ∷ []) ++ below ∷ [])
 step_down graph signs round first marks path rest key below known last goes =
     let next = next_in graph signs marks round in
-    let step : IsStep graph next (inner key) key (inner below) = record { branch = last.branch; named = refl; stands = last.stands; goes = goes } in
+    let step : IsStep graph next (inner key) key (inner below) =
+    record { branch = last.branch; named = refl; stands = last.stands; goes = goes } in
     let way = way_longer graph next first rest key (inner below) last.way step in
     record {
       known = known.known;

@@ -1,3 +1,5 @@
 pub mod Least
 pub mod Way
 pub mod Finder
+pub mod Denied
+pub mod Sum

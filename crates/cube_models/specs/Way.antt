@@ -1,9 +1,12 @@
 -- The way down from a node to True under a cube: low first. A child is closed where the cube says otherwise of the variable, and where it
 -- is known that nothing makes it true under the cube.
-use Rattle.std.specs.Prelude.{◌≡◌, ◌<◌, ◌≤◌, ◌-◌, ◌==◌, ◌&&◌, ℕ, Bool, true, false, not, ℤ, List, [], ◌∷◌, ◌++◌, Option, None, Some}
+use Rattle.std.specs.Prelude.{◌≡◌, ◌<◌, ◌≤◌, ◌-◌, ◌==◌, ◌&&◌, ℕ, Bool, true, false, not, ℤ, pos, neg_ℤ, List, [], ◌∷◌, ◌++◌, Option, None}
+use Rattle.std.specs.Prelude.{Some}
 use Rattle.std.specs.Prelude.{length, nat_abs, slice_index_or, if◌then◌else◌}
 use Rattle.std.specs.Bool.{beq}
 use Rattle.std.specs.Int.{is_negative}
+use Rattle.std.specs.List.{list_any}
+use Rattle.std.specs.Ordering.{int_eq}
 use Rattle.cnf_base.specs.Cube.{cube_holds}
 use Rattle.cnf_base.specs.Truth.{Assignment, assignment_of}
 use Rattle.node_table.specs.declared.node.Node.{Node}
@@ -33,12 +36,20 @@ sign_at graph signs level = sign_of signs (variable_at graph level)
 abbrev pub Agrees : Graph → List (Option Bool) → Levels → Type 0
 Agrees graph signs a = (level : ℕ) → level < levels graph → allows (sign_at graph signs level) (a level) ≡ true
 
+-- the literal of a variable that has this value
+abbrev pub literal_with : ℕ → Bool → ℤ
+literal_with variable true = pos variable
+literal_with variable false = neg_ℤ (pos variable)
+
 -- Exactly what a cube says is assumed, of which this many first literals were read.
 pub record Assumes (vars : ℕ) (cube : List ℤ) (count : ℕ) (signs : List (Option Bool)) : Type 0 where
   pub one_each : length signs ≡ vars
   pub given : (a : Assignment) → cube_holds a cube ≡ true → (variable : ℕ) → 0 < variable → allows (sign_of signs variable) (a variable)
       ≡ true
-  pub said : (i : ℕ) (d : ℤ) → i < count → sign_of signs (nat_abs (slice_index_or cube i d)) ≡ Some (not (is_negative (slice_index_or cube i d)))
+  pub said : (i : ℕ) (d : ℤ) → i < count
+      → sign_of signs (nat_abs (slice_index_or cube i d)) ≡ Some (not (is_negative (slice_index_or cube i d)))
+  pub only : (variable : ℕ) (value : Bool) → 0 < variable → sign_of signs variable ≡ Some value
+      → list_any (int_eq (literal_with variable value)) cube ≡ true
 
 -- nothing makes the node true under what is assumed
 abbrev pub IsDead : Graph → List (Option Bool) → Node → Type 0

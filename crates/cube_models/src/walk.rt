@@ -1,8 +1,10 @@
-// The search for a way down to True: depth first, low first. A node that has none under the cube is marked, and is looked at once.
+// The search for a way down to True: depth first, low first. A node that has none under the cube is marked, put on a list behind those of
+// its children that were looked at, and looked at once.
 ghost use Rattle.std.specs.Prelude.{◌≡◌, ◌≢◌, ◌⊎◌, ◌↔◌, ◌<◌, ℕ, true, false, [], IsTrue, IfOk, Some, length, slice_index_or};
 ghost use Rattle.node_table.specs.declared.node.Branch.{Branch as BranchValue};
 ghost use Rattle.node_table.specs.declared.node.Node.TheVariants.{True};
 ghost use Rattle.node_table.specs.Diagram.{branch_at, is_node, levels};
+ghost use Rattle.cube_models.specs.Denied.{AreDenied, IsShutBy};
 ghost use Rattle.cube_models.specs.Way.{AreMarks, IsDead, Leads, is_marked, is_open, next_in};
 
 use crate::signs::{allows, sign_of};
@@ -10,7 +12,8 @@ use cnf_base::OutOfMemory;
 use host_io::Sink;
 use node_table::{Node, NodeKey, Table, cofactor_law};
 
-/// Whether there is a way to True. Then the path has the keys of its nodes.
+/// Whether there is a way to True. Then the path has the keys of its nodes. Else those of all nodes that were looked at are on the list of
+/// the dead.
 pub fn find_way<S: Sink + Drop>(
     table: &Table<S>,
     node: Node,
@@ -18,6 +21,7 @@ pub fn find_way<S: Sink + Drop>(
     round: u32,
     marks: &mut Vec<u32>,
     path: &mut Vec<u32>,
+    dead: &mut Vec<u32>,
 ) -> Result<bool, OutOfMemory>
     requires node { IsTrue (is_node table.now.graph node) }
     requires one_each { length signs.now ≡ levels table.now.graph }
@@ -27,12 +31,15 @@ pub fn find_way<S: Sink + Drop>(
         node path.new.items True) }
     ensures marks { IfOk result (λ _. AreMarks table.now.graph signs.now round marks.new.items) }
     ensures none { IfOk result (λ found. found ≡ false → IsDead table.now.graph signs.now node) }
+    ensures denied { IfOk result (λ found. found ≡ false → AreDenied table.now.graph signs.now [] dead.new.items) }
+    ensures shut { IfOk result (λ found. found ≡ false → IsShutBy dead.new.items node) }
     ensures marked { (key : ℕ) → (slice_index_or marks.new.items key 0 ≡ slice_index_or marks.old.items key 0)
         ⊎ (slice_index_or marks.new.items key 0 ≡ round) }
 {
     cofactor_law();
     table.table_law();
     path.clear();
+    dead.clear();
     let Node::Inner(first) = node else {
         return Ok(is_true(node));
     };
@@ -40,6 +47,7 @@ pub fn find_way<S: Sink + Drop>(
     'nodes: while let Some(key) = path.pop() {
         let Some(child) = next_node(table, key, signs, round, marks) else {
             marks[key as usize] = round;
+            dead.push(key)?;
             continue;
         };
         path.push(key)?;

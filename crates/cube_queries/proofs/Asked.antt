@@ -165,39 +165,6 @@ taken_none cubes old new holds error (Err other) is over = subst (λ (e : TableE
   goes = over.goes;
 })
 
--- nothing is given back, or the same with another answer
-pub nothing_back : {S T : Type 0} → StepByStep S → (runner : Runner S) → IsRunner runner → (answer : T) → GivesBack runner runner (Ok answer)
-nothing_back steps runner is answer = record {
-  goes_on = λ whole. is;
-  out = refl;
-  keeps = λ whole. (stays_none steps runner is).keeps;
-  no_limit = no_error;
-  top = refl;
-  goes = goes_none steps runner is;
-}
-
-pub back_as : {S T U : Type 0} (old new : Runner S) (count : T) (answer : U) → GivesBack old new (Ok count) → GivesBack old new (Ok answer)
-back_as old new count answer back = record {
-  goes_on = λ whole. back.goes_on no_error;
-  out = back.out;
-  keeps = λ whole. back.keeps no_error;
-  no_limit = no_error;
-  top = back.top;
-  goes = back.goes;
-}
-
-pub back_handed : {S T U : Type 0} (old new : Runner S) (error : TableError) (r : Result U TableError) → IsErrAnd r (λ e. e ≡ error)
-    → GivesBack {S = S} {T = T} old new (Err error) → GivesBack old new r
-back_handed old new error (Ok answer) is back = absurd is
-back_handed {S} {T} {U} old new error (Err other) is back = subst (λ (e : TableError). GivesBack {S = S} {T = U} old new (Err e)) (sym is) (record {
-  goes_on = λ whole. back.goes_on (λ same. whole (ap Err (same_error same)));
-  out = back.out;
-  keeps = λ whole. back.keeps (λ same. whole (ap Err (same_error same)));
-  no_limit = λ same. back.no_limit (ap Err (same_error same));
-  top = back.top;
-  goes = back.goes;
-})
-
 -- no term is out behind the release, or where none was given
 pub none_left : {S : Type 0} (mid new : Runner S) (held : HeldTerm) → IsListed [] mid.terms.out.items held
     → (IsTrue mid.terms.table.book.in_step → Releases held mid new) → (mid.terms.table.book.in_step ≡ false → new ≡ mid)

@@ -1,5 +1,5 @@
 -- What steps cost, one behind another, by the functions that they have in hand.
-use Rattle.std.proofs.Common.{◌≡◌, ◌⊎◌, ◌∙◌, ◌≤◌, ◌+◌, ◌*◌, ◌++◌, ◌&&◌, ℕ, Bool, true, false, ℤ, List, [], ◌∷◌, length}
+use Rattle.std.proofs.Common.{◌≡◌, ◌⊎◌, ◌∙◌, ◌≤◌, ◌+◌, ◌*◌, ◌&&◌, ℕ, Bool, true, false, ℤ, List, [], ◌∷◌, length}
 use Rattle.std.proofs.Common.{Contains, Option, None, Some, Ok, Err, Result, refl, sym, ap, subst, arith, inl, inr}
 use Rattle.std.specs.Prelude.{IsErrAnd, IsTrue}
 use Rattle.std.proofs.Math.Nat.{add-mul, mul-le-mul_right}
@@ -10,13 +10,11 @@ use Rattle.node_table.specs.Diagram.{levels}
 use Rattle.node_table.specs.Progress.{error_of}
 use Rattle.node_table.specs.Table.{TableState}
 use Rattle.node_table.specs.Value.{Levels}
-use Rattle.clause_terms.specs.CubeDiagram.{cube_function}
 use Rattle.clause_terms.specs.Term.{by_variable}
 use Rattle.schedule_plan.specs.declared.limits.Limits.{Limits}
 use Rattle.schedule_plan.specs.Plan.{input as input_term, term_holds}
 use Rattle.term_runner.specs.declared.held.HeldTerm.{HeldTerm}
 use Rattle.term_runner.specs.declared.runner.Runner.{Runner}
-use Rattle.term_runner.specs.Asked.{with_cube}
 use Rattle.term_runner.specs.Counting.{Counting}
 use Rattle.term_runner.specs.Price.{IsMovePrice}
 use Rattle.term_runner.specs.Runner.{IsGood, IsListed, IsRunner, Releases, holds_in}
@@ -195,18 +193,8 @@ module _ {S : Type 0} (counting : Counting S) (old new : Runner S) (held : HeldT
   whole_is : function_in old held ≡ formula_function old.formula.now old.terms.table.graph.order
   whole_is = function_is counting old is held good (formula_holds old.formula.now) value
 
-  abbrev own : List (Levels → Bool)
-  own = cube_function old.terms.table.graph.order cube ∷ with_cube old.terms.table.graph held.node cube ∷ []
-
-  pub costs_at : (error : Option TableError) → Costs 1 (own ++ functions_out old) old new error
+  pub costs_at : (error : Option TableError) → Costs 1 (functions_out old) old new error
       → Costs 1 (functions_at old.formula.now old.terms.table.graph.order cube) old new error
   costs_at error costs =
-      costs_within old new 1 1 (omega arith) (own ++ functions_out old) (functions_at old.formula.now old.terms.table.graph.order cube)
-      (λ f there. elim (among_cases (cube_function old.terms.table.graph.order cube) f
-      (with_cube old.terms.table.graph held.node cube ∷ functions_out old) there) [
-        | inl same ↦ (1, omega arith, same)
-        | inr more ↦ elim (among_cases (with_cube old.terms.table.graph held.node cube) f (functions_out old) more) [
-          | inl same ↦ (2, omega arith, (λ i a. cube_function old.terms.table.graph.order cube a && sym whole_is i a) ∙ same)
-          | inr out ↦ (0, omega arith, sym (out_alone old held alone f out ∙ whole_is))
-        ]
-      ]) error costs
+      costs_within old new 1 1 (omega arith) (functions_out old) (functions_at old.formula.now old.terms.table.graph.order cube)
+      (λ f there. (0, omega arith, sym (out_alone old held alone f there ∙ whole_is))) error costs

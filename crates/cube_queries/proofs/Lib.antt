@@ -1,6 +1,5 @@
 pub mod Stays
 pub mod Alone
-pub mod Alike
 pub mod Replied
 pub mod Formulas
 pub mod Ended
@@ -17,3 +16,5 @@ pub mod Costed
 pub mod Totals
 pub mod Recosted
 pub mod Lent
+mod Added
+mod Refusing

@@ -1,5 +1,5 @@
 -- A call that met the limit of nodes, a reclamation, and the call again.
-use Rattle.std.proofs.Common.{◌≡◌, ℤ, Bool, List, Ok, Err, Result, sym, subst}
+use Rattle.std.proofs.Common.{◌≡◌, Bool, List, Ok, Err, Result, sym, subst}
 use Rattle.std.specs.Prelude.{IsErrAnd}
 use Rattle.cnf_base.specs.Truth.{Assignment}
 use Rattle.node_table.specs.declared.error.TableError.{TableError}
@@ -10,20 +10,13 @@ use Rattle.term_runner.specs.declared.held.HeldTerm.{HeldTerm}
 use Rattle.term_runner.specs.declared.runner.Runner.{Runner}
 use Rattle.term_runner.specs.declared.term.Term.{Term}
 use Rattle.term_runner.specs.Runner.{Gives, IsRunner}
-use Rattle.cube_queries.specs.declared.answer.Answer.{Answer}
-use Rattle.cube_queries.specs.Steps.{GivesBack, Replies, Takes}
-use Rattle.cube_queries.proofs.Replied.{replies_behind, replies_none, stays_unanswered}
+use Rattle.cube_queries.specs.Steps.{GivesBack, Takes}
 use Rattle.cube_queries.proofs.Stays.{Stays, stays_at_limit, stays_back, stays_further, takes_behind, takes_none, takes_of}
 
 pub takes_handed : {S : Type 0} (holds : Assignment → Bool) (old new : Runner S) (error : TableError) (r : Result Term TableError)
     → IsErrAnd r (λ e. e ≡ error) → Takes holds old new (Err error) → Takes holds old new r
 takes_handed holds old new error (Ok term) is takes = absurd is
 takes_handed holds old new error (Err other) is takes = subst (λ (e : TableError). Takes holds old new (Err e)) (sym is) takes
-
-pub replies_handed : {S : Type 0} (cube : List (ℤ)) (old new : Runner S) (error : TableError) (r : Result Answer TableError)
-    → IsErrAnd r (λ e. e ≡ error) → Replies cube old new (Err error) → Replies cube old new r
-replies_handed cube old new error (Ok answer) is replies = absurd is
-replies_handed cube old new error (Err other) is replies = subst (λ (e : TableError). Replies cube old new (Err e)) (sym is) replies
 
 module _ {S : Type 0} (growth : Growth) (steps : StepByStep S) (old one mid new : Runner S) (runner : IsRunner old)
     (function : Levels → Bool)
@@ -50,18 +43,3 @@ module _ {S : Type 0} (growth : Growth) (steps : StepByStep S) (old one mid new 
       let stays = stays_reclaimed answer back in
       takes_behind steps old mid new holds after same r stays
       (takes_of growth mid new stays.runner again after others r more)
-
-module _ {S : Type 0} (steps : StepByStep S) (cube : List (ℤ)) (old one mid new : Runner S) (found : Result Answer TableError)
-    (limit : found ≡ Err NodeLimit) (replies : Replies cube old one found) where
-  pub stays_unreplied : Stays old one
-  stays_unreplied = stays_unanswered cube old one (subst (λ (r : Result Answer TableError). Replies cube old one r) limit replies)
-
-  pub replies_unreclaimed : {T : Type 0} (error : TableError) (r : Result Answer TableError) → IsErrAnd r (λ e. e ≡ error)
-      → GivesBack {S = S} {T = T} one mid (Err error) → Replies cube old mid r
-  replies_unreclaimed error r is back =
-      replies_handed cube old mid error r is (replies_none steps cube old one mid error stays_unreplied back)
-
-  pub replies_again : {T : Type 0} (answer : T) → GivesBack one mid (Ok answer) → (r : Result Answer TableError)
-      → Replies cube mid new r → Replies cube old new r
-  replies_again answer back r more =
-      replies_behind steps cube old mid new r (stays_further steps old one mid stays_unreplied (stays_back one mid answer back)) more

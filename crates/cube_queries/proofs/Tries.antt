@@ -1,7 +1,7 @@
 -- What one try of a call costs, and a second one behind a reclamation.
-use Rattle.std.proofs.Common.{◌≡◌, ◌≢◌, ◌⊎◌, ◌∙◌, ◌≤◌, ◌+◌, ◌*◌, ◌++◌, ℕ, Bool, ℤ, true, List, [], ◌∷◌, length, map}
+use Rattle.std.proofs.Common.{◌≡◌, ◌≢◌, ◌∙◌, ◌≤◌, ◌+◌, ◌*◌, ◌++◌, ℕ, Bool, true, List, [], ◌∷◌, length, map}
 use Rattle.std.proofs.Common.{Contains, Option, None, Some, Ok, Err, Result, sym, ap, subst, arith, inl, inr}
-use Rattle.std.specs.Prelude.{IsErrAnd, is_some}
+use Rattle.std.specs.Prelude.{is_some}
 use Rattle.std.proofs.lemmas.List.Elements.{Contains-append_left, Contains-append_right}
 use Rattle.cnf_base.specs.Truth.{Assignment}
 use Rattle.node_table.specs.declared.error.TableError.{TableError}
@@ -12,13 +12,11 @@ use Rattle.node_table.specs.Laws.{Growth}
 use Rattle.node_table.specs.Made.{inner}
 use Rattle.node_table.specs.Progress.{Leaves, error_of}
 use Rattle.node_table.specs.Table.{live_nodes}
-use Rattle.node_table.specs.Value.{IsSubfunction, Levels, value_of}
-use Rattle.clause_terms.specs.CubeDiagram.{cube_function}
+use Rattle.node_table.specs.Value.{Levels, value_of}
 use Rattle.schedule_plan.specs.declared.limits.Limits.{Limits}
 use Rattle.term_runner.specs.declared.held.HeldTerm.{HeldTerm}
 use Rattle.term_runner.specs.declared.runner.Runner.{Runner}
 use Rattle.term_runner.specs.declared.term.Term.{Term}
-use Rattle.term_runner.specs.Asked.{Asks, with_cube}
 use Rattle.term_runner.specs.Counting.{Counting, IsPartOfOne}
 use Rattle.term_runner.specs.Finds.{AreFew}
 use Rattle.term_runner.specs.Price.{IsMovePrice}
@@ -35,12 +33,6 @@ use Rattle.cube_queries.proofs.Stays.{good_stands}
 pub error_is : {T : Type 0} (result : Result T TableError) (e : TableError) → error_of result ≡ Some e → result ≡ Err e
 error_is (Ok x) e is = absurd (let no : ◌≡◌ {A = Option TableError} None (Some e) = is in cc)
 error_is (Err error) e is = let same : error ≡ e = (let whole : ◌≡◌ {A = Option TableError} (Some error) (Some e) = is in cc) in ap Err same
-
--- an error that is handed on
-pub try_handed : {S T : Type 0} (old new : Runner S) (own : List (Levels → Bool)) (error : TableError) (r : Result T TableError)
-    → IsErrAnd r (λ e. e ≡ error) → IsTryFor own old new (Some error) → IsTryFor own old new (error_of r)
-try_handed old new own error (Ok x) is try = absurd is
-try_handed old new own error (Err e) is try = subst (λ (e : TableError). IsTryFor own old new (Some e)) (sym is) try
 
 module _ {S : Type 0} (old new : Runner S) where
   -- a term that may be taken is constant, or in hand
@@ -91,35 +83,6 @@ module _ {S : Type 0} (old new : Runner S) where
         gives.pairs width room (few_operands (function ∷ []) width most operands good)
         (own_few (function ∷ []) width most function (first_among function []));
   }
-
-  -- a call for a cube
-  pub try_of_asks : (held : HeldTerm) (cube : List ℤ) → IsGood old held → (result : Result (Option (List Bool)) TableError)
-      → Asks held cube old new result
-      → IsTryFor (cube_function old.terms.table.graph.order cube ∷ with_cube old.terms.table.graph held.node cube ∷ []) old new (error_of result)
-  try_of_asks held cube good result asks = record {
-    leaves = asks.leaves;
-    nodes = asks.nodes;
-    made = record { each = λ key branch at. elim (asks.made.each key branch at) [ inl there ↦ inl there | inr part ↦ inr (of_cube _ part) ] };
-    lacks = λ is.
-        let lacks = asks.lacks (error_is result NodeLimit is) in
-        record { part = lacks.part; is_one = of_cube lacks.part lacks.is_one; nowhere = lacks.nowhere };
-    adds = asks.adds;
-    pairs = λ width room most.
-        asks.pairs width room (few_of own width most held good) (own_few own width most one (first_among one (both ∷ [])));
-  }
-    where
-      one : Levels → Bool
-      one = cube_function old.terms.table.graph.order cube
-
-      both : Levels → Bool
-      both = with_cube old.terms.table.graph held.node cube
-
-      own : List (Levels → Bool)
-      own = one ∷ both ∷ []
-
-      of_cube : (part : Levels → Bool) → IsSubfunction one part ⊎ IsSubfunction both part → IsPartOfOne own part
-      of_cube part (inl is) = record { function = one; among = first_among one (both ∷ []); is_part = is }
-      of_cube part (inr is) = record { function = both; among = later_among one both (both ∷ []) (first_among both []); is_part = is }
 
 module _ {S : Type 0} (counting : Counting S) (own : List (Levels → Bool)) (old new : Runner S) (error : Option TableError)
     (runner : IsRunner old) (try : IsTryFor own old new error) where

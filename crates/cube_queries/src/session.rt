@@ -1,11 +1,11 @@
-// A session: the formula's term, then the cubes in turn, between which it is the only root.
+// A session: the formula's term, whose nodes alone stay, then the cubes in turn.
 ghost use Rattle.std.specs.Prelude.{◌≡◌, [], IsTrue};
-ghost use Rattle.cnf_base.specs.Truth.{AreClausesOf, Assignment};
+ghost use Rattle.cnf_base.specs.Truth.{Assignment};
 ghost use Rattle.cube_text.specs.CubeText.{AreCubes};
 ghost use Rattle.node_table.specs.Diagram.{levels};
 ghost use Rattle.node_table.specs.Progress.{error_of};
 ghost use Rattle.term_runner.specs.Runner.{IsListed, IsRunner, holds_in};
-ghost use Rattle.cube_queries.specs.Steps.{CostsAll, CostsCubes, GivesBack, RepliesAll, formula_holds};
+ghost use Rattle.cube_queries.specs.Steps.{CostsAll, CostsCubes, RepliesAll, formula_holds};
 
 use crate::answer::Answers;
 use crate::formula_term::term_of_formula;
@@ -14,12 +14,9 @@ use cnf_base::Cnf;
 use cube_models::Finder;
 use cube_text::Cubes;
 use host_io::Sink;
-use node_table::{TableError, growth_law, steps_law};
+use node_table::{TableError, steps_law};
 use std::alloc::Global;
 use term_runner::{Runner, Term};
-
-// With fewer nodes than these none are given back between two cubes.
-const RECLAIM_FROM: u32 = 1000;
 
 /// Answers all cubes.
 pub(crate) fn reply_all<S: Sink + Drop>(
@@ -44,7 +41,7 @@ pub(crate) fn reply_all<S: Sink + Drop>(
     answers
 }
 
-// Answers the cubes, beside the formula's term.
+// Answers the cubes, beside the formula's term. Nodes that it doesn't reach are given back before, and none is made.
 fn reply_each<S: Sink + Drop>(
     alloc: Global,
     runner: &mut Runner<'_, S>,
@@ -54,7 +51,6 @@ fn reply_each<S: Sink + Drop>(
     requires runner { IsRunner runner.old }
     requires alone { IsListed [] runner.old.terms.out.items term.now.held }
     requires value { (a : Assignment) → holds_in runner.old term.now.held a ≡ formula_holds runner.old.formula.now a }
-    requires literals { AreClausesOf runner.old.formula.now.vars runner.old.formula.now.clauses }
     requires cubes { AreCubes (levels runner.old.terms.table.graph) cubes.now }
     ensures replies { RepliesAll cubes.now runner.old runner.new result }
     ensures costs { CostsCubes cubes.now runner.old runner.new (error_of result) }
@@ -63,26 +59,12 @@ fn reply_each<S: Sink + Drop>(
     steps_law::<S>();
     let mut answers = Answers::new(alloc);
     let mut finder = Finder::new(alloc);
-    let mut left = 0;
+    let mut sums = Vec::new(alloc);
+    give_back(runner)?;
     'cubes: for place in 0..cubes.len() {
-        let answer = reply(alloc, runner, &mut finder, term, cubes.cube(place + 1))?;
+        let cube = cubes.cube(place + 1);
+        let answer = reply(alloc, runner, &mut finder, &mut sums, term, cube)?;
         answers.push(answer)?;
-        left = tidied(runner, left)?;
     }
     Ok(answers)
-}
-
-// Gives nodes back where there are many, and answers how many the last reclamation left.
-fn tidied<S: Sink + Drop>(runner: &mut Runner<'_, S>, left: u32) -> Result<u32, TableError>
-    requires { IsRunner runner.old }
-    ensures { GivesBack runner.old runner.new result }
-{
-    growth_law();
-    steps_law::<S>();
-    let live = runner.live();
-    if live < RECLAIM_FROM || live / 2 < left {
-        return Ok(left);
-    }
-    give_back(runner)?;
-    Ok(runner.live())
 }

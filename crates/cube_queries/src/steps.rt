@@ -1,25 +1,25 @@
 // Steps of a session. One that meets the limit of nodes is tried once more behind a reclamation.
-ghost use Rattle.std.specs.Prelude.{◌≡◌, ◌≤◌, ◌&&◌, ◌↔◌, ◌∷◌, Bool, [], List, Ok, Err, IsTrue, OnOk, length, true};
+ghost use Rattle.std.specs.Prelude.{◌≡◌, ◌≤◌, ◌&&◌, ◌↔◌, ◌∷◌, [], List, Err, IsTrue, IfOk, OnOk, length};
 ghost use Rattle.std.specs.List.{list_all};
-ghost use Rattle.cnf_base.specs.Cube.{cube_holds, is_consistent};
-ghost use Rattle.cnf_base.specs.Truth.{AreClausesOf, Assignment, is_literal_of};
+ghost use Rattle.cnf_base.specs.Cube.{is_consistent};
+ghost use Rattle.cnf_base.specs.Truth.{Assignment, is_literal_of};
 ghost use Rattle.node_table.specs.declared.error.TableError.TheVariants.{NodeLimit};
 ghost use Rattle.node_table.specs.Diagram.{levels};
 ghost use Rattle.node_table.specs.Progress.{error_of};
-ghost use Rattle.clause_terms.specs.CubeDiagram.{cube_function};
 ghost use Rattle.schedule_plan.specs.Plan.{input as input_term, term_holds};
 ghost use Rattle.term_runner.specs.declared.held.HeldTerm.{HeldTerm as HeldValue};
-ghost use Rattle.term_runner.specs.Asked.{with_cube};
 ghost use Rattle.term_runner.specs.Runner.{IsGood, IsListed, IsRunner, holds_in, nodes_of};
 ghost use Rattle.term_runner.specs.Tidy.{LeavesReached};
-ghost use Rattle.cube_queries.specs.Steps.{Costs, GivesBack, IsTryFor, Replies, Takes, TakesAlone, TakesOver, clause_in, formula_holds};
+ghost use Rattle.cube_queries.specs.Steps.{Costs, GivesBack, Replies, Takes, TakesAlone, TakesOver, clause_in, formula_holds};
 ghost use Rattle.cube_queries.specs.Steps.{function_in, functions_out, functions_with};
 ghost use Rattle.cube_models.specs.Finder.{IsFinder};
+ghost use Rattle.cube_queries.specs.Sums.{AreAllReached, AreReady};
 ghost use Rattle.cube_queries.specs.Width.{functions_at};
 
 use crate::answer::Answer;
+use crate::refusal::refuse;
 use crate::walk::least_values;
-use cnf_base::Lit;
+use cnf_base::{Id, Lit};
 use cube_models::Finder;
 use host_io::Sink;
 use node_table::{TableError, growth_law, steps_law};
@@ -133,84 +133,35 @@ fn both_into<S: Sink + Drop>(
 }
 
 /// What is answered of a cube, beside the one term that is out: the least assignment, along the term's diagram alone; where there is none,
-/// the clause that forbids the cube.
+/// the clause that forbids the cube. No node is made.
 pub(crate) fn reply<S: Sink + Drop>(
     alloc: Global,
     runner: &mut Runner<'_, S>,
     finder: &mut Finder,
+    sums: &mut Vec<Id>,
     term: &Term,
     cube: &[Lit],
 ) -> Result<Answer, TableError>
     requires runner { IsRunner runner.old }
     requires finder { IsFinder finder.old }
     requires alone { IsListed [] runner.old.terms.out.items term.now.held }
+    requires reached { AreAllReached runner.old }
+    requires sums { AreReady runner.old.terms.table.graph runner.old.terms.table.book.state.live sums.old.items }
     requires value { (a : Assignment) → holds_in runner.old term.now.held a ≡ formula_holds runner.old.formula.now a }
-    requires literals { AreClausesOf runner.old.formula.now.vars runner.old.formula.now.clauses }
     requires variables { IsTrue (list_all (is_literal_of (levels runner.old.terms.table.graph)) cube.now) }
     requires consistent { IsTrue (is_consistent cube.now) }
     ensures replies { Replies cube.now runner.old runner.new result }
     ensures costs { Costs 1 (functions_at runner.old.formula.now runner.old.terms.table.graph.order cube.now) runner.old runner.new
         (error_of result) }
     ensures finder { IsFinder finder.new }
+    ensures nodes { runner.new.terms.table.graph ≡ runner.old.terms.table.graph }
+    ensures sums { IfOk result (λ _. AreReady runner.new.terms.table.graph runner.new.terms.table.book.state.live sums.new.items) }
 {
     steps_law::<S>();
     let Some(values) = least_values(alloc, runner, finder, term, cube)? else {
-        return refuse(runner, term, cube);
+        return refuse(alloc, runner, finder, sums, term, cube);
     };
     Ok(Answer::Sat(values))
-}
-
-// Refuses a cube that no assignment satisfies beside the one term that is out.
-fn refuse<S: Sink + Drop>(
-    runner: &mut Runner<'_, S>,
-    term: &Term,
-    cube: &[Lit],
-) -> Result<Answer, TableError>
-    requires runner { IsRunner runner.old }
-    requires alone { IsListed [] runner.old.terms.out.items term.now.held }
-    requires value { (a : Assignment) → holds_in runner.old term.now.held a ≡ formula_holds runner.old.formula.now a }
-    requires literals { AreClausesOf runner.old.formula.now.vars runner.old.formula.now.clauses }
-    requires variables { IsTrue (list_all (is_literal_of (levels runner.old.terms.table.graph)) cube.now) }
-    requires consistent { IsTrue (is_consistent cube.now) }
-    requires none { (a : Assignment) → formula_holds runner.old.formula.now a ≡ true → cube_holds a cube.now ≡ true → ⊥ }
-    ensures replies { Replies cube.now runner.old runner.new result }
-    ensures costs { Costs 1 (functions_at runner.old.formula.now runner.old.terms.table.graph.order cube.now) runner.old runner.new
-        (error_of result) }
-{
-    counting_law::<S>();
-    growth_law();
-    steps_law::<S>();
-    let found = refuse_once(runner, term, cube);
-    if !is_at_limit(&found) {
-        return found;
-    }
-    give_back(runner)?;
-    refuse_once(runner, term, cube)
-}
-
-// One try of it.
-fn refuse_once<S: Sink + Drop>(
-    runner: &mut Runner<'_, S>,
-    term: &Term,
-    cube: &[Lit],
-) -> Result<Answer, TableError>
-    requires runner { IsRunner runner.old }
-    requires good { IsGood runner.old term.now.held }
-    requires value { (a : Assignment) → holds_in runner.old term.now.held a ≡ formula_holds runner.old.formula.now a }
-    requires literals { AreClausesOf runner.old.formula.now.vars runner.old.formula.now.clauses }
-    requires variables { IsTrue (list_all (is_literal_of (levels runner.old.terms.table.graph)) cube.now) }
-    requires consistent { IsTrue (is_consistent cube.now) }
-    requires none { (a : Assignment) → formula_holds runner.old.formula.now a ≡ true → cube_holds a cube.now ≡ true → ⊥ }
-    ensures replies { Replies cube.now runner.old runner.new result }
-    ensures tries { IsTryFor (cube_function runner.old.terms.table.graph.order cube.now
-        ∷ with_cube runner.old.terms.table.graph term.now.held.node cube.now ∷ []) runner.old runner.new (error_of result) }
-{
-    growth_law();
-    steps_law::<S>();
-    match runner.cube(term, cube)? {
-        None => Ok(Answer::Unsat),
-        Some(_) => unreachable!(),
-    }
 }
 
 /// Gives nodes back that no term reaches.
@@ -225,15 +176,6 @@ pub(crate) fn give_back<S: Sink + Drop>(runner: &mut Runner<'_, S>) -> Result<u3
 
 // Whether a try met the limit of nodes.
 fn met_limit(found: &Result<Term, TableError>) -> bool
-    ensures { IsTrue result ↔ (found.now ≡ Err NodeLimit) }
-{
-    match found {
-        Err(TableError::NodeLimit) => true,
-        _ => false,
-    }
-}
-
-fn is_at_limit(found: &Result<Answer, TableError>) -> bool
     ensures { IsTrue result ↔ (found.now ≡ Err NodeLimit) }
 {
     match found {

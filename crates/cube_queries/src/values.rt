@@ -1,5 +1,5 @@
 // Truth values of all variables, as an answer keeps them.
-ghost use Rattle.std.specs.Prelude.{◌≡◌, IfOk, length};
+ghost use Rattle.std.specs.Prelude.{◌≡◌, IfOk};
 
 use cnf_base::OutOfMemory;
 use std::alloc::Global;

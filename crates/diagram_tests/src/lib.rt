@@ -1,32 +1,9 @@
-//! Tests of the layers of diagrams: `node_table`, `apply_and`, `quantify`, `imply`, `term_runner`, `parity_terms`.
+//! Tests of the layers of diagrams, `node_table` and `term_runner`. What no run of the program shows: a table over a ledger that keeps its
+//! clauses, a trial beside the run of the same plan, and the texts of errors that no answer prints. All else that no clause says, lines of
+//! proofs above all, is shown by the cases of `tests/`.
 #![tactic(auto)]
 
 #[cfg(test)]
-mod asked;
-mod cache;
+mod runs;
 #[cfg(test)]
-mod checked;
-#[cfg(test)]
-mod eliminated;
-#[cfg(test)]
-mod functions;
-#[cfg(test)]
-mod lines;
-#[cfg(test)]
-mod operating;
-#[cfg(test)]
-mod pairs;
-#[cfg(test)]
-mod retired;
-#[cfg(test)]
-mod runner;
-#[cfg(test)]
-mod script;
-#[cfg(test)]
-mod sets;
-#[cfg(test)]
-mod support;
-#[cfg(test)]
-mod swept;
-#[cfg(test)]
-mod trials;
+mod tables;

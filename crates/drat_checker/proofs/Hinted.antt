@@ -1,6 +1,6 @@
 -- Hints from a conflict back close: each step back needs the literals of one clause more.
-use Rattle.std.proofs.Common.{◌≡◌, ℕ, zero, suc, ◌+◌, ◌<◌, Bool, true, false, cond, not, ◌||◌, ℤ, pos, neg_ℤ, int_eq, List, [], ◌∷◌, ◌++◌}
-use Rattle.std.proofs.Common.{length, take, drop, reverse}
+use Rattle.std.proofs.Common.{◌≡◌, ℕ, zero, suc, ◌+◌, ◌<◌, Bool, true, false, cond, not, ◌||◌, ◌⊎◌, ℤ, pos, neg_ℤ, int_eq}
+use Rattle.std.proofs.Common.{List, [], ◌∷◌, ◌++◌, length, take, drop, reverse}
 use Rattle.std.proofs.Common.{get_or, None, Some, if◌then◌else◌, inl, inr, refl, sym, ap, ◌∙◌, subst, arith}
 use Rattle.std.specs.List.{list_any, list_all}
 use Rattle.std.proofs.Math.IntN.{neg_ℤ-neg_ℤ}
@@ -20,7 +20,7 @@ use Rattle.drat_checker.specs.Places.{Place, Places, place_at}
 use Rattle.drat_checker.specs.Propagation.{makes_false}
 use Rattle.drat_checker.specs.Trail.{AreOnce, IsApart, Trail}
 use Rattle.drat_checker.specs.Reasons.{AreReasons, ClashesAt, HasReason, IsFalsified, is_reason, place_forces}
-use Rattle.drat_checker.specs.Hints.{AreLive, AreMarks, IsConflict, Refute, RefuteSoFar, is_tautology, plain}
+use Rattle.drat_checker.specs.Hints.{AreLive, AreMarks, IsConflict, Refute, RefuteSoFar, is_tautology, pending, plain}
 use Rattle.drat_checker.proofs.FalseSets.{all_members, at_member, eq-int_eq, int_eq-true}
 use Rattle.drat_checker.proofs.Guarded.{all-false, forced-held, last-forced}
 use Rattle.drat_checker.proofs.Settled.{front-false}
@@ -313,6 +313,138 @@ refute-end places trail number needed found so_far = record {
   };
 }
 
+marked-with : (old : List ℤ) (x y : ℤ) → literals_of (with_last x old) y ≡ (int_eq y x || literals_of old y)
+marked-with old x y =
+    elim (literals_of old x) as (λ b. literals_of old x ≡ b → literals_of (cond b old (old ++ x ∷ [])) y ≡
+    (int_eq y x || literals_of old y)) [
+      | true ↦ λ there. elim (int_eq y x) as (λ b. int_eq y x ≡ b → literals_of old y ≡ (b || literals_of old y)) [
+        | true ↦ λ same. ap (literals_of old) (int_eq-true y x same) ∙ there
+        | false ↦ λ other. refl
+      ] refl
+      | false ↦ λ new. literals_of-last old x y
+    ] refl
+
+-- The same in any order of places, where what was taken isn't needed again: the conflict alone,
+all-front : (literals : List ℤ) (x : ℤ) → literals_of literals x ≡ true → literals_of (take (length literals) literals) x ≡ true
+all-front literals x m = ap (λ (l : List ℤ). literals_of l x) (take_all (length literals) literals (omega arith)) ∙ m
+
+is-pending : (needed taken : List ℤ) (x : ℤ) → literals_of needed x ≡ true → literals_of taken x ≡ false → pending needed taken x ≡ true
+is-pending needed taken x own untaken = and_from _ _ own (ap not untaken)
+
+pub refute-first : (places : Places) (trail : Trail) (number : ℕ) (needed taken : List ℤ) (found : List ℕ) → taken ≡ []
+    → ((clause : List ℤ) → place_at places number ≡ Some clause → (x : ℤ) → literals_of clause x ≡ true → literals_of needed x ≡ true)
+    → is_id (number + 1) ≡ true → found ≡ (number + 1) ∷ []
+    → RefuteSoFar places trail number (length trail.literals) (pending needed taken) found
+refute-first places trail number needed taken found none has id is =
+    subst (RefuteSoFar places trail number (length trail.literals) (pending needed taken)) (sym is)
+    (refute-start places trail number (pending needed taken) (length trail.literals) refl
+    (λ clause stands x m. is-pending needed taken x (has clause stands x m) (ap (λ (l : List ℤ). literals_of l x) none)) id)
+
+not-true : (b : Bool) → not b ≡ true → b ≡ false
+not-true true h = cc
+not-true false h = refl
+
+-- one place, whose literal is assumed or forced,
+module _ (places : Places) (trail : Trail) (number place : ℕ) (within : place < length trail.literals) (x : ℤ)
+    (own : x ≡ get_or trail.literals place (pos 0)) (needed more taken taken' : List ℤ) (marks : taken' ≡ with_last x taken)
+    (kept : (z : ℤ) → literals_of needed z ≡ true → literals_of more z ≡ true) where
+  still-pending : (z : ℤ) → pending needed taken z ≡ true → (z ≡ x) ⊎ (pending more taken' z ≡ true)
+  still-pending z is =
+      let parts = and_parts (literals_of needed z) (not (literals_of taken z)) is in
+      let sets : literals_of taken' z ≡ (int_eq z x || literals_of taken z) =
+      ap (λ (l : List ℤ). literals_of l z) marks ∙ marked-with taken x z in
+      elim (int_eq z x) as (λ b. int_eq z x ≡ b → (z ≡ x) ⊎ (pending more taken' z ≡ true)) [
+        | true ↦ λ same. inl (int_eq-true z x same)
+        | false ↦ λ other. inr (is-pending more taken' z (kept z parts.0)
+            (sets ∙ ap (λ b. b || literals_of taken z) other ∙ not-true (literals_of taken z) parts.1))
+      ] refl
+
+  pub listed-assumed : (found : List ℕ) → get_or trail.reasons place None ≡ None
+      → RefuteSoFar places trail number (length trail.literals) (pending needed taken) found
+      → RefuteSoFar places trail number (length trail.literals) (pending more taken') found
+  listed-assumed found none so_far = record {
+    ids = so_far.ids;
+    closes = λ live assumed n are reasons conflict all front.
+        let given : literals_of assumed x ≡ true =
+        ap (literals_of assumed) own
+        ∙ ap (is_reason places assumed (take place trail.literals) (get_or trail.literals place (pos 0))) (sym none)
+        ∙ reasons.reason place within in
+        so_far.closes live assumed n are reasons conflict all (λ z there need.
+        elim (still-pending z need) [
+          | inl same ↦ at_member n assumed z all (ap (literals_of assumed) same ∙ given)
+          | inr still ↦ front z there still
+        ]);
+  }
+
+  pub listed-forced : IsApart trail.literals → AreOnce trail.literals → (found found' : List ℕ) (reason : ℕ)
+      → get_or trail.reasons place None ≡ Some reason → found' ≡ found ++ (reason + 1) ∷ [] → is_id (reason + 1) ≡ true
+      → ((clause : List ℤ) → place_at places reason ≡ Some clause → (z : ℤ) → literals_of clause z ≡ true → literals_of more z ≡ true)
+      → ((clause : List ℤ) → place_at places reason ≡ Some clause → (z : ℤ) → literals_of clause z ≡ true
+      → literals_of taken' z ≡ false)
+      → RefuteSoFar places trail number (length trail.literals) (pending needed taken) found
+      → RefuteSoFar places trail number (length trail.literals) (pending more taken') found'
+  listed-forced apart once found found' reason why is id has untaken so_far = record {
+    ids = ap (list_all is_id) is ∙ all-last-number is_id found (reason + 1) so_far.ids id;
+    closes = λ live assumed n are reasons conflict all front.
+        let before = take place trail.literals in
+        let forced : IsForced places before (get_or trail.literals place (pos 0)) reason =
+        forced-at places before (get_or trail.literals place (pos 0)) reason
+        (ap (is_reason places assumed before (get_or trail.literals place (pos 0))) (sym why) ∙ reasons.reason place within) in
+        let y = forced.literal in
+        let fails : is_tautology forced.clause ≡ false =
+        plain-reason trail.literals apart once place within forced.clause y forced.negates forced.forces in
+        let others : list_all (λ z. int_eq z y || literals_of before z) forced.clause ≡ true =
+        forced-others (literals_of before) forced.clause y forced.forces in
+        let has_others : list_all (λ z. int_eq z y || n z) forced.clause ≡ true =
+        all_members (λ z. int_eq z y || n z) forced.clause (λ z m.
+        elim (or_cases (int_eq z y) _ (at_member (λ z. int_eq z y || literals_of before z) forced.clause z others m)) [
+          | inl same ↦ or_left _ _ same
+          | inr earlier ↦ or_right (int_eq z y) _
+              (front z (all-front trail.literals z (front-false trail.literals place z earlier))
+              (is-pending more taken' z (has forced.clause forced.stands z m) (untaken forced.clause forced.stands z m)))
+        ]) in
+        let m : FalseSet = with_literal (neg_ℤ y) n in
+        ap (chain live n) (ap reverse is ∙ reverse-append found ((reason + 1) ∷ []))
+        ∙ hint-forces live n (reason + 1) (reverse found) forced.clause
+        (live-at live places are reason forced.clause forced.stands fails) y has_others
+        (forced-held (literals_of before) forced.clause y forced.forces)
+        (so_far.closes live assumed m are reasons conflict
+        (all_members m assumed (λ z given. or_right (int_eq z (neg_ℤ y)) _ (at_member n assumed z all given)))
+        (λ z there need.
+        elim (still-pending z need) [
+          | inl same ↦ or_left _ _ (eq-int_eq z (neg_ℤ y) (same ∙ own ∙ forced.negates))
+          | inr still ↦ or_right (int_eq z (neg_ℤ y)) _ (front z there still)
+        ]));
+  }
+
+-- and the end
+pub refute-listed : (places : Places) (trail : Trail) (number : ℕ) (needed taken : List ℤ) (found : List ℕ)
+    → ((x : ℤ) → literals_of needed x ≡ true → literals_of trail.literals x ≡ true → literals_of taken x ≡ true)
+    → RefuteSoFar places trail number (length trail.literals) (pending needed taken) found
+    → Refute places trail number (reverse found)
+refute-listed places trail number needed taken found none so_far = record {
+  ids = all-turned is_id found so_far.ids;
+  closes = λ live assumed n are reasons conflict all. record {
+    closed = so_far.closes live assumed n are reasons conflict all (λ x there need.
+        let parts = and_parts (literals_of needed x) (not (literals_of taken x)) need in
+        absurd (both_ways (literals_of taken x) (not-true (literals_of taken x) parts.1)
+        (none x parts.0 (front-false trail.literals (length trail.literals) x there))));
+  };
+}
+
+-- what holds of the literals up to a place, and of the one there
+pub each-literal : (P : ℤ → Type 0) (clause : List ℤ) (i : ℕ) (x : ℤ) → i < length clause → x ≡ get_or clause i x
+    → ((y : ℤ) → literals_of (take i clause) y ≡ true → P y) → P x → (y : ℤ) → literals_of (take (i + 1) clause) y ≡ true → P y
+each-literal P clause i x within at so_far here y m =
+    let parts : (literals_of (take i clause) y || (int_eq y (get_or clause i x) || false)) ≡ true =
+    sym (list_any-append (int_eq y) (take i clause) (get_or clause i x ∷ []))
+    ∙ ap (λ (l : List ℤ). literals_of l y) (sym (take_more clause i x within)) ∙ m in
+    elim (or_cases (literals_of (take i clause) y) _ parts) [
+      | inl earlier ↦ so_far y earlier
+      | inr last ↦
+          subst P (at ∙ sym (int_eq-true y (get_or clause i x) (or-last (int_eq y (get_or clause i x)) last))) here
+    ]
+
 -- one literal more that isn't this one
 neither : (a b : Bool) → a ≡ false → b ≡ false → (a || (b || false)) ≡ false
 neither true b e f = cc
@@ -390,17 +522,6 @@ apart-plain clause apart =
     false_from_ne_true _ (λ h.
     let some = some-both clause clause h in
     both_ways (literals_of clause (neg_ℤ some.0)) (apart.apart some.0 some.1) some.2)
-
-marked-with : (old : List ℤ) (x y : ℤ) → literals_of (with_last x old) y ≡ (int_eq y x || literals_of old y)
-marked-with old x y =
-    elim (literals_of old x) as (λ b. literals_of old x ≡ b → literals_of (cond b old (old ++ x ∷ [])) y ≡
-    (int_eq y x || literals_of old y)) [
-      | true ↦ λ there. elim (int_eq y x) as (λ b. int_eq y x ≡ b → literals_of old y ≡ (b || literals_of old y)) [
-        | true ↦ λ same. ap (literals_of old) (int_eq-true y x same) ∙ there
-        | false ↦ λ other. refl
-      ] refl
-      | false ↦ λ new. literals_of-last old x y
-    ] refl
 
 pub marked-kept : (old new : List ℤ) (x : ℤ) → new ≡ with_last x old → (y : ℤ) → literals_of old y ≡ true → literals_of new y ≡ true
 marked-kept old new x is y m = ap (λ (l : List ℤ). literals_of l y) is ∙ marked-with old x y ∙ or_right (int_eq y x) _ m

@@ -1,7 +1,7 @@
 -- Hints that refute a clause in an LRAT proof: where one of the clauses that stand is false, its number and those of the clauses that
 -- forced its literals, each before those that need it. (Cruz-Filipe, Heule, Hunt, Kaufmann, Schneider-Kamp: Efficient Certified RAT
 -- Verification, CADE 2017.)
-use Rattle.std.specs.Prelude.{◌≡◌, ℕ, ◌+◌, Bool, true, false, ◌||◌, ℤ, neg_ℤ, List, None, Some, take, reverse, if◌then◌else◌}
+use Rattle.std.specs.Prelude.{◌≡◌, ℕ, ◌+◌, Bool, true, false, not, ◌||◌, ◌&&◌, ℤ, neg_ℤ, List, None, Some, take, reverse, if◌then◌else◌}
 use Rattle.std.specs.List.{list_any, list_all}
 use Rattle.cnf_base.specs.ProofText.{is_id}
 use Rattle.lrat_rules.specs.State.{Live, clause_at}
@@ -29,6 +29,10 @@ plain (Some clause) = if is_tautology clause then None else Some clause
 pub record AreLive (live : Live) (places : Places) : Type 0 where
   pub same : (number : ℕ) → clause_at live (number + 1) ≡ plain (place_at places number)
   pub none_at_zero : clause_at live 0 ≡ None
+
+-- the literals that are needed and weren't taken yet
+abbrev pub pending : List ℤ → List ℤ → FalseSet
+pending needed taken x = literals_of needed x && not (literals_of taken x)
 
 -- The clause of this number stands, is no tautology, and has only literals that are false or assumed.
 pub record IsConflict (places : Places) (literals assumed : List ℤ) (number : ℕ) : Type 0 where

@@ -52,6 +52,7 @@ impl FalseList {
     }
 
     /// The literal at a place.
+    #[inline(always)]
     pub fn literal(&self, place: usize) -> Lit
         requires { place < length self.now.literals }
         ensures { result ≡ slice_index_or self.now.literals place result }

@@ -18,6 +18,7 @@ use crate::database::Database;
 use crate::false_list::FalseList;
 use crate::hints::{conflict_of, explain, id_of, push_turned};
 use crate::marks::{Marks, is_tautology};
+use crate::order::Order;
 use cnf_base::{Group, GroupList, Id, IdList, Lit, LitList, OutOfMemory, Step};
 use std::alloc::Global;
 use std::mem;
@@ -31,6 +32,7 @@ pub struct LineHints {
     pub groups: GroupList,
     needed: Marks,
     found: IdList,
+    order: Order,
 }
 
 impl LineHints {
@@ -47,6 +49,7 @@ impl LineHints {
             groups: GroupList::new(alloc),
             needed: Marks::new(alloc),
             found: IdList::new(alloc),
+            order: Order::new(alloc),
         }
     }
 
@@ -106,6 +109,7 @@ impl LineHints {
             trail,
             &mut self.needed,
             &mut self.found,
+            &mut self.order,
             refutation,
             &mut self.hints,
         )
@@ -243,6 +247,7 @@ impl LineHints {
             trail,
             &mut self.needed,
             &mut self.found,
+            &mut self.order,
             refutation,
             &mut hints,
         )?;
@@ -269,6 +274,7 @@ fn explain_into(
     trail: &FalseList,
     needed: &mut Marks,
     found: &mut IdList,
+    order: &mut Order,
     refutation: Refutation,
     hints: &mut IdList,
 ) -> Result<(), OutOfMemory>
@@ -278,7 +284,7 @@ fn explain_into(
     match conflict_of(trail, refutation) {
         None => Ok(()),
         Some(number) => {
-            explain(db, trail, needed, found, number)?;
+            explain(db, trail, needed, found, order, number)?;
             push_turned(found.as_slice(), hints)?;
             Ok(())
         }

@@ -39,10 +39,17 @@ impl Marks {
         }
     }
 
+    #[inline(always)]
     pub fn contains(&self, literal: Lit) -> bool
         ensures { result ≡ literals_of self.now literal }
     {
         self.flags.is_set(literal)
+    }
+
+    pub fn as_slice(&self) -> &[Lit]
+        ensures { result.now ≡ self.now }
+    {
+        self.literals.as_slice()
     }
 
     /// A refusal changes nothing.

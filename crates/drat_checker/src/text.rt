@@ -123,8 +123,8 @@ fn judge_steps<S: Source>(
     }
 }
 
-// Whether an earlier step or this one adds the empty clause.
-fn or_adds_empty(has_empty: bool, step: &DratStep) -> bool
+/// Whether an earlier step or this one adds the empty clause.
+pub fn or_adds_empty(has_empty: bool, step: &DratStep) -> bool
     ensures { result ≡ (has_empty || adds_empty step.now) }
 {
     has_empty

@@ -1,5 +1,4 @@
 pub mod Padding
-pub mod GreedyPasses
 pub mod Sets
 pub mod StrictHints
 pub mod ChildSteps

@@ -1,10 +1,11 @@
 -- Sets of false literals: literals and their negations, clauses as sets, what stays false as a set grows.
-use Rattle.std.proofs.Common.{◌≡◌, ◌==◌, suc, zero, Bool, true, false, not, ◌&&◌, ℤ, pos, negsuc, neg_ℤ, List, [], ◌∷◌, nat_abs, int_eq}
-use Rattle.std.proofs.Common.{refl, sym, ap, ◌∙◌, inl, inr, eq-eqb}
+use Rattle.std.proofs.Common.{◌≡◌, ◌==◌, suc, zero, Bool, true, false, not, ◌&&◌, ◌||◌, ℤ, pos, negsuc, neg_ℤ, List, [], ◌∷◌, ◌++◌}
+use Rattle.std.proofs.Common.{nat_abs, int_eq, refl, sym, ap, ◌∙◌, inl, inr, eq-eqb}
 use Rattle.std.specs.List.{list_any}
 use Rattle.std.proofs.Math.IntN.{neg_ℤ-neg_ℤ}
 use Rattle.std.proofs.lemmas.Bool.{and_parts, or_cases, or_parts, or_from, or_left, or_right, both_ways, false_from_ne_true, not-true}
 use Rattle.std.proofs.lemmas.Bool.Decides.{Decides-int_eq}
+use Rattle.std.proofs.lemmas.List.Folds.{list_any-append}
 use Rattle.lrat_rules.specs.Chain.{FalseSet, literals_of, with_literal}
 use Rattle.lrat_rules.specs.Soundness.{is_nonzero}
 use Rattle.hint_chain.specs.Closing.{IsConsistent, are_apart}
@@ -113,3 +114,17 @@ IsConsistent-apart clause h = record { apart = each clause h } where
             (absent ys x (sym (has_variable-neg_ℤ x ys) ∙ ap (λ z. has_variable z ys) (int_eq-true (neg_ℤ x) y e) ∙ first.others)) later))
             (each ys first.rest x later)
       ]
+
+-- one literal more at a list's end
+or_comm_false : (a b : Bool) → (a || (b || false)) ≡ (b || a)
+or_comm_false true true = refl
+or_comm_false true false = refl
+or_comm_false false true = refl
+or_comm_false false false = refl
+
+pub literals_of-push : (literals : List ℤ) (literal : ℤ) → literals_of (literals ++ literal ∷ [])
+    ≡ with_literal literal (literals_of literals)
+literals_of-push literals literal =
+    let each : (x : ℤ) → literals_of (literals ++ literal ∷ []) x ≡ with_literal literal (literals_of literals) x =
+    λ x. list_any-append (int_eq x) literals (literal ∷ []) ∙ or_comm_false (list_any (int_eq x) literals) (int_eq x literal) in
+    λ i x. each x i

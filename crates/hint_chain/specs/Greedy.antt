@@ -1,6 +1,6 @@
 -- The greedy choice of hints: the parts are taken in turn, one that adds nothing is left out, and the first conflict
 -- ends the list. So each hint but the last forces a literal that wasn't forced before.
-use Rattle.std.specs.Prelude.{◌≡◌, ℕ, Bool, true, false, neg_ℤ, List, [], ◌∷◌, Option, None, Some, if◌then◌else◌}
+use Rattle.std.specs.Prelude.{◌≡◌, ℕ, neg_ℤ, List, [], ◌∷◌, Option, None, Some, if◌then◌else◌}
 use Rattle.std.specs.Option.{option_map}
 use Rattle.lrat_rules.specs.declared.outcome.Effect.{Effect}
 use Rattle.lrat_rules.specs.declared.outcome.Effect.TheVariants.{Conflict, Unit as Forced, NotUnit}
@@ -21,11 +21,6 @@ abbrev pub greedy : FalseSet → List (Option Part) → Option (List ℕ)
 greedy n [] = None
 greedy n (None ∷ parts) = greedy n parts
 greedy n (Some part ∷ parts) = after_part n part.id (λ m. greedy m parts) (effect n part.clause)
-
--- the hints, where some part was a conflict
-abbrev pub chosen : Bool → List ℕ → Option (List ℕ)
-chosen true hints = Some hints
-chosen false hints = None
 
 -- some part is a conflict: the greedy choice answers
 pub record PartsClose (n : FalseSet) (parts : List (Option Part)) : Type 0 where

@@ -5,7 +5,6 @@
 #![tactic(auto)]
 
 mod atom;
-mod greedy;
 mod hints;
 mod inline;
 mod laws;
@@ -14,7 +13,6 @@ mod step;
 mod unit;
 
 pub use atom::{Atom, clause_from_atoms};
-pub use greedy::{and_high, and_low, greedy_hints, hints_of, imply_high, imply_low};
 pub use hints::Hints;
 pub use inline::{InlineLiterals, ShortClause};
 pub use laws::{

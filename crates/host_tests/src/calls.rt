@@ -1,4 +1,4 @@
-// What the tests do with any host: calls in turn, and what they gave as text.
+// What the tests do with a host: calls in turn, and what they gave as text.
 ghost use Rattle.std.specs.Prelude.{◌≡◌, None};
 ghost use Rattle.host_io.specs.declared.role.Role.{Role};
 ghost use Rattle.host_io.specs.Files.{IsInput, IsCreated};

@@ -1,13 +1,7 @@
-//! Tests of `host_io`: that calls succeed, what fails by plan, and what the real host does with files.
+//! Tests of `host_io`: what the real host does with files. Hosts in memory, and what fails by plan, are used by program_tests.
 #![tactic(auto)]
 
 #[cfg(test)]
-mod by_value;
-#[cfg(test)]
 mod calls;
-#[cfg(test)]
-mod law;
-#[cfg(test)]
-mod memory;
 #[cfg(test)]
 mod real;

@@ -1,8 +1,7 @@
 -- How far a conversion has come: the verdict ahead of the first judge and reader is that ahead of these, and what was written leads from
 -- each state that follows the first judge's clauses to one that follows these.
-use Rattle.std.proofs.Common.{◌≡◌, ℕ, ◌+◌, Bool, true, false, ◌||◌, List, [], ◌∷◌, ◌++◌, length, Option, Some, None, Ok, Err, refl, sym}
-use Rattle.std.proofs.Common.{◌∙◌, ap}
-use Rattle.std.proofs.Common.{append_assoc, arith, inl, inr}
+use Rattle.std.proofs.Common.{◌≡◌, ℕ, ◌+◌, Bool, true, false, ◌||◌, List, [], ◌∷◌, ◌++◌, length, map, Option, Some, None, Ok, Err, refl}
+use Rattle.std.proofs.Common.{sym, ◌∙◌, ap, append_assoc, arith, inl, inr}
 use Rattle.std.specs.Prelude.{Result, IsTrue}
 use Rattle.std.specs.List.{list_any}
 use Rattle.std.proofs.lemmas.Bool.{and_from, or_cases, or_left, or_right}
@@ -35,8 +34,10 @@ use Rattle.drat_checker.specs.Places.{Places, standing}
 use Rattle.drat_checker.proofs.Turns.{at_good_step, good_so_far}
 use Rattle.drat_checker.proofs.Wanted.{behind_wants}
 use Rattle.lrat_from_drat.specs.Following.{Follows, Leads}
+use Rattle.lrat_from_drat.specs.Lrat.{bare, lrat_of, lrat_of_step}
 use Rattle.lrat_from_drat.specs.Writing.{Writes}
 use Rattle.lrat_from_drat.specs.Conversion.{ReadsStep}
+use Rattle.lrat_from_drat.proofs.Becoming.{alike-append, some_at_good_step}
 
 -- steps that lead on
 lines_from-append : (line : ℕ) (xs ys : List Step) → lines_from line (xs ++ ys) ≡ lines_from line xs ++ lines_from (line + length xs) ys
@@ -56,18 +57,24 @@ leads-then {a} {b} {c} {xs} {ys} f g = record {
 pub text-append : (xs ys : List Step) → text_of (xs ++ ys) ≡ text_of xs ++ text_of ys
 text-append xs ys = flat_map-append line_of_step xs ys
 
--- what was written so far from a state on
-pub record SoFar (tells : Bool) (out_old out_new : Channel) (from : State) (places : Places) (has_empty : Bool) : Type 0 where
+-- what was written so far from a state on, and what it is without hints
+pub record SoFar (tells : Bool) (out_old out_new : Channel) (from : State) (places : Places) (has_empty : Bool)
+    (front : List Step) : Type 0 where
   pub then : State
   pub steps : List Step
   pub leads : Leads from then steps
   pub follows : Follows then places
+  pub alike : map bare steps ≡ front
   pub empty : has_empty ≡ true → list_any step_adds_empty steps ≡ true
   pub written : IsTrue tells → out_new.written ≡ out_old.written ++ text_of steps
 
 pub record LeadsTo (tells : Bool) (in_old in_new out_old out_new : Channel) (same : Equality) (from : Places) (first : ReaderOf DratDraft)
     (places : Places) (has_empty : Bool) (reader : ReaderOf DratDraft) : Type 0 where
-  pub begun : (state : State) → Follows state from → SoFar tells out_old out_new state places has_empty
+  pub front : List Step
+  pub begun : (state : State) → Follows state from → SoFar tells out_old out_new state places has_empty front
+  pub text : IsTrue tells → Decides in_old in_new
+      (λ bytes more. lrat_of same from (steps_ahead drat_form first bytes)
+      ≡ front ++ lrat_of same places (steps_ahead drat_form reader more))
   pub verdict : IsTrue tells → Decides in_old in_new
       (λ bytes more. drat_steps_verdict_by same (standing from) false (steps_ahead drat_form first bytes)
       ≡ drat_steps_verdict_by same (standing places) has_empty (steps_ahead drat_form reader more))
@@ -87,14 +94,17 @@ pub record LeadsTo (tells : Bool) (in_old in_new out_old out_new : Channel) (sam
 pub leads_start : (tells : Bool) (source sink : Channel) (same : Equality) (places : Places) (reader : ReaderOf DratDraft)
     → reader.status ≡ Reading → LeadsTo tells source source sink sink same places reader places false reader
 leads_start tells source sink same places reader reading = record {
+  front = [];
   begun = λ state f. record {
     then = state;
     steps = [];
     leads = leads-none state;
     follows = f;
+    alike = refl;
     empty = λ e. cc;
     written = λ t. sym (append-nil sink.written);
   };
+  text = λ t. Decides-none source _ (λ more. refl);
   verdict = λ t. Decides-none source _ (λ more. refl);
   wants = λ t. Decides-none source _ (λ more n w. w);
   front_verdict = λ t scanning more.
@@ -131,13 +141,14 @@ pub leads_on : {tells : Bool} {in_old in_mid in_new out_old out_mid out_new : Ch
     → (step : DratStep) (at : ℕ) → answer ≡ Ok (Some (step, at)) → drat_step_fault (standing places) step ≡ None
     → standing next ≡ after_by same (standing places) step
     → behind ≡ (has_empty || adds_empty step)
-    → Writes tells out_mid out_new places next step (Ok tt)
+    → Writes tells out_mid out_new same places next step (Ok tt)
     → OnlyWrites out_mid out_new → out_new.faults ≡ out_mid.faults
     → GaveStep drat_form at reader reader'
     → LeadsTo tells in_old in_new out_old out_new same from first next behind reader'
 leads_on {in_old = in_old} {in_mid = in_mid} {in_new = in_new} {out_old = out_old} {out_mid = out_mid} {out_new = out_new} {same = same}
     {from = from} {places = places} {next = next} {has_empty = has_empty} {behind = behind} {first = first} {reader = reader}
     {reader' = reader'} {answer = answer} leads read step at is good moved told writes only unfailed gave = record {
+      front = leads.front ++ lrat_of_step same places step;
       begun = λ state f.
           let before = leads.begun state f in
           let last = writes.from before.then before.follows in
@@ -146,10 +157,15 @@ leads_on {in_old = in_old} {in_mid = in_mid} {in_new = in_new} {out_old = out_ol
             steps = before.steps ++ last.steps;
             leads = leads-then before.leads last.leads;
             follows = last.follows;
+            alike = alike-append before.steps last.steps leads.front (lrat_of_step same places step) before.alike last.alike;
             empty = either-empty has_empty behind step before.steps last.steps told before.empty last.empty;
             written = λ t. one_more out_old.written out_mid.written out_new.written before.steps last.steps (before.written t)
                 (last.lines.done t refl);
           };
+      text = λ t. Decides-then _ (leads.text t) (read.gives t)
+          (λ bytes middle more before gives. before
+          ∙ ap (λ (l : List Step). leads.front ++ l) (some_at_good_step same places _ _ _ _ gives step at next is good writes.places)
+          ∙ sym (append_assoc leads.front (lrat_of_step same places step) (lrat_of same next (steps_ahead drat_form reader' more))));
       verdict = λ t. Decides-then _ (leads.verdict t) (read.gives t)
           (λ bytes middle more before gives. before
           ∙ at_good_step same (standing places) has_empty _ _ _ _ gives step at (standing next) behind is good moved told);

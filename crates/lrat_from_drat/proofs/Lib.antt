@@ -1,4 +1,5 @@
 pub mod Followed
+pub mod Becoming
 pub mod Taken
 pub mod Started
 pub mod Leading

@@ -18,9 +18,11 @@ use Rattle.drat_checker.specs.Places.{Place, Places, place_at}
 use Rattle.drat_checker.specs.Numbers.{has_number}
 use Rattle.drat_checker.specs.Hints.{plain}
 use Rattle.lrat_from_drat.specs.Following.{Follows}
-use Rattle.lrat_from_drat.specs.Starting.{AreDropped, Begun, is_dropped}
+use Rattle.lrat_from_drat.specs.Starting.{AreDropped, Begun}
+use Rattle.lrat_from_drat.specs.Lrat.{beginning_by, is_dropped, tautologies_of}
 use Rattle.lrat_from_drat.proofs.Followed.{leads-none, leads-one}
 use Rattle.lrat_from_drat.proofs.Taken.{nothing, one-line}
+use Rattle.lrat_from_drat.proofs.Becoming.{begins-so}
 
 -- without several numbers
 both-none : (b h : Bool) (o : Option (List ℤ)) → (if h then None else cond b None o) ≡ (if b || h then None else o)
@@ -48,7 +50,7 @@ AboveLaw = (clauses : List (List ℤ)) (id : ℕ) → length clauses < id → cl
 abbrev pub ZeroLaw : Type 0
 ZeroLaw = (clauses : List (List ℤ)) → clause_at (start clauses).live 0 ≡ None
 
-length-map : (cs : List (List ℤ)) → length (map Some cs) ≡ length cs
+pub length-map : (cs : List (List ℤ)) → length (map Some cs) ≡ length cs
 length-map [] = refl
 length-map (c ∷ cs) = ap suc (length-map cs)
 
@@ -70,7 +72,7 @@ dropped-place None = refl
 dropped-place (Some clause) = refl
 
 module _ (law : ClausesLaw) (above : AboveLaw) (zero_law : ZeroLaw) (clauses : List (List ℤ)) (ids : List ℕ)
-    (dropped : AreDropped (map Some clauses) ids) where
+    (dropped : AreDropped (map Some clauses) ids) (all : ids ≡ tautologies_of (map Some clauses)) where
   abbrev begun : State
   begun = record { live = without_clauses (start clauses).live ids; top = length clauses }
 
@@ -90,12 +92,14 @@ module _ (law : ClausesLaw) (above : AboveLaw) (zero_law : ZeroLaw) (clauses : L
 
   -- by their line, or by none where there are none
   pub begun-line : (tells : Bool) (old new : Channel) (last : ℕ) (written : Result (Unit {0}) Failed) → nat_le last max_id ≡ true
+      → last ≡ length clauses → nat_eq (length ids) 0 ≡ false
       → WritesAll tells old new (line_of_step (Delete last ids)) written → Begun tells old new clauses written
-  begun-line tells old new last written range w = record {
+  begun-line tells old new last written range at some w = record {
     then = record { live = without_clauses (start clauses).live ids; top = length clauses };
     steps = Delete last ids ∷ [];
     leads = leads-one (start clauses) (Delete last ids) refl (and_from _ _ range dropped.range);
     follows = follows-begun;
+    alike = begins-so last (length clauses) ids at some ∙ ap (beginning_by (length clauses)) all;
     lines = one-line (Delete last ids) w;
   }
 
@@ -106,6 +110,7 @@ module _ (law : ClausesLaw) (above : AboveLaw) (zero_law : ZeroLaw) (clauses : L
     leads = leads-none (start clauses);
     follows = subst (λ (l : List ℕ). Follows (record { live = without_clauses (start clauses).live l; top = length clauses })
         (map Some clauses)) none follows-begun;
+    alike = ap (beginning_by (length clauses)) (sym none ∙ all);
     lines = nothing tells channel;
   }
 

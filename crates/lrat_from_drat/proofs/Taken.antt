@@ -29,6 +29,8 @@ use Rattle.lrat_from_drat.specs.Writing.{Takes, Writes, WritesLine, has_literals
 use Rattle.lrat_from_drat.proofs.Followed.{LiveLaw, follows-added, follows-deleted, follows-gone, follows-tautology, leads-added}
 use Rattle.lrat_from_drat.proofs.Followed.{leads-deleted}
 use Rattle.lrat_from_drat.proofs.Followed.{leads-none}
+use Rattle.lrat_from_drat.specs.Lrat.{cleared, deletion_at, first_twin}
+use Rattle.lrat_from_drat.proofs.Becoming.{no-addition, no-deletion, one-addition, one-deletion}
 
 -- nothing, and one line
 pub nothing : (tells : Bool) (channel : Channel) → WritesAll {T = Unit {0}} tells channel channel [] (Ok tt)
@@ -72,11 +74,13 @@ module _ (law : LiveLaw) (tells : Bool) (old new : Channel) (same : Equality) (b
     good,
     moved,
     record {
+      places = is;
       from = λ state f. record {
         then = state;
         steps = [];
         leads = leads-none state;
         follows = subst (Follows state) (sym is) (follows-tautology law state before f clause taut);
+        alike = no-addition (length before + 1) clause taut;
         empty = λ e. absurd (no-empty clause taut e);
         lines = subst (λ (c : Channel). WritesAll {T = Unit {0}} tells old c [] (Ok tt)) (sym unwritten) (nothing tells old);
       };
@@ -90,8 +94,9 @@ module _ (law : LiveLaw) (tells : Bool) (old new : Channel) (same : Equality) (b
     step = Add id clause hints groups
 
     written-line : (written : Result (Unit {0}) Failed) → list_all (is_literal_of max_literal) clause ≡ true
-        → WritesAll tells old new (line_of_step step) written → Writes tells old new before after (adds clause) written
+        → WritesAll tells old new (line_of_step step) written → Writes tells old new same before after (adds clause) written
     written-line written range w = record {
+      places = is;
       from = λ state f.
           let printable : is_printable step ≡ true =
           and_from _ _ (and_from _ _ (and_from _ _ range_of range) line.ids) line.named in
@@ -107,6 +112,7 @@ module _ (law : LiveLaw) (tells : Bool) (old new : Channel) (same : Equality) (b
             follows = subst (Follows (record { live = with_clause state.live (length before + 1) clause; top = length before + 1 }))
                 (sym is)
                 (follows-added law state before f clause fails);
+            alike = one-addition id (length before + 1) clause hints groups at fails;
             empty = λ e. ap (λ b. b || false) e;
             lines = one-line step w;
           };
@@ -131,48 +137,59 @@ gone-tautology c gone =
 -- a deletion
 module _ (tells : Bool) (old new : Channel) (same : Equality) (before after : Places) (clause : List ℤ)
     (moved : standing after ≡ after_by same (standing before) (deletes clause)) where
-  pub takes-nothing : after ≡ before → new ≡ old → Takes tells old new same before after (deletes clause) (Ok None)
-  takes-nothing is unwritten = (
+  pub takes-nothing : first_twin same clause before ≡ None → after ≡ before → new ≡ old
+      → Takes tells old new same before after (deletes clause) (Ok None)
+  takes-nothing none is unwritten = (
     refl,
     moved,
     record {
+      places = is ∙ sym (ap (cleared before) none);
       from = λ state f. record {
         then = state;
         steps = [];
         leads = leads-none state;
         follows = subst (Follows state) (sym is) f;
+        alike = sym (ap (deletion_at before) none);
         empty = λ e. cc;
         lines = subst (λ (c : Channel). WritesAll {T = Unit {0}} tells old c [] (Ok tt)) (sym unwritten) (nothing tells old);
       };
     },
   )
 
-  module _ (number : ℕ) (own : List ℤ) (at : place_at before number ≡ Some own) (is : after ≡ set before number None) where
+  module _ (number : ℕ) (own : List ℤ) (at : place_at before number ≡ Some own) (first : first_twin same clause before ≡ Some number)
+      (is : after ≡ set before number None) where
+    cleared-places : after ≡ cleared before (first_twin same clause before)
+    cleared-places = is ∙ sym (ap (cleared before) first)
+
     pub takes-gone : is_none (plain (place_at before number)) ≡ true → new ≡ old
         → Takes tells old new same before after (deletes clause) (Ok None)
     takes-gone gone unwritten = (
       refl,
       moved,
       record {
+        places = cleared-places;
         from = λ state f. record {
           then = state;
           steps = [];
           leads = leads-none state;
           follows = subst (Follows state) (sym is)
               (follows-gone state before f number own at (gone-tautology own (ap (λ (p : Place). is_none (plain p)) (sym at) ∙ gone)));
+          alike = no-deletion (length before) number (plain (place_at before number)) gone ∙ sym (ap (deletion_at before) first);
           empty = λ e. cc;
           lines = subst (λ (c : Channel). WritesAll {T = Unit {0}} tells old c [] (Ok tt)) (sym unwritten) (nothing tells old);
         };
       },
     )
 
-    module _ (last id : ℕ) (id_is : id ≡ number + 1) (ids : is_printable (Delete last (id ∷ [])) ≡ true) where
+    module _ (stays : is_none (plain (place_at before number)) ≡ false) (last id : ℕ) (last_is : last ≡ length before)
+        (id_is : id ≡ number + 1) (ids : is_printable (Delete last (id ∷ [])) ≡ true) where
       abbrev deletion : Step
       deletion = Delete last (id ∷ [])
 
       deleted-line : (written : Result (Unit {0}) Failed) → WritesAll tells old new (line_of_step deletion) written
-          → Writes tells old new before after (deletes clause) written
+          → Writes tells old new same before after (deletes clause) written
       deleted-line written w = record {
+        places = cleared-places;
         from = λ state f. record {
           then = record { live = map.remove state.live (number + 1); top = state.top };
           steps = deletion ∷ [];
@@ -181,6 +198,8 @@ module _ (tells : Bool) (old new : Channel) (same : Equality) (before after : Pl
               (leads-deleted state before f number last (ap (λ n. is_printable (Delete last (n ∷ []))) (sym id_is) ∙ ids));
           follows = subst (Follows (record { live = map.remove state.live (number + 1); top = state.top })) (sym is)
               (follows-deleted state before f number);
+          alike = one-deletion last (length before) number id (plain (place_at before number)) last_is id_is stays
+              ∙ sym (ap (deletion_at before) first);
           empty = λ e. cc;
           lines = one-line deletion w;
         };

@@ -34,9 +34,12 @@ use Rattle.drat_checker.specs.Places.{Places}
 use Rattle.drat_checker.proofs.Standing.{standing-all}
 use Rattle.lrat_from_drat.specs.Following.{Leads}
 use Rattle.lrat_from_drat.specs.Starting.{Begins, Begun}
-use Rattle.lrat_from_drat.specs.Conversion.{AreRefuting, AreSteps, ConvertsFrom, ConvertsSteps, HasSteps}
+use Rattle.lrat_from_drat.specs.Lrat.{bare, beginning, lrat_of}
+use Rattle.lrat_from_drat.specs.Conversion.{AreFirstLinesOf, AreLinesOf, AreRefuting, AreSteps, ConvertsFrom, ConvertsSteps}
+use Rattle.lrat_from_drat.specs.Conversion.{HasLines, HasSteps}
 use Rattle.lrat_from_drat.proofs.Followed.{leads-none}
 use Rattle.lrat_from_drat.proofs.Leading.{leads-then, text-append}
+use Rattle.lrat_from_drat.proofs.Becoming.{alike-append}
 
 -- steps behind others
 module _ {from then : State} {steps : List Step} (leads : Leads from then steps) where
@@ -64,6 +67,37 @@ module _ {from then : State} {steps : List Step} (leads : Leads from then steps)
   steps-behind (Err WriteFault) written h =
       (h.0, subst (AreSteps from) (sym (append_assoc (text_of steps) written h.0)) (behind (written ++ h.0) h.1))
 
+-- the lines of steps behind those of others
+module _ (steps front : List Step) (alike : map bare steps ≡ front) where
+  lines-after : (becomes : List Step) (written : List ℕ) → AreLinesOf becomes written
+      → AreLinesOf (front ++ becomes) (text_of steps ++ written)
+  lines-after becomes written h = record {
+    steps = steps ++ h.steps;
+    alike = alike-append steps h.steps front becomes alike h.alike;
+    text = ap (λ (l : List ℕ). text_of steps ++ l) h.text ∙ sym (text-append steps h.steps);
+  }
+
+  first-after : (becomes : List Step) (written : List ℕ) → AreFirstLinesOf becomes written
+      → AreFirstLinesOf (front ++ becomes) (text_of steps ++ written)
+  first-after becomes written h = record {
+    front = front ++ h.front;
+    rest = h.rest;
+    parts = ap (λ (l : List Step). front ++ l) h.parts ∙ sym (append_assoc front h.front h.rest);
+    lines = lines-after h.front written h.lines;
+  }
+
+  pub lines-behind : (result : Result Verdict ConvertError) (becomes : List Step) (written : List ℕ) → HasLines result becomes written
+      → HasLines result (front ++ becomes) (text_of steps ++ written)
+  lines-behind (Ok verdict) becomes written h = lines-after becomes written h
+  lines-behind (Err ReadFault) becomes written h = first-after becomes written h
+  lines-behind (Err TooLong) becomes written h = lines-after becomes written h
+  lines-behind (Err OutOfMemory) becomes written h = first-after becomes written h
+  lines-behind (Err WriteFault) becomes written h = (
+    h.0,
+    subst (AreFirstLinesOf (front ++ becomes)) (sym (append_assoc (text_of steps) written h.0))
+        (first-after becomes (written ++ h.0) h.1),
+  )
+
 -- the steps behind the beginning
 module _ {tells : Bool} {in_old in_new out_old out_mid out_new : Channel} {same : Equality} {clauses : List (List ℤ)}
     {reader : ReaderOf DratDraft} {result : Result Verdict ConvertError} (begun : Begun tells out_old out_mid clauses (Ok tt))
@@ -80,6 +114,11 @@ module _ {tells : Bool} {in_old in_new out_old out_mid out_new : Channel} {same 
     written = λ t. subst (HasSteps result (start clauses))
         (sym (added_is out_old out_new (text_of begun.steps ++ added out_mid out_new) (all-written t)))
         (steps-behind begun.leads result (added out_mid out_new) (converts.written t begun.then begun.follows));
+    lines = λ t. Decides-map _ (converts.lines t) (λ bytes more h.
+        subst (HasLines result (beginning clauses ++ lrat_of same (map Some clauses) (steps_ahead drat_form reader bytes)))
+        (sym (added_is out_old out_new (text_of begun.steps ++ added out_mid out_new) (all-written t)))
+        (lines-behind begun.steps (beginning clauses) begun.alike result
+        (lrat_of same (map Some clauses) (steps_ahead drat_form reader bytes)) (added out_mid out_new) h));
     appended = λ t. appended out_old out_new (text_of begun.steps ++ added out_mid out_new) (all-written t);
     undecided = λ t e. subst (λ (cs : List (List ℤ)). drat_steps_verdict_by same cs false
         (so_far drat_form reader (gained in_old in_new)) ≡ None)
@@ -112,12 +151,21 @@ no-steps state channel = record {
   text = added_is channel channel [] (sym (append-nil channel.written));
 }
 
+no-lines : (becomes : List Step) (channel : Channel) → AreFirstLinesOf becomes (added channel channel)
+no-lines becomes channel = record {
+  front = [];
+  rest = becomes;
+  parts = refl;
+  lines = record { steps = []; alike = refl; text = added_is channel channel [] (sym (append-nil channel.written)) };
+}
+
 module _ (tells : Bool) (source out_old out_new : Channel) (same : Equality) (clauses : List (List ℤ)) (reader : ReaderOf DratDraft) where
   -- for want of memory
   starves : out_new ≡ out_old → ConvertsFrom tells source source out_old out_new same clauses reader (Err OutOfMemory)
   starves is = subst (λ (o : Channel). ConvertsFrom tells source source out_old o same clauses reader (Err OutOfMemory)) (sym is) (record {
     decides = λ t. Decides-none source _ (λ more. tt);
     written = λ t. no-steps (start clauses) out_old;
+    lines = λ t. Decides-none source _ (λ more. no-lines _ out_old);
     appended = λ t. appended out_old out_old [] (sym (append-nil out_old.written));
     undecided = λ t e. cc;
     wants = λ t e. inl refl;
@@ -134,19 +182,26 @@ module _ (tells : Bool) (source out_old out_new : Channel) (same : Equality) (cl
       → ConvertsFrom tells source source out_old out_new same clauses reader (Err WriteFault)
   breaks_off begins =
       let begun = begins.1 in
-      let piece : List ℕ = text_of begun.steps in record {
+      let piece : List ℕ = text_of begun.steps in
+      let whole : (t : IsTrue tells) → added out_old out_new ++ drop (begun.lines.failed t refl).0 piece ≡ piece =
+      λ t.
+      let front = begun.lines.failed t refl in
+      ap (λ (l : List ℕ). l ++ drop front.0 piece) (added_is out_old out_new (take front.0 piece) front.1)
+      ∙ take-append-drop front.0 piece in record {
         decides = λ t. Decides-none source _ (λ more. tt);
-        written = λ t.
-            let front = begun.lines.failed t refl in (
-              drop front.0 piece,
-              record {
-                then = begun.then;
-                steps = begun.steps;
-                leads = begun.leads;
-                text = ap (λ (l : List ℕ). l ++ drop front.0 piece) (added_is out_old out_new (take front.0 piece) front.1)
-                    ∙ take-append-drop front.0 piece;
-              },
-            );
+        written = λ t. (
+          drop (begun.lines.failed t refl).0 piece,
+          record { then = begun.then; steps = begun.steps; leads = begun.leads; text = whole t },
+        );
+        lines = λ t. Decides-none source _ (λ more. (
+          drop (begun.lines.failed t refl).0 piece,
+          record {
+            front = beginning clauses;
+            rest = lrat_of same (map Some clauses) (steps_ahead drat_form reader more);
+            parts = refl;
+            lines = record { steps = begun.steps; alike = begun.alike; text = whole t };
+          },
+        ));
         appended = λ t. let front = begun.lines.failed t refl in appended out_old out_new (take front.0 piece) front.1;
         undecided = λ t e. cc;
         wants = λ t e. cc;
@@ -171,6 +226,11 @@ pub none-written : (result : Result Verdict ConvertError) (state : State) (chann
     → HasSteps result state (added channel channel)
 none-written result state channel is =
     subst (λ (r : Result Verdict ConvertError). HasSteps r state (added channel channel)) (sym is) (no-steps state channel)
+
+pub no-lines-written : (result : Result Verdict ConvertError) (becomes : List Step) (channel : Channel) → result ≡ Err OutOfMemory
+    → HasLines result becomes (added channel channel)
+no-lines-written result becomes channel is =
+    subst (λ (r : Result Verdict ConvertError). HasLines r becomes (added channel channel)) (sym is) (no-lines becomes channel)
 
 -- verified steps refute
 abbrev pub RefutesLaw : Type 0

@@ -1,5 +1,5 @@
 -- What the answer of a conversion from DRAT to LRAT says of the text that was read, and of the bytes that were written.
-use Rattle.std.specs.Prelude.{◌≡◌, ◌≢◌, ◌⊎◌, ℕ, ℤ, Bool, false, List, ◌++◌, length, true, Option, None, Result, Ok, Err, IsTrue}
+use Rattle.std.specs.Prelude.{◌≡◌, ◌≢◌, ◌⊎◌, ℕ, ℤ, Bool, false, List, ◌++◌, length, map, true, Option, None, Some, Result, Ok, Err, IsTrue}
 use Rattle.std.specs.List.{list_any}
 use Rattle.cnf_base.specs.declared.step.Step.{Step}
 use Rattle.host_io.specs.Channel.{Channel, Rose}
@@ -24,6 +24,7 @@ use Rattle.drat_checker.specs.DratVerdict.{drat_steps_verdict_by}
 use Rattle.drat_checker.specs.Memory.{drat_reading_may_want_memory}
 use Rattle.drat_checker.specs.Places.{Places, standing}
 use Rattle.lrat_from_drat.specs.Following.{Follows, Leads}
+use Rattle.lrat_from_drat.specs.Lrat.{bare, beginning, lrat_of}
 
 -- the bytes are the lines of good steps from this state on
 pub record AreSteps (from : State) (written : List ℕ) : Type 0 where
@@ -50,6 +51,28 @@ HasSteps (Err TooLong) from written = AreSteps from written
 HasSteps (Err OutOfMemory) from written = AreSteps from written
 HasSteps (Err WriteFault) from written = (rest : List ℕ) × AreSteps from (written ++ rest)
 
+-- the bytes are the lines of these steps, with hints
+pub record AreLinesOf (becomes : List Step) (written : List ℕ) : Type 0 where
+  pub steps : List Step
+  pub alike : map bare steps ≡ becomes
+  pub text : written ≡ text_of steps
+
+-- the lines of the first of these steps
+pub record AreFirstLinesOf (becomes : List Step) (written : List ℕ) : Type 0 where
+  pub front : List Step
+  pub rest : List Step
+  pub parts : becomes ≡ front ++ rest
+  pub lines : AreLinesOf front written
+
+-- What was written of the lines of these steps: all of them where the proof was read to its end, to a bad line or to the limit, and else
+-- the first ones, of whose last line a front may be missing where a write failed.
+abbrev pub HasLines : Result Verdict ConvertError → List Step → List ℕ → Type 0
+HasLines (Ok verdict) becomes written = AreLinesOf becomes written
+HasLines (Err TooLong) becomes written = AreLinesOf becomes written
+HasLines (Err ReadFault) becomes written = AreFirstLinesOf becomes written
+HasLines (Err OutOfMemory) becomes written = AreFirstLinesOf becomes written
+HasLines (Err WriteFault) becomes written = (rest : List ℕ) × AreFirstLinesOf becomes (written ++ rest)
+
 -- Within a call. The next step was read from a role, as a reader of proofs tells it.
 pub record ReadsStep (tells : Bool) (old new : Channel) (before after : ReaderOf DratDraft)
     (answer : Result (Option (DratStep × ℕ)) StepError) : Type 0 where
@@ -69,6 +92,8 @@ pub record ConvertsSteps (tells : Bool) (in_old in_new out_old out_new : Channel
   pub decides : IsTrue tells → Decides in_old in_new
       (λ bytes more. HasVerdict result (drat_steps_verdict_by same (standing places) false (steps_ahead drat_form reader bytes)))
   pub written : IsTrue tells → (state : State) → Follows state places → HasSteps result state (added out_old out_new)
+  pub lines : IsTrue tells → Decides in_old in_new
+      (λ bytes more. HasLines result (lrat_of same places (steps_ahead drat_form reader bytes)) (added out_old out_new))
   pub appended : IsTrue tells → out_new.written ≡ out_old.written ++ added out_old out_new
   pub undecided : IsTrue tells → result ≡ Err ReadFault
       → drat_steps_verdict_by same (standing places) false (so_far drat_form reader (gained in_old in_new)) ≡ None
@@ -87,6 +112,9 @@ pub record ConvertsFrom (tells : Bool) (in_old in_new out_old out_new : Channel)
   pub decides : IsTrue tells → Decides in_old in_new
       (λ bytes more. HasVerdict result (drat_steps_verdict_by same clauses false (steps_ahead drat_form reader bytes)))
   pub written : IsTrue tells → HasSteps result (start clauses) (added out_old out_new)
+  pub lines : IsTrue tells → Decides in_old in_new
+      (λ bytes more. HasLines result (beginning clauses ++ lrat_of same (map Some clauses) (steps_ahead drat_form reader bytes))
+      (added out_old out_new))
   pub appended : IsTrue tells → out_new.written ≡ out_old.written ++ added out_old out_new
   pub undecided : IsTrue tells → result ≡ Err ReadFault
       → drat_steps_verdict_by same clauses false (so_far drat_form reader (gained in_old in_new)) ≡ None

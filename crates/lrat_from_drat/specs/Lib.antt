@@ -1,4 +1,5 @@
 pub mod Following
+pub mod Lrat
 pub mod Writing
 pub mod Starting
 pub mod Conversion

@@ -1,5 +1,5 @@
 -- How the LRAT proof begins: the formula's tautologies are deleted, and no others.
-use Rattle.std.specs.Prelude.{◌≡◌, ℕ, ◌+◌, Bool, true, false, ℤ, List, map, None, Some, Result, Ok, Err}
+use Rattle.std.specs.Prelude.{◌≡◌, ℕ, ◌+◌, Bool, true, false, ℤ, List, map, Some, Result, Ok, Err}
 use Rattle.std.specs.List.{list_all}
 use Rattle.cnf_base.specs.declared.step.Step.{Step}
 use Rattle.cnf_base.specs.ProofText.{is_id}
@@ -9,15 +9,10 @@ use Rattle.lrat_rules.specs.State.{State, start}
 use Rattle.lrat_rules.specs.Derivation.{text_of}
 use Rattle.drat_proof.specs.declared.error.ConvertError.{ConvertError}
 use Rattle.drat_proof.specs.declared.error.ConvertError.TheVariants.{ReadFault, TooLong, OutOfMemory, WriteFault}
-use Rattle.drat_checker.specs.Places.{Place, Places, place_at}
+use Rattle.drat_checker.specs.Places.{Places, place_at}
 use Rattle.drat_checker.specs.Numbers.{has_number}
-use Rattle.drat_checker.specs.Hints.{is_tautology}
 use Rattle.lrat_from_drat.specs.Following.{Follows, Leads}
-
--- a tautology stands there
-abbrev pub is_dropped : Place → Bool
-is_dropped None = false
-is_dropped (Some clause) = is_tautology clause
+use Rattle.lrat_from_drat.specs.Lrat.{bare, beginning, is_dropped}
 
 -- the numbers are those of the tautologies
 pub record AreDropped (places : Places) (ids : List ℕ) : Type 0 where
@@ -31,6 +26,7 @@ pub record Begun (tells : Bool) (old new : Channel) (clauses : List (List ℤ)) 
   pub steps : List Step
   pub leads : Leads (start clauses) then steps
   pub follows : Follows then (map Some clauses)
+  pub alike : map bare steps ≡ beginning clauses
   pub lines : WritesAll tells old new (text_of steps) written
 
 abbrev pub Begins : Bool → Channel → Channel → List (List ℤ) → Result (Unit {0}) ConvertError → Type 0

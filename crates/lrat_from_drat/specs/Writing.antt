@@ -1,5 +1,5 @@
 -- What comes of one step of a DRAT proof: it is judged, and where it is good taken, and written as the LRAT lines that it becomes.
-use Rattle.std.specs.Prelude.{◌≡◌, Bool, true, List, Option, None, Some, Result, Ok, Err}
+use Rattle.std.specs.Prelude.{◌≡◌, Bool, true, List, map, Option, None, Some, Result, Ok, Err}
 use Rattle.std.specs.List.{list_all, list_any}
 use Rattle.cnf_base.specs.declared.step.Step.{Step}
 use Rattle.cnf_base.specs.declared.step.Step.TheVariants.{Add, Delete}
@@ -18,6 +18,7 @@ use Rattle.drat_proof.specs.declared.error.ConvertError.{ConvertError}
 use Rattle.drat_proof.specs.declared.error.ConvertError.TheVariants.{ReadFault, TooLong, OutOfMemory, WriteFault}
 use Rattle.drat_checker.specs.Places.{Places, standing}
 use Rattle.lrat_from_drat.specs.Following.{Follows, Leads}
+use Rattle.lrat_from_drat.specs.Lrat.{bare, lrat_of_step, places_after}
 
 -- the literals that a step adds are in their range
 abbrev pub has_literals : Step → Bool
@@ -34,28 +35,30 @@ WritesLine tells old new step (Err WriteFault) = (has_literals step ≡ true)
 WritesLine tells old new step (Err ReadFault) = ⊥
 WritesLine tells old new step (Err TooLong) = ⊥
 
--- The lines lead from this state to one that follows the clauses behind the step, and were written so.
-pub record Written (tells : Bool) (old new : Channel) (after : Places) (step : DratStep) (state : State)
+-- The lines are these, hints apart, lead from this state to one that follows the clauses behind the step, and were written so.
+pub record Written (tells : Bool) (old new : Channel) (becomes : List Step) (after : Places) (step : DratStep) (state : State)
     (written : Result (Unit {0}) Failed) : Type 0 where
   pub then : State
   pub steps : List Step
   pub leads : Leads state then steps
   pub follows : Follows then after
+  pub alike : map bare steps ≡ becomes
   pub empty : adds_empty step ≡ true → list_any step_adds_empty steps ≡ true
   pub lines : WritesAll tells old new (text_of steps) written
 
--- it is so from each state that follows the clauses before it
-pub record Writes (tells : Bool) (old new : Channel) (before after : Places) (step : DratStep)
+-- it is so from each state that follows the clauses before it, where clauses are told to be the same by this equality
+pub record Writes (tells : Bool) (old new : Channel) (same : Equality) (before after : Places) (step : DratStep)
     (written : Result (Unit {0}) Failed) : Type 0 where
-  pub from : (state : State) → Follows state before → Written tells old new after step state written
+  pub places : after ≡ places_after same before step
+  pub from : (state : State) → Follows state before → Written tells old new (lrat_of_step same before step) after step state written
 
--- what comes of the step, where clauses are told to be the same by this equality
+-- what comes of the step
 abbrev pub Takes : Bool → Channel → Channel → Equality → Places → Places → DratStep → Result (Option Reason) ConvertError → Type 0
 Takes tells old new same before after step (Ok None) = (drat_step_fault (standing before) step ≡ None)
-    × (standing after ≡ after_by same (standing before) step) × Writes tells old new before after step (Ok tt)
+    × (standing after ≡ after_by same (standing before) step) × Writes tells old new same before after step (Ok tt)
 Takes tells old new same before after step (Ok (Some reason)) = (drat_step_fault (standing before) step ≡ Some reason) × (new ≡ old)
 Takes tells old new same before after step (Err OutOfMemory) = new ≡ old
 Takes tells old new same before after step (Err WriteFault) = (drat_step_fault (standing before) step ≡ None)
-    × ((failed : Failed) × Writes tells old new before after step (Err failed))
+    × ((failed : Failed) × Writes tells old new same before after step (Err failed))
 Takes tells old new same before after step (Err ReadFault) = ⊥
 Takes tells old new same before after step (Err TooLong) = ⊥

@@ -4,7 +4,8 @@ ghost use Rattle.host_io.specs.declared.role.Role.TheVariants.{ProofOut};
 ghost use Rattle.host_io.specs.Files.{Kept};
 ghost use Rattle.drat_proof.specs.declared.error.ConvertError.TheVariants.{OutOfMemory};
 ghost use Rattle.drat_checker.specs.Places.{place_at};
-ghost use Rattle.lrat_from_drat.specs.Starting.{AreDropped, Begins, is_dropped};
+ghost use Rattle.lrat_from_drat.specs.Starting.{AreDropped, Begins};
+ghost use Rattle.lrat_from_drat.specs.Lrat.{is_dropped, tautologies_of};
 
 use crate::take::last_of;
 use cnf_base::IdList;
@@ -68,6 +69,7 @@ fn tautologies(
     requires { count ≡ length judge.now }
     ensures wanted { line.new.is_wanted ≡ line.old.is_wanted }
     ensures dropped { IfOk result (λ ids. AreDropped judge.now ids) }
+    ensures all { IfOk result (λ ids. ids ≡ tautologies_of judge.now) }
     ensures memory { OnErr result (result ≡ Err OutOfMemory) }
 {
     let mut ids = IdList::new(alloc);

@@ -1,5 +1,5 @@
 // From a DRAT proof to an LRAT proof: a reader gives the steps in turn, a judge takes them, and each is written.
-ghost use Rattle.std.specs.Prelude.{◌≡◌, ◌≢◌, ◌⊎◌, ◌||◌, ◌++◌, ℤ, List, length, map, None, Some, Ok, Err, IsTrue};
+ghost use Rattle.std.specs.Prelude.{◌≡◌, ◌≢◌, ◌⊎◌, ◌++◌, ℤ, List, length, map, None, Some, Ok, Err, IsTrue};
 ghost use Rattle.host_io.specs.declared.role.Role.TheVariants.{ProofIn, ProofOut};
 ghost use Rattle.host_io.specs.Channel.{Rose};
 ghost use Rattle.host_io.specs.Files.{Kept};
@@ -11,19 +11,19 @@ ghost use Rattle.lrat_rules.specs.Run.{Refutes};
 ghost use Rattle.lrat_checker.specs.declared.verdict.Verdict.TheVariants.{Verified};
 ghost use Rattle.lrat_checker.specs.TextVerdict.{error_answer};
 ghost use Rattle.drat_rules.specs.Clauses.{equality_of};
-ghost use Rattle.drat_rules.specs.Run.{adds_empty};
 ghost use Rattle.drat_proof.specs.declared.error.ConvertError.TheVariants.{ReadFault, OutOfMemory, WriteFault};
 ghost use Rattle.drat_proof.specs.Conversion.{HasVerdict, converted};
 ghost use Rattle.drat_proof.specs.TwoRoles.{KeptButTwo, OnlyWrites, added};
 ghost use Rattle.drat_checker.specs.DratVerdict.{drat_text_verdict_by, drat_verdict_so_far_by};
 ghost use Rattle.drat_checker.specs.Memory.{drat_check_may_want_memory_by};
 ghost use Rattle.lrat_from_drat.specs.Following.{Follows};
-ghost use Rattle.lrat_from_drat.specs.Conversion.{ConvertsFrom, ConvertsSteps, HasSteps, ReadsStep};
+ghost use Rattle.lrat_from_drat.specs.Lrat.{lrat_steps};
+ghost use Rattle.lrat_from_drat.specs.Conversion.{ConvertsFrom, ConvertsSteps, HasLines, HasSteps, ReadsStep};
 
 use crate::start::begin_in;
 use crate::take::take_step;
 use cnf_base::{Cnf, LitList};
-use drat_checker::{LineHints, NumberedJudge};
+use drat_checker::{LineHints, NumberedJudge, or_adds_empty};
 use drat_proof::ConvertError;
 use drat_rules::Deletions;
 use drat_text::{DratReader, DratStep};
@@ -53,6 +53,10 @@ pub fn convert<H: Host>(
     // At every exit it is good steps from the formula's clauses on, of which a front was written where a write failed.
     ensures written { IsTrue H.tells → HasSteps result (start formula.now.clauses)
         (added (H.channel host.old ProofOut) (H.channel host.new ProofOut)) }
+    // Hints apart, it is the proof that the whole text becomes: all of it, or its first lines where a call failed or memory was refused.
+    ensures lines { IsTrue H.tells → Decides (H.channel host.old ProofIn) (H.channel host.new ProofIn)
+        (λ bytes more. HasLines result (lrat_steps (equality_of deletions) formula.now.clauses bytes)
+        (added (H.channel host.old ProofOut) (H.channel host.new ProofOut))) }
     ensures appended { IsTrue H.tells → (H.channel host.new ProofOut).written
         ≡ (H.channel host.old ProofOut).written ++ added (H.channel host.old ProofOut) (H.channel host.new ProofOut) }
     // a read fails only where the bytes taken decide nothing yet
@@ -151,17 +155,6 @@ fn convert_steps<H: Host>(
             Err(error) => return answer_of(error),
         }
     }
-}
-
-// Whether an earlier step or this one adds the empty clause.
-fn or_adds_empty(has_empty: bool, step: &DratStep) -> bool
-    ensures { result ≡ (has_empty || adds_empty step.now) }
-{
-    has_empty
-        || match step {
-            DratStep::Add { lits } => lits.as_slice().is_empty(),
-            DratStep::Delete { .. } => false,
-        }
 }
 
 // A line that spells no step is refused; else there is no verdict.

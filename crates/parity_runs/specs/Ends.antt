@@ -50,8 +50,7 @@ EndsBehind tells before after formula order moves limits result =
     (AreAmpleBehind limits formula moves) result
 
 -- Where a clause is empty, or there is no equation, it ends as a run without them. Where the equations are in conflict the limit of nodes
--- is
--- told only where fewer nodes are allowed than their sums may need.
+-- is told only where fewer nodes are allowed than their sums may need.
 pub record EndsWithParity (tells : Bool) (before after : Channel) (formula : Formula) (order : List ℕ) (moves : List Move) (limits : Limits)
     (result : Result Run RunError) : Type 0 where
   pub without : IsTrue (has_empty_clause formula.clauses) ⊎ (equations formula.clauses ≡ []) → result ≢ Err OutOfMemory

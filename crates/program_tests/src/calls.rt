@@ -1,10 +1,8 @@
 // Each call of a role fails in turn, from the first to the one behind the last, where a call moves one byte and where it moves all:
-// the run ends by the fault, what was written before stands, and behind the last call comes the plain answer. With no failure the
-// pieces change nothing.
+// the run ends by the fault, what was written before stands, and behind the last call comes the plain answer.
 ghost use Rattle.std.specs.Prelude.{◌<◌};
 
-use crate::support::{ended, expect_same, halves, number_of, part, role_of};
-use host_io::Role;
+use crate::support::{ended, halves, number_of, part, role_of};
 use std::alloc::Global;
 use std::process::Abort;
 use std::test::Fail;
@@ -55,8 +53,8 @@ const CALLS: &str = "\
     0 9 4 0/11 0 5 8 10 0/|\n\
     Made 8;bddsat order chain --by levels --out out.lrat;WriteFault|*|error: write failed/;|1 2 3/;Done||1 2 3/|\n\
     Err 17;bddsat solve a --proof a;Usage||none*;|error: bad usage/;Usage||none|error: bad usage/\n\
-    Out 1361;bddsat solve --help;WriteFault*|none|error: write failed/;|Decides FILE, and writes the pro..;\
-    Help|Decides FILE, and writes the pro";
+    Out 1327;bddsat solve --help;WriteFault*|none|error: write failed/;|Decide FILE and write the proof ..;\
+    Help|Decide FILE and write the proof ";
 
 // What was written stands, and nothing else but the fault is told. No file is there where its creation failed.
 fn is_cut(row: &str, found: &str, number: u64) -> bool {
@@ -134,52 +132,6 @@ fn expect_calls(rt: &impl Abort, alloc: Global, row: &str) -> Result<(), Fail> {
 fn calls(rt: HostRuntime) -> Result<(), Fail> {
     for row in CALLS.lines() {
         expect_calls(&rt, rt.alloc(), row)?;
-    }
-    Ok(())
-}
-
-// Words, and what stands afterwards, or the front of it.
-const PIECES: &str = "\
-    bddsat solve none --proof out.lrat;Sat|s SATISFIABLE/v 0/||\n\
-    bddsat solve none --parity --proof out.lrat;Sat|s SATISFIABLE/v 0/||\n\
-    bddsat solve empty --proof out.lrat;Unsat|s UNSATISFIABLE/|2 0 1 0/|\n\
-    bddsat solve empty --parity --proof out.lrat;Unsat|s UNSATISFIABLE/|2 0 1 0/|\n\
-    bddsat solve tautology --proof out.lrat;Sat|s SATISFIABLE/v -1 -2 0/||\n\
-    bddsat solve both --proof out.lrat --max-nodes 0;Unknown(NodeLimit)|c node limit 0 reached/s UNKNOWN/||\n\
-    bddsat solve both --proof out.lrat;Unsat|s UNSATISFIABLE/|3 2 -1 0 0/4 -2 1 0 -3 0/5 2 0 3 1 0/6 3 1 0 0/7 -3 -1 0 \
-    -6 0/8 3 0 6 2 0/9 -1 -2 -3 0 7 0/10 -2 -3 0 9 4 0/11 0 5 8 10 0/|\n\
-    bddsat solve both --proof out.lrat --max-nodes 2;Unsat|s UNSATISFIABLE/|3 2 -1 0 0/\n\
-    bddsat check both good;Verified|s VERIFIED/|none|\n\
-    bddsat check both bad;NotVerified(1, NoConflict)|c line 1 NoConflict/s NOT VERIFIED/|none|\n\
-    bddsat check both bad --format drat;NotVerified(1, Syntax)|c line 1 Syntax/s NOT VERIFIED/|none|\n\
-    bddsat check both hintless --format drat;Verified|s VERIFIED/|none|\n\
-    bddsat check both worse;NotVerified(2, HintNotLive)|c line 2 HintNotLive/s NOT VERIFIED/|none|\n\
-    bddsat drat both worse --out out.lrat;NotVerified(2, HintNotLive)|c line 2 HintNotLive/s NOT VERIFIED/|0/|\n\
-    bddsat lrat both plain --out out.lrat;Verified|s VERIFIED/|3 0 1 2 0/|\n\
-    bddsat lrat both bad --out out.lrat;NotVerified(1, Syntax)|c line 1 Syntax/s NOT VERIFIED/||\n\
-    bddsat solve chain --proof out.lrat;Sat|s SATISFIABLE/v 1 2 3 0/|\n\
-    bddsat solve chain --proof out.lrat --plan conjoin;Sat|s SATISFIABLE/v 1 2 3 0/|\n\
-    bddsat solve chain --proof out.lrat --order turned;Sat|s SATISFIABLE/v 1 2 3 0/|\n\
-    bddsat solve chain --proof out.lrat --max-nodes 5;Sat|s SATISFIABLE/v 1 2 3 0/|\n\
-    bddsat ask chain --cubes cubes --proof out.lrat;Answered|c cube 1/s UNSATISFIABLE/c cube 2/s SATISFIABLE/v 1 2 3 0/|\n\
-    bddsat ask both --cubes hollow --proof out.lrat;Answered|c cube 1/s UNSATISFIABLE/|3 2 -1 0 0/\n\
-    bddsat ask both --cubes hollow --proof out.lrat --max-nodes 0;Unknown(NodeLimit)|c node limit 0 reached/s UNKNOWN/||\n\
-    bddsat ask chain --cubes split --proof out.lrat;CubeRefused(BothSigns, 1)||none|error: cubes line 1: BothSigns/\n\
-    bddsat make board 2 --part cnf --out out.lrat;Done||p cnf 0 2/0/0/|";
-
-fn expect_pieces(rt: &impl Abort, alloc: Global, row: &str) -> Result<(), Fail> {
-    let (line, expected) = halves(row, ';');
-    let whole = ended(alloc, line, WHOLE, Role::Err, 0)?;
-    let bytes = ended(alloc, line, 1, Role::Err, 0)?;
-    assert!(rt; whole.as_str().starts_with(expected), "{whole}");
-    expect_same(rt, bytes.as_str(), whole.as_str(), row);
-    Ok(())
-}
-
-#[test]
-fn in_pieces(rt: HostRuntime) -> Result<(), Fail> {
-    for row in PIECES.lines() {
-        expect_pieces(&rt, rt.alloc(), row)?;
     }
     Ok(())
 }

@@ -7,9 +7,9 @@ use std::test::Fail;
 // Behind words and the role and number of the call that fails: the status, standard output, the file that is made, standard error.
 // The first words are of a formula with an empty clause. An order is opened and read at its end, a schedule is read in one piece
 // before. The formula of `check` is opened, read in three pieces, and read again at its end; the proof is read in two pieces; the
-// verdict is written in two pieces and flushed; of a refused proof there are two lines. Where a proof is converted, a step is
-// written once a token of a later line, or the end, was read; the verdict comes behind the flush. The board without dominoes has a text of
-// 14 bytes; decided, its line, that of the last identifier and the answer are written in pieces and flushed.
+// verdict is written in two pieces and flushed; of a refused proof there are two lines. Behind a bad line no read follows. Where a proof
+// is converted, a step is written once a token of a later line, or the end, was read; the verdict comes behind the flush. The board
+// without dominoes has a text of 14 bytes; decided, its line, that of the last identifier and the answer are written in pieces and flushed.
 const FAULTS: &str = "\
 bddsat solve empty --proof out.lrat
 Cnf 1;ReadFault||none|error: read failed/
@@ -60,6 +60,9 @@ Out 6;WriteFault|c line 1 NoConflict|none|error: write failed/
 Out 7;WriteFault|c line 1 NoConflict/s NOT V|none|error: write failed/
 Out 8;WriteFault|c line 1 NoConflict/s NOT VERIFIED/|none|error: write failed/
 Out 9;NotVerified(1, NoConflict)|c line 1 NoConflict/s NOT VERIFIED/|none|
+bddsat check both early
+ProofIn 3;ReadFault||none|error: read failed/
+ProofIn 4;NotVerified(1, NoConflict)|c line 1 NoConflict/s NOT VERIFIED/|none|
 bddsat drat both good --out out.lrat
 Cnf 5;ReadFault||none|error: read failed/
 ProofIn 1;ReadFault||none|error: read failed/

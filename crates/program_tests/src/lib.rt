@@ -9,5 +9,3 @@ mod faults;
 mod statuses;
 #[cfg(test)]
 mod support;
-#[cfg(test)]
-mod words;

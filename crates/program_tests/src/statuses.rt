@@ -1,6 +1,6 @@
 // What no run of the program can be made to show: texts that are too long, want of memory, and words that can't be had; and runs
 // over a host in memory.
-use crate::support::{expect_same, host_of, push_bytes, words_of};
+use crate::support::{expect_same, halves, host_of, push_bytes, role_of, words_of};
 use host_io::{MemoryHost, Role};
 use solver_cli::{Status, complain, run_in_memory, run_with};
 use std::alloc::Global;
@@ -24,46 +24,36 @@ fn expect_left(
     Ok(())
 }
 
-fn expect(rt: &impl Abort, alloc: Global, status: Status, expected: &str) -> Result<(), Fail> {
+// A status: a role, or `Memory`. Its exit code, and what stands on standard error.
+const COMPLAINTS: &str = "\
+Cnf;2||error: cnf too long/
+Order;2||error: order too long/
+Buckets;2||error: buckets too long/
+Schedule;2||error: schedule too long/
+ProofIn;2||error: proof too long/
+Memory;5||error: out of memory/";
+
+fn status_of(word: &str) -> Status {
+    match word {
+        "Memory" => Status::OutOfMemory,
+        _ => Status::TooLong(role_of(word)),
+    }
+}
+
+fn expect_complaint(rt: &impl Abort, alloc: Global, row: &str) -> Result<(), Fail> {
+    let (word, expected) = halves(row, ';');
     let mut host = MemoryHost::new(alloc);
+    let status = status_of(word);
     complain(&mut host, status);
     expect_left(rt, alloc, &host, status.code(), expected)
 }
 
 #[test]
 fn complaints(rt: HostRuntime) -> Result<(), Fail> {
-    let alloc = rt.alloc();
-    expect(
-        &rt,
-        alloc,
-        Status::TooLong(Role::Cnf),
-        "2||error: cnf too long/",
-    )?;
-    expect(
-        &rt,
-        alloc,
-        Status::TooLong(Role::Order),
-        "2||error: order too long/",
-    )?;
-    expect(
-        &rt,
-        alloc,
-        Status::TooLong(Role::Buckets),
-        "2||error: buckets too long/",
-    )?;
-    expect(
-        &rt,
-        alloc,
-        Status::TooLong(Role::Schedule),
-        "2||error: schedule too long/",
-    )?;
-    expect(
-        &rt,
-        alloc,
-        Status::TooLong(Role::ProofIn),
-        "2||error: proof too long/",
-    )?;
-    expect(&rt, alloc, Status::OutOfMemory, "5||error: out of memory/")
+    for row in COMPLAINTS.lines() {
+        expect_complaint(&rt, rt.alloc(), row)?;
+    }
+    Ok(())
 }
 
 #[test]

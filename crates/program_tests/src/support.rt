@@ -22,6 +22,7 @@ split=1 -1 0/
 good=3 0 1 2 0/
 bad=3 0 1 0/
 worse=3 0 1 2 0/4 1 0 9 0/
+early=3 0 1 0/4 0 1 2 0/
 hintless=1 0/0/
 plain=0/
 order=

@@ -3,15 +3,20 @@
 ghost use Rattle.std.specs.Prelude.{◌<◌};
 
 use crate::plain_drat::PlainJudge;
-use cnf_base::{Cnf, Lit, LitList};
+use cnf_base::{Cnf, Lit, LitList, OutOfMemory};
 use dimacs_reader::{Mode, read_cnf};
 use drat_checker::DratJudge;
 use drat_rules::Deletions;
 use drat_text::DratStep;
 use host_io::SliceSource;
+use lrat_rules::Reason;
 use std::alloc::Global;
 use std::process::Abort;
 use std::test::Fail;
+
+const HEADER: &str = "p cnf 4 6 ";
+
+const CLAUSES: &str = "1 2 3 0 -1 -2 0 2 -3 4 0 -4 -4 1 0 3 -3 2 0 -2 3 0";
 
 // A row of drawn numbers. (Knuth: The Art of Computer Programming 2, 3.3.4: linear congruence.)
 #[derive(Drop)]
@@ -32,84 +37,93 @@ impl Draw {
         (self.state >> 33) % bound
     }
 
-    fn literal(&mut self) -> Result<Lit, Fail> {
+    fn literal(&mut self) -> i32 {
         let var = self.below(4) as i32 + 1;
-        let value = if self.below(2) == 0 { var } else { -var };
-        Ok(Lit::new(value).ok_or("no literal")?)
+        if self.below(2) == 0 { var } else { -var }
     }
 
     // A clause of at most three literals, one in sixteen empty.
-    fn clause(&mut self, alloc: Global) -> Result<LitList, Fail> {
-        let mut lits = LitList::new(alloc);
+    fn clause(&mut self, clause: &mut Vec<i32>) -> Result<(), OutOfMemory> {
+        clause.clear();
         if self.below(16) == 0 {
-            return Ok(lits);
+            return Ok(());
         }
         for _ in 0..self.below(3) + 1 {
-            lits.push(self.literal()?)?;
+            clause.push(self.literal())?;
         }
-        Ok(lits)
+        Ok(())
     }
 
     // Mostly a clause that stands, half of them in another order.
-    fn deletion(&mut self, alloc: Global, plain: &PlainJudge) -> Result<LitList, Fail> {
-        let place = self.below((plain.len() as u64).saturating_add(1)) as usize;
-        match plain.clause(place) {
-            None => self.clause(alloc),
-            Some(clause) => turned(alloc, clause, self.below(2) as usize),
+    fn deletion(&mut self, clause: &mut Vec<i32>, plain: &PlainJudge) -> Result<(), OutOfMemory> {
+        match plain.clause(self.below(12)) {
+            None => self.clause(clause),
+            Some(own) => turn(clause, own, self.below(2) == 0),
         }
     }
-
-    fn step(&mut self, alloc: Global, plain: &PlainJudge) -> Result<DratStep, Fail> {
-        if self.below(3) == 0 {
-            let lits = self.deletion(alloc, plain)?;
-            return Ok(DratStep::Delete { lits });
-        }
-        let lits = self.clause(alloc)?;
-        Ok(DratStep::Add { lits })
-    }
 }
 
-// The literals of a clause, so many of the first ones behind the others.
-fn turned(alloc: Global, clause: &[Lit], turns: usize) -> Result<LitList, Fail> {
-    let mut lits = LitList::new(alloc);
-    for literal in clause.iter().skip(turns) {
-        lits.push(*literal)?;
+// The literals of a clause, where it is asked for the last one in front.
+fn turn(clause: &mut Vec<i32>, own: &[i32], turns: bool) -> Result<(), OutOfMemory> {
+    clause.clear();
+    clause.extend_from_slice(own)?;
+    if !turns {
+        return Ok(());
     }
-    for literal in clause.iter().take(turns) {
-        lits.push(*literal)?;
-    }
-    Ok(lits)
-}
-
-const FORMULA: &str = "p cnf 4 6 1 2 3 0 -1 -2 0 2 -3 4 0 -4 -4 1 0 3 -3 2 0 -2 3 0";
-
-fn formula(alloc: Global) -> Result<Cnf, Fail> {
-    let mut source = SliceSource::new(FORMULA.as_bytes(), 64);
-    match read_cnf(alloc, &mut source, Mode::Strict) {
-        Ok(formula) => Ok(formula),
-        Err(_) => Err(Fail::from("no formula")),
-    }
-}
-
-// Puts the formula's clauses into the plain judge.
-fn put_all(plain: &mut PlainJudge, formula: &Cnf) -> Result<(), Fail> {
-    for i in 0..formula.len() {
-        plain.put(formula.clause(i + 1))?;
+    if let Some(last) = clause.pop() {
+        clause.insert(0, last)?;
     }
     Ok(())
 }
 
-// Both judges answer the same to a step.
+fn lits_of(alloc: Global, numbers: &[i32]) -> Result<LitList, Fail> {
+    let mut lits = LitList::new(alloc);
+    for number in numbers {
+        lits.push(Lit::new(*number).ok_or("no literal")?)?;
+    }
+    Ok(lits)
+}
+
+fn added(
+    alloc: Global,
+    judge: &mut DratJudge,
+    deletions: Deletions,
+    numbers: &[i32],
+) -> Result<Option<Reason>, Fail> {
+    let lits = lits_of(alloc, numbers)?;
+    Ok(judge.step(deletions, &DratStep::Add { lits })?)
+}
+
+fn deleted(
+    alloc: Global,
+    judge: &mut DratJudge,
+    deletions: Deletions,
+    numbers: &[i32],
+) -> Result<Option<Reason>, Fail> {
+    let lits = lits_of(alloc, numbers)?;
+    Ok(judge.step(deletions, &DratStep::Delete { lits })?)
+}
+
+// Both judges answer the same to a step, which is drawn into a clause.
 fn same_answer(
     rt: &impl Abort,
+    alloc: Global,
     deletions: Deletions,
-    step: &DratStep,
+    draw: &mut Draw,
+    clause: &mut Vec<i32>,
     judge: &mut DratJudge,
     plain: &mut PlainJudge,
 ) -> Result<(), Fail> {
-    let answer = judge.step(deletions, step)?;
-    let wanted = plain.step(deletions, step)?;
-    assert!(rt; answer == wanted);
+    if draw.below(3) == 0 {
+        draw.deletion(clause, plain)?;
+        plain.delete(deletions, clause.as_slice());
+        let answer = deleted(alloc, judge, deletions, clause.as_slice())?;
+        assert!(rt; answer.is_none());
+        return Ok(());
+    }
+    draw.clause(clause)?;
+    let answer = added(alloc, judge, deletions, clause.as_slice())?;
+    assert!(rt; answer == plain.add(clause.as_slice())?);
     Ok(())
 }
 
@@ -119,24 +133,64 @@ fn same_answers(
     alloc: Global,
     deletions: Deletions,
     seed: u64,
+    judge: &mut DratJudge,
+    plain: &mut PlainJudge,
 ) -> Result<(), Fail> {
-    let formula = formula(alloc)?;
-    let mut plain = PlainJudge::new(alloc);
-    put_all(&mut plain, &formula)?;
-    let mut judge = DratJudge::open(alloc, &formula)?;
     let mut draw = Draw { state: seed };
+    let mut clause = Vec::new(alloc);
     for _ in 0..40 {
-        let step = draw.step(alloc, &plain)?;
-        same_answer(rt, deletions, &step, &mut judge, &mut plain)?;
+        same_answer(rt, alloc, deletions, &mut draw, &mut clause, judge, plain)?;
     }
     Ok(())
 }
 
+fn formula(alloc: Global) -> Result<Cnf, Fail> {
+    let text = format!(in alloc; "{HEADER}{CLAUSES}")?;
+    let mut source = SliceSource::new(text.as_bytes(), 64);
+    match read_cnf(alloc, &mut source, Mode::Strict) {
+        Ok(formula) => Ok(formula),
+        Err(_) => Err(Fail::from("no formula")),
+    }
+}
+
+fn plain(alloc: Global) -> Result<PlainJudge, Fail> {
+    let mut plain = PlainJudge::new(alloc);
+    for word in CLAUSES.split_whitespace() {
+        plain.put(word.parse::<i32>()?)?;
+    }
+    Ok(plain)
+}
+
+// (Each exit that lets a judge go is dear for the prover.)
+fn same_beside(
+    rt: &impl Abort,
+    alloc: Global,
+    formula: &Cnf,
+    deletions: Deletions,
+    seed: u64,
+    plain: &mut PlainJudge,
+) -> Result<(), Fail> {
+    let mut judge = DratJudge::open(alloc, formula)?;
+    same_answers(rt, alloc, deletions, seed, &mut judge, plain)
+}
+
+fn same_from(
+    rt: &impl Abort,
+    alloc: Global,
+    formula: &Cnf,
+    deletions: Deletions,
+    seed: u64,
+) -> Result<(), Fail> {
+    let mut plain = plain(alloc)?;
+    same_beside(rt, alloc, formula, deletions, seed, &mut plain)
+}
+
 #[test]
 fn both_judges(rt: HostRuntime) -> Result<(), Fail> {
+    let formula = formula(rt.alloc())?;
     for seed in 0..100 {
-        same_answers(&rt, rt.alloc(), Deletions::ByList, seed)?;
-        same_answers(&rt, rt.alloc(), Deletions::BySet, seed)?;
+        same_from(&rt, rt.alloc(), &formula, Deletions::ByList, seed)?;
+        same_from(&rt, rt.alloc(), &formula, Deletions::BySet, seed)?;
     }
     Ok(())
 }

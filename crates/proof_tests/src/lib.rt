@@ -1,20 +1,13 @@
-//! Tests of the layers of proofs: `lrat_rules`, `lrat_checker`, `hint_chain`, `clause_ledger`, `proof_trim`, `drat_checker`,
-//! `lrat_from_drat`.
+//! Tests of the layers of proofs, `clause_ledger`, `lrat_checker` and `drat_checker`. What no run of the program shows: a ledger that keeps
+//! its clauses, the judge of DRAT steps beside a plain one, and the texts of errors that no answer prints. All else that no clause says is
+//! shown by the cases of `tests/`.
 #![tactic(auto)]
 
 #[cfg(test)]
-mod checker;
-#[cfg(test)]
 mod drat;
-#[cfg(test)]
-mod from_drat;
-#[cfg(test)]
-mod hints;
 #[cfg(test)]
 mod ledger;
 #[cfg(test)]
 mod plain_drat;
 #[cfg(test)]
-mod support;
-#[cfg(test)]
-mod trim;
+mod texts;

@@ -17,7 +17,8 @@ use Rattle.solver_cli.specs.Answer.{AreOfBoard, IsOrderOf, ending_text}
 use Rattle.solver_cli.specs.ExitCode.{status_of_run}
 use Rattle.solver_cli.specs.MadeText.{made_text, order_line}
 use Rattle.solver_cli.specs.Phases.{TakesFormula, WritesProof, PutsText}
-use Rattle.solver_cli.specs.Stages.{Job, LeavesInputs, NoneRead, FormulaAlone, streams_of, bench_job, CameToAnswer, CameToArrange, CameToBench}
+use Rattle.solver_cli.specs.Stages.{Job, LeavesInputs, NoneRead, FormulaAlone, streams_of, bench_job, CameToAnswer, CameToArrange}
+use Rattle.solver_cli.specs.Stages.{CameToBench}
 use Rattle.solver_cli.specs.Stages.{CameToMake, CameToWrite, status_after, status_of_written}
 use Rattle.solver_cli.proofs.Staged.{still_taken, still_written, printed_from}
 

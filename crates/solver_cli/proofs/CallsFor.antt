@@ -14,12 +14,15 @@ use Rattle.schedule_plan.specs.ScheduleText.{schedule}
 use Rattle.schedule_plan.specs.declared.plan.Move.{Move}
 use Rattle.command_line.specs.declared.format.ProofFormat.{ProofFormat}
 use Rattle.command_line.specs.declared.format.ProofFormat.TheVariants.{Lrat}
-use Rattle.command_line.specs.Command.{Command, ToOrder, ToConvert, Solve, Check, Bench, Make, Arrange, Ask, Convert, Planned, ByName, ByFile}
+use Rattle.command_line.specs.Command.{Command, ToOrder, ToConvert, Solve, Check, Bench, Make, Arrange, Ask, Convert, Planned, ByName}
+use Rattle.command_line.specs.Command.{ByFile}
 use Rattle.command_line.specs.Command.{ByBuckets, Found, Trim}
 use Rattle.command_line.specs.Command.{command, format_before, format_of, formula_file, mode_of}
 use Rattle.solver_cli.specs.declared.status.Status.{Status}
-use Rattle.solver_cli.specs.declared.status.Status.TheVariants.{Sat, Unsat, Unknown, Answered, Verified, NotVerified, Done, Help, Usage, CnfRefused}
-use Rattle.solver_cli.specs.declared.status.Status.TheVariants.{OrderRefused, BucketsRefused, PlanRefused, CubeRefused, TooLong, ReadFault, WriteFault, OutOfMemory}
+use Rattle.solver_cli.specs.declared.status.Status.TheVariants.{Sat, Unsat, Unknown, Answered, Verified, NotVerified, Done, Help, Usage}
+use Rattle.solver_cli.specs.declared.status.Status.TheVariants.{CnfRefused}
+use Rattle.solver_cli.specs.declared.status.Status.TheVariants.{OrderRefused, BucketsRefused, PlanRefused, CubeRefused, TooLong}
+use Rattle.solver_cli.specs.declared.status.Status.TheVariants.{ReadFault, WriteFault, OutOfMemory}
 use Rattle.solver_cli.specs.Answer.{AreGiven, IsRead, IsOrdered, IsPlanned}
 use Rattle.solver_cli.specs.Format.{verdict_in}
 use Rattle.solver_cli.specs.Headline.{CallsFor}

@@ -6,7 +6,8 @@ use Rattle.host_io.specs.Channel.{Channel}
 use Rattle.host_io.specs.declared.source.Failed.{Failed}
 use Rattle.command_line.specs.Command.{Command, is_told, progress_asked}
 use Rattle.drat_proof.specs.TwoRoles.{added}
-use Rattle.solver_cli.specs.Comments.{Place, AtStart, BehindC, Within, Wrong, behind as place_behind, behind_all, is_start, is_within, is_right}
+use Rattle.solver_cli.specs.Comments.{Place, AtStart, BehindC, Within, Wrong, behind as place_behind, behind_all, is_start, is_within}
+use Rattle.solver_cli.specs.Comments.{is_right}
 use Rattle.solver_cli.specs.Comments.{are_comments, are_comments_so_far, is_begun_comment}
 use Rattle.solver_cli.specs.Phases.{PutsText}
 use Rattle.solver_cli.specs.Progress.{Comments, Notes, IsTold}

@@ -22,12 +22,14 @@ use Rattle.solver_cli.specs.ErrorText.{is_answer}
 use Rattle.solver_cli.specs.ExitCode.{status_of_convert}
 use Rattle.command_line.specs.declared.conversion.Conversion.{Conversion}
 use Rattle.command_line.specs.declared.conversion.Conversion.TheVariants.{IntoDrat, IntoLrat}
-use Rattle.solver_cli.specs.ConvertedProof.{AreLinesOfConversion, ConvertsText, HasConverted, IsConversion, IsFrontOfConversion, RewritesProof}
+use Rattle.solver_cli.specs.ConvertedProof.{AreLinesOfConversion, ConvertsText, HasConverted, IsConversion, IsFrontOfConversion}
+use Rattle.solver_cli.specs.ConvertedProof.{RewritesProof}
 use Rattle.solver_cli.specs.Stages.{streams_of, Converted, Unconverted}
 use Rattle.solver_cli.specs.Headline.{WrittenStands}
 use Rattle.solver_cli.specs.Run.{written_in}
 use Rattle.solver_cli.specs.Run.{Run, GivesConversion, HasFault, OutputFailed, AsksOver, AsksToJudge, IsConverted}
 use Rattle.solver_cli.proofs.Facts.{judged_apart, no_answer, same_command}
+use Rattle.solver_cli.proofs.Converting.{all_first, no_rest}
 use Rattle.solver_cli.proofs.Reading.{ok_err}
 use Rattle.solver_cli.proofs.CallsFor.{calls_long}
 use Rattle.solver_cli.proofs.Promised.{Core, due, no_text, no_verdict, quiet_output, same_written}
@@ -68,10 +70,10 @@ as_lines (IntoDrat fresh) problem (Err error.TooLong) bytes written differs has 
 as_lines (IntoDrat fresh) problem (Err error.ReadFault) bytes written differs has = has
 as_lines (IntoDrat fresh) problem (Err error.OutOfMemory) bytes written differs has = has
 as_lines (IntoDrat fresh) problem (Err error.WriteFault) bytes written differs has = absurd (differs refl)
-as_lines (IntoLrat any_order) problem (Ok verdict) bytes written differs has = of_steps problem verdict has.0
-as_lines (IntoLrat any_order) problem (Err error.TooLong) bytes written differs has = has.0
-as_lines (IntoLrat any_order) problem (Err error.ReadFault) bytes written differs has = has.0
-as_lines (IntoLrat any_order) problem (Err error.OutOfMemory) bytes written differs has = has.0
+as_lines (IntoLrat any_order) problem (Ok verdict) bytes written differs has = (of_steps problem verdict has.0, all_first has.1)
+as_lines (IntoLrat any_order) problem (Err error.TooLong) bytes written differs has = (has.0, all_first has.1)
+as_lines (IntoLrat any_order) problem (Err error.ReadFault) bytes written differs has = (has.0, has.1)
+as_lines (IntoLrat any_order) problem (Err error.OutOfMemory) bytes written differs has = (has.0, has.1)
 as_lines (IntoLrat any_order) problem (Err error.WriteFault) bytes written differs has = absurd (differs refl)
 
 as_front : (into : Conversion) (problem : Formula) (result : Result Verdict ConvertError) (bytes written : List ℕ)
@@ -81,11 +83,12 @@ as_front (IntoDrat fresh) problem (Err error.TooLong) bytes written has = front_
 as_front (IntoDrat fresh) problem (Err error.ReadFault) bytes written has = front_of_lines has
 as_front (IntoDrat fresh) problem (Err error.OutOfMemory) bytes written has = front_of_lines has
 as_front (IntoDrat fresh) problem (Err error.WriteFault) bytes written has = has
-as_front (IntoLrat any_order) problem (Ok verdict) bytes written has = with_rest problem (of_steps problem verdict has.0)
-as_front (IntoLrat any_order) problem (Err error.TooLong) bytes written has = with_rest problem has.0
-as_front (IntoLrat any_order) problem (Err error.ReadFault) bytes written has = with_rest problem has.0
-as_front (IntoLrat any_order) problem (Err error.OutOfMemory) bytes written has = with_rest problem has.0
-as_front (IntoLrat any_order) problem (Err error.WriteFault) bytes written has = has.0
+as_front (IntoLrat any_order) problem (Ok verdict) bytes written has =
+    (with_rest problem (of_steps problem verdict has.0), no_rest (all_first has.1))
+as_front (IntoLrat any_order) problem (Err error.TooLong) bytes written has = (with_rest problem has.0, no_rest (all_first has.1))
+as_front (IntoLrat any_order) problem (Err error.ReadFault) bytes written has = (with_rest problem has.0, no_rest has.1)
+as_front (IntoLrat any_order) problem (Err error.OutOfMemory) bytes written has = (with_rest problem has.0, no_rest has.1)
+as_front (IntoLrat any_order) problem (Err error.WriteFault) bytes written has = (has.0, has.1)
 
 abbrev as_ok : Verdict → Result Verdict ConvertError
 as_ok verdict = Ok verdict
@@ -95,7 +98,8 @@ as_whole : (into : Conversion) (problem : Formula) (verdict : Verdict) (bytes wr
 as_whole (IntoDrat fresh) problem verdict bytes written has = has
 as_whole (IntoLrat any_order) problem verdict bytes written has = (
   of_steps problem verdict has.0,
-  λ is. has.1 (ap as_ok is),
+  has.1,
+  λ is. has.2 (ap as_ok is),
 )
 
 -- what was written of the converted proof stands

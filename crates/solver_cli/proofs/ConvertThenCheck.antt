@@ -142,7 +142,7 @@ lrat_ends long_text converted run first second asks =
       bytes = written_in converted ProofOut
 
       refutes : Refutes found.problem.clauses bytes
-      refutes = found.whole.1 refl
+      refutes = found.whole.2 refl
 
       none_some : {line : ℕ} {reason : Reason} {given : Option (ℕ × Reason)} → given ≡ None → given ≡ Some (line, reason) → ⊥
       none_some e d = cc

@@ -1,5 +1,5 @@
 -- What the conversion of an opened proof says of the run.
-use Rattle.std.proofs.Common.{◌≡◌, ℕ, ℤ, Bool, List, [], ◌++◌, length, append-nil, refl, sym, ap, ◌∙◌, subst}
+use Rattle.std.proofs.Common.{◌≡◌, ℕ, Bool, List, [], ◌++◌, length, append-nil, refl, sym, ap, ◌∙◌, subst}
 use Rattle.std.proofs.Common.{None, Some, Ok, Err, IsTrue, IsOk, inl, inr}
 use Rattle.std.specs.Prelude.{Option, Result, IsErr, OnOk, ⊤, drop}
 use Rattle.host_io.specs.Channel.{Channel, Flushes}
@@ -19,7 +19,8 @@ use Rattle.drat_proof.specs.Conversion.{HasVerdict, converted}
 use Rattle.drat_proof.specs.TwoRoles.{KeptButTwo, added}
 use Rattle.drat_proof.specs.declared.error.ConvertError.{ConvertError}
 use Rattle.drat_proof.specs.declared.error.ConvertError.TheVariants as error
-use Rattle.lrat_from_drat.specs.Conversion.{AreSteps, HasSteps}
+use Rattle.cnf_base.specs.declared.step.Step.{Step}
+use Rattle.lrat_from_drat.specs.Conversion.{AreFirstLinesOf, AreLinesOf, AreSteps, HasSteps}
 use Rattle.command_line.specs.Command.{format_before}
 use Rattle.command_line.specs.declared.conversion.Conversion.{Conversion}
 use Rattle.command_line.specs.declared.conversion.Conversion.TheVariants.{IntoDrat, IntoLrat}
@@ -30,11 +31,19 @@ use Rattle.solver_cli.proofs.Facts.{behind, nothing_more, whole_of}
 use Rattle.solver_cli.proofs.Judging.{judged, unopened, wanted_by}
 use Rattle.solver_cli.proofs.Reading.{ok_err, rose_since}
 
+-- all lines are the first ones, and those with no rest
+pub all_first : {becomes : List Step} {written : List ℕ} → AreLinesOf becomes written → AreFirstLinesOf becomes written
+all_first {becomes} {written} lines = record { front = becomes; rest = []; parts = sym (append-nil becomes); lines = lines }
+
+pub no_rest : {becomes : List Step} {written : List ℕ} → AreFirstLinesOf becomes written
+    → (rest : List ℕ) × AreFirstLinesOf becomes (written ++ rest)
+no_rest {becomes} {written} lines = ([], subst (AreFirstLinesOf becomes) (sym (append-nil written)) lines)
+
 -- what was written stands where the flush failed
 broken : (into : Conversion) (problem : Formula) (verdict : Verdict) (bytes written : List ℕ)
     → HasConverted into problem (Ok verdict) bytes written → HasConverted into problem (Err error.WriteFault) bytes written
 broken (IntoDrat fresh) problem verdict bytes written has = ([], sym has ∙ sym (append-nil written))
-broken (IntoLrat any_order) problem verdict bytes written has = (torn verdict has.0, λ e. cc) where
+broken (IntoLrat any_order) problem verdict bytes written has = (torn verdict has.0, no_rest (all_first has.1), λ e. cc) where
   with_rest : AreSteps (start problem.clauses) written → (rest : List ℕ) × AreSteps (start problem.clauses) (written ++ rest)
   with_rest are = ([], subst (AreSteps (start problem.clauses)) (sym (append-nil written)) are)
 

@@ -1,5 +1,6 @@
 -- From the end of a run of the plan to the proof that was written.
-use Rattle.std.proofs.Common.{◌≡◌, ◌<◌, ℕ, ℤ, zero, suc, Bool, true, false, true≢false, List, [], ◌∷◌, length, length-append, refl, sym, ap, ◌∙◌, subst, arith, Ok, Err}
+use Rattle.std.proofs.Common.{◌≡◌, ◌<◌, ℕ, ℤ, zero, suc, Bool, true, false, true≢false, List, [], ◌∷◌, length, length-append, refl, sym}
+use Rattle.std.proofs.Common.{ap, ◌∙◌, subst, arith, Ok, Err}
 use Rattle.std.specs.Prelude.{Result, IfOk, IsTrue, IsFalse}
 use Rattle.cnf_base.specs.Formula.{Formula}
 use Rattle.host_io.specs.Channel.{Channel}

@@ -1,6 +1,7 @@
 -- The line that is written for an order is read as that order.
 use Rattle.std.proofs.Common.{◌≡◌, ℕ, zero, suc, ◌+◌, ◌-◌, ◌*◌, ◌^◌, ◌<◌, ◌≤◌, Bool, true, false, ◌&&◌, List, [], ◌∷◌, ◌++◌, map, flat_map}
-use Rattle.std.proofs.Common.{length, None, Some, decimal, nat_le, nat_lt, refl, ap, sym, ◌∙◌, subst, append_assoc, append-nil, length-append}
+use Rattle.std.proofs.Common.{length, None, Some, decimal, nat_le, nat_lt, refl, ap, sym, ◌∙◌, subst, append_assoc, append-nil}
+use Rattle.std.proofs.Common.{length-append}
 use Rattle.std.proofs.Common.{arith}
 use Rattle.std.specs.Prelude.{nat_eq as eqb, slice_index_or, ◌||◌}
 use Rattle.std.specs.List.{list_all, join_with_byte}

@@ -30,7 +30,8 @@ use Rattle.solver_cli.specs.Headline.{AnswerTo, IsRefuted, IsSatisfied, IsUndeci
 use Rattle.solver_cli.specs.Run.{Run, written_in, limits_given, text_for, OutputFailed, AsksFor}
 use Rattle.solver_cli.proofs.Facts.{behind, grown_by, whole_of, no_answer}
 use Rattle.solver_cli.proofs.Promised.{Core, due, no_text, no_verdict}
-use Rattle.solver_cli.proofs.Accepted.{Posed, asks_by, asks_for, decision, same_limits, same_parity, solve_complete, answer_due, Accepts, accepts_write}
+use Rattle.solver_cli.proofs.Accepted.{Posed, asks_by, asks_for, decision, same_limits, same_parity, solve_complete, answer_due}
+use Rattle.solver_cli.proofs.Accepted.{Accepts, accepts_write}
 use Rattle.solver_cli.proofs.Accepted.{accepts_answer, proof_whole, so_far_of_kind, steps_stand}
 
 is_unsat : (found : Outcome) → status_of found ≡ Unsat → found ≡ outcome.Unsat

@@ -6,13 +6,16 @@ use Rattle.host_io.specs.declared.role.Role.{Role}
 use Rattle.host_io.specs.declared.role.Role.TheVariants.{Cnf, Order, Buckets, Schedule, ProofIn, Cubes, ProofOut, Made, Out, Err as ErrRole}
 use Rattle.text_scan.specs.Decides.{gained, gained-none}
 use Rattle.solver_cli.specs.declared.status.Status.{Status}
-use Rattle.solver_cli.specs.declared.status.Status.TheVariants.{Sat, Unsat, Unknown, Answered, Verified, NotVerified, Done, Help, Usage, CnfRefused}
-use Rattle.solver_cli.specs.declared.status.Status.TheVariants.{OrderRefused, BucketsRefused, PlanRefused, CubeRefused, TooLong, ReadFault, WriteFault}
+use Rattle.solver_cli.specs.declared.status.Status.TheVariants.{Sat, Unsat, Unknown, Answered, Verified, NotVerified, Done, Help, Usage}
+use Rattle.solver_cli.specs.declared.status.Status.TheVariants.{CnfRefused}
+use Rattle.solver_cli.specs.declared.status.Status.TheVariants.{OrderRefused, BucketsRefused, PlanRefused, CubeRefused, TooLong}
+use Rattle.solver_cli.specs.declared.status.Status.TheVariants.{ReadFault, WriteFault}
 use Rattle.solver_cli.specs.declared.status.Status.TheVariants.{OutOfMemory}
 use Rattle.command_line.specs.Command.{Command, AsksHelp, Misuse, command}
 use Rattle.solver_cli.specs.ErrorText.{is_answer}
 use Rattle.solver_cli.specs.Stages.{Streams, streams_of, Misused}
-use Rattle.solver_cli.specs.Headline.{UnsatisfiableIsProved, SatisfiableIsTrue, LimitsAreReached, CubesAreAnswered, IsIdle, MemoryIsWanted, VerdictIsTrue}
+use Rattle.solver_cli.specs.Headline.{UnsatisfiableIsProved, SatisfiableIsTrue, LimitsAreReached, CubesAreAnswered, IsIdle}
+use Rattle.solver_cli.specs.Headline.{MemoryIsWanted, VerdictIsTrue}
 use Rattle.solver_cli.specs.Headline.{TextIsMade, MadeStands, IsDue, RefusalsAreDue, OutputStands, WrittenStands, CallsFor, IsComplete}
 use Rattle.solver_cli.specs.Run.{Run, written_in, taken_in, InputFailed, GivesMake}
 use Rattle.solver_cli.specs.Faults.{NamedInputFailed, IsStillOpen, ConvertsAsItReads, FaultsAreCounted}

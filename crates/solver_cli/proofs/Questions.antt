@@ -22,7 +22,8 @@ use Rattle.term_runner.specs.declared.error.RunError.{RunError}
 use Rattle.term_runner.specs.declared.error.RunError.TheVariants as run_error
 use Rattle.command_line.specs.Command.{ToAsk, Ask, command, limits_asked}
 use Rattle.solver_cli.specs.declared.status.Status.{Status}
-use Rattle.solver_cli.specs.declared.status.Status.TheVariants.{Sat, Unsat, Unknown, Answered, Verified, NotVerified, Done, Help, CubeRefused}
+use Rattle.solver_cli.specs.declared.status.Status.TheVariants.{Sat, Unsat, Unknown, Answered, Verified, NotVerified, Done, Help}
+use Rattle.solver_cli.specs.declared.status.Status.TheVariants.{CubeRefused}
 use Rattle.solver_cli.specs.declared.status.Status.TheVariants.{TooLong, ReadFault, WriteFault, OutOfMemory}
 use Rattle.solver_cli.specs.declared.status.Why.{Why}
 use Rattle.solver_cli.specs.declared.status.Why.TheVariants.{NodeLimit, IdLimit}
@@ -31,7 +32,8 @@ use Rattle.solver_cli.specs.ErrorText.{is_answer}
 use Rattle.solver_cli.specs.ExitCode.{status_of_cubes, status_of_run}
 use Rattle.solver_cli.specs.Phases.{PutsText, ReadsText, TakesCubes}
 use Rattle.solver_cli.specs.Replies.{replies_at, replies_text, status_of_replies}
-use Rattle.solver_cli.specs.Stages.{CameToReply, Questioned, Replied, Uncreated, Uncubed, Unreplied, ask_job, status_after_replies, streams_of}
+use Rattle.solver_cli.specs.Stages.{CameToReply, Questioned, Replied, Uncreated, Uncubed, Unreplied, ask_job, status_after_replies}
+use Rattle.solver_cli.specs.Stages.{streams_of}
 use Rattle.solver_cli.specs.Headline.{AskStands, CubesAreRefusedBy, IsAnswered, IsComplete, IsTrueAnswer, IsUnanswered, MemoryIsWanted}
 use Rattle.solver_cli.specs.Headline.{RefusalsAreDue, RepliesTo, WrittenStands}
 use Rattle.solver_cli.specs.Run.{Run, written_in, taken_in, limits_given, AsksByCubes, AsksOver, IsUnharmed, OutputFailed}

@@ -160,8 +160,8 @@ pub still : {old taken judged : Role → Channel} {before files after : Files} �
     → judged role ≡ old role
 still beside_taken beside role a b = beside.others role b ∙ beside_taken.others role a
 
--- How the calls of `keep` make its ends: the steps were not written, or their core was not, or both were, and then the verdict was printed or
--- not.
+-- How the calls of `keep` make its ends: the steps were not written, or their core was not, or both were, and then the verdict was printed
+-- or not.
 pub unkept : {tells : Bool} {old new old_made made old_out out : Channel} {file text : List ℕ} {named : Option (List ℕ)} {core : List ℕ}
     {kept total : ℕ} {status : Status} (answer : Result ⊤ Failed) → PutsFile tells old new file text answer → IsErr answer
     → made ≡ old_made → out ≡ old_out → status ≡ WriteFault

@@ -13,7 +13,8 @@ use Rattle.solver_cli.specs.MadeText.{made_text, order_line}
 use Rattle.solver_cli.specs.Phases.{PutsText}
 use Rattle.solver_cli.specs.Stages.{Streams, streams_of, Unmade, BoardMade, Unarranged, Arranged, FileUncreated, Written, CameToWrite}
 use Rattle.solver_cli.specs.Stages.{status_of_written}
-use Rattle.solver_cli.specs.Headline.{IsMade, IsArranged, TextIsMade, IsFrontOfCore, IsFrontOfMade, IsFrontOfOrder, MadeStands, RefusalsAreDue, IsComplete}
+use Rattle.solver_cli.specs.Headline.{IsMade, IsArranged, TextIsMade, IsFrontOfCore, IsFrontOfMade, IsFrontOfOrder, MadeStands}
+use Rattle.solver_cli.specs.Headline.{RefusalsAreDue, IsComplete}
 use Rattle.solver_cli.specs.Run.{Run, written_in, name_given, HasFault, AsksOver, IsUnharmed}
 use Rattle.solver_cli.specs.Faults.{TextsAreRead}
 use Rattle.solver_cli.proofs.Facts.{whole_of, no_answer, not_unasked, only_misuse, only_help, decided_apart, judged_apart}

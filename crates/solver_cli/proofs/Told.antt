@@ -26,7 +26,8 @@ use Rattle.solver_cli.specs.ConvertedProof.{RewritesProof}
 use Rattle.solver_cli.specs.TrimmedProof.{PutsNamed}
 use Rattle.solver_cli.specs.Stages.{Streams, streams_of, Misused, Helped, Untaken, Unordered, Unbucketed, Unplanned, NoneRead, Job, Solved}
 use Rattle.solver_cli.specs.Stages.{Benched, Unjudged, Judged, FormulaAlone, Came, CameToAnswer, CameToArrange, CameToBench, CameToCheck}
-use Rattle.solver_cli.specs.Stages.{CameToConvert, CameToKeep, CameToTrim, Converted, Rejected, ShowsVerdict, Trimmed, Unconverted, Untrimmed}
+use Rattle.solver_cli.specs.Stages.{CameToConvert, CameToKeep, CameToTrim, Converted, Rejected, ShowsVerdict, Trimmed, Unconverted}
+use Rattle.solver_cli.specs.Stages.{Untrimmed}
 use Rattle.solver_cli.specs.Stages.{CameToAsk, CameToReply, Questioned, Uncubed, status_after_replies}
 use Rattle.solver_cli.specs.Stages.{CameToMake, CameToWrite, Stages, status_of_help, status_after, status_of_printed, status_of_written}
 use Rattle.solver_cli.specs.Run.{Run, written_in}

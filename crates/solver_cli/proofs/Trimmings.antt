@@ -1,5 +1,6 @@
 -- What is promised of a run that took its formula, and trimmed its proof or didn't.
-use Rattle.std.proofs.Common.{◌≡◌, ◌≤◌, ℕ, false, List, [], ◌++◌, length, append-nil, refl, sym, ap, ap₂, ◌∙◌, subst, Some, None, Ok, Err, IsTrue}
+use Rattle.std.proofs.Common.{◌≡◌, ◌≤◌, ℕ, false, List, [], ◌++◌, length, append-nil, refl, sym, ap, ap₂, ◌∙◌, subst, Some, None, Ok}
+use Rattle.std.proofs.Common.{Err, IsTrue}
 use Rattle.std.proofs.Common.{inl, inr}
 use Rattle.std.specs.Prelude.{Bool, Option, Result, IsErr, IsOk, ⊤}
 use Rattle.cnf_base.specs.Formula.{Formula}

@@ -20,7 +20,8 @@ use Rattle.term_runner.specs.declared.outcome.Run.{Run as Ending}
 use Rattle.workload.specs.Board.{board_formula, column_order}
 use Rattle.workload.specs.Schedule.{board_moves}
 use Rattle.answer_text.specs.Status.{sat_text, unsat_line, node_limit_text, id_limit_text, board_line, last_line}
-use Rattle.command_line.specs.Command.{Command, ToSolve, Solve, Check, Bench, Make, Arrange, Ask, Convert, Trim, Planned, ByName, ByFile, ByBuckets}
+use Rattle.command_line.specs.Command.{Command, ToSolve, Solve, Check, Bench, Make, Arrange, Ask, Convert, Trim, Planned, ByName}
+use Rattle.command_line.specs.Command.{ByFile, ByBuckets}
 use Rattle.command_line.specs.Command.{Found}
 use Rattle.command_line.specs.Command.{limits_asked}
 use Rattle.command_line.specs.declared.plan.PlanName.{PlanName}

@@ -10,8 +10,8 @@ use Rattle.command_line.specs.declared.format.ProofFormat.TheVariants.{Drat, Lra
 use Rattle.command_line.specs.Command.{ToCheck, ToConvert, Check, Convert, command}
 use Rattle.solver_cli.specs.Run.{Run, written_in}
 
--- One run verified a proof over a formula, and converted it so. Another judges a proof of this format over the same text of a formula, read in
--- the same mode, and the proof's file holds the bytes that the first run wrote.
+-- One run verified a proof over a formula, and converted it so. Another judges a proof of this format over the same text of a formula, read
+-- in the same mode, and the proof's file holds the bytes that the first run wrote.
 pub record ChecksConverted (converted checked : Run) (into : Conversion) (format : ProofFormat) : Type 0 where
   pub converted_tells : IsTrue converted.tells
   pub checked_tells : IsTrue checked.tells
@@ -26,7 +26,8 @@ pub record ChecksConverted (converted checked : Run) (into : Conversion) (format
   pub same_formula : checked.files task.file ≡ converted.files conversion.file
   pub same_proof : checked.files task.proof ≡ Some (written_in converted ProofOut)
 
--- an LRAT proof became a DRAT proof that is no longer than is looked at, and this is judged; a DRAT proof became an LRAT proof, which is judged
+-- an LRAT proof became a DRAT proof that is no longer than is looked at, and this is judged; a DRAT proof became an LRAT proof, which is
+-- judged
 pub record ChecksDrat (converted checked : Run) : Type 0 where
   pub fresh : Bool
   pub checks : ChecksConverted converted checked (IntoDrat fresh) Drat

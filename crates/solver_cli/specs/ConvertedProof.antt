@@ -1,5 +1,6 @@
 -- What a conversion leaves of the proof that it reads, and of the one that it writes.
 use Rattle.std.specs.Prelude.{◌≡◌, ◌≢◌, ◌⊎◌, ◌≤◌, ◌++◌, ℕ, Bool, List, [], None, Some, Result, Ok, Err, length, IsTrue, IsOk, IsErr}
+use Rattle.std.specs.Prelude.{if◌then◌else◌}
 use Rattle.cnf_base.specs.Formula.{Formula}
 use Rattle.host_io.specs.Channel.{Channel, Rose}
 use Rattle.host_io.specs.Files.{Files}
@@ -9,38 +10,48 @@ use Rattle.lrat_checker.specs.declared.verdict.Verdict.{Verdict}
 use Rattle.lrat_checker.specs.declared.verdict.Verdict.TheVariants.{Verified}
 use Rattle.lrat_checker.specs.declared.verdict.CheckError.{CheckError}
 use Rattle.text_scan.specs.Decides.{gained, Decides, OnlyReads}
+use Rattle.drat_rules.specs.Clauses.{Equality, same_list, same_set}
 use Rattle.drat_proof.specs.Drat.{named_drat, named_drat_steps}
 use Rattle.drat_proof.specs.Conversion.{AreFirstLines, HasVerdict as IsAnswered, HasWritten, converted}
 use Rattle.drat_proof.specs.TwoRoles.{OnlyWrites, added}
 use Rattle.drat_proof.specs.declared.error.ConvertError.{ConvertError}
 use Rattle.drat_proof.specs.declared.error.ConvertError.TheVariants.{ReadFault, OutOfMemory, WriteFault}
-use Rattle.lrat_from_drat.specs.Conversion.{AreSteps, HasSteps}
+use Rattle.lrat_from_drat.specs.Lrat.{lrat_steps}
+use Rattle.lrat_from_drat.specs.Conversion.{AreFirstLinesOf, AreLinesOf, AreSteps, HasLines, HasSteps}
 use Rattle.command_line.specs.Command.{format_before}
 use Rattle.command_line.specs.declared.conversion.Conversion.{Conversion}
 use Rattle.command_line.specs.declared.conversion.Conversion.TheVariants.{IntoDrat, IntoLrat}
 use Rattle.solver_cli.specs.Format.{may_want_memory_in, so_far_in, verdict_in}
 use Rattle.solver_cli.specs.Phases.{JudgesProof, WantsProof}
 
--- What a conversion of a proof over a formula writes, with this verdict on it: in DRAT exactly what the proof becomes; in LRAT lines of good
--- steps from the formula's clauses, which refute these where the proof is verified.
+-- when a clause is told to be the one that a deletion names
+abbrev pub same_by : Bool → Equality
+same_by any_order = if any_order then same_set else same_list
+
+-- What a conversion of a proof over a formula writes, with this verdict on it: exactly what the proof becomes, in LRAT with hints by which
+-- its steps are good from the formula's clauses on, and refute these where the proof is verified.
 abbrev pub IsConversion : Conversion → Formula → List ℕ → Verdict → List ℕ → Type 0
 IsConversion (IntoDrat fresh) problem bytes judged written = written ≡ named_drat fresh problem bytes
 IsConversion (IntoLrat any_order) problem bytes judged written = AreSteps (start problem.clauses) written
+    × AreLinesOf (lrat_steps (same_by any_order) problem.clauses bytes) written
     × (judged ≡ Verified → Refutes problem.clauses written)
 
 -- whole lines of it, in turn; and a front of it
 abbrev pub AreLinesOfConversion : Conversion → Formula → List ℕ → List ℕ → Type 0
 AreLinesOfConversion (IntoDrat fresh) problem bytes written = AreFirstLines written (named_drat_steps fresh problem bytes)
 AreLinesOfConversion (IntoLrat any_order) problem bytes written = AreSteps (start problem.clauses) written
+    × AreFirstLinesOf (lrat_steps (same_by any_order) problem.clauses bytes) written
 
 abbrev pub IsFrontOfConversion : Conversion → Formula → List ℕ → List ℕ → Type 0
 IsFrontOfConversion (IntoDrat fresh) problem bytes written = (rest : List ℕ) × (named_drat fresh problem bytes ≡ written ++ rest)
-IsFrontOfConversion (IntoLrat any_order) problem bytes written = (rest : List ℕ) × AreSteps (start problem.clauses) (written ++ rest)
+IsFrontOfConversion (IntoLrat any_order) problem bytes written = ((rest : List ℕ) × AreSteps (start problem.clauses) (written ++ rest))
+    × ((rest : List ℕ) × AreFirstLinesOf (lrat_steps (same_by any_order) problem.clauses bytes) (written ++ rest))
 
 -- what was written, by the answer of the call that converts
 abbrev pub HasConverted : Conversion → Formula → Result Verdict ConvertError → List ℕ → List ℕ → Type 0
 HasConverted (IntoDrat fresh) problem result bytes written = HasWritten result written (named_drat_steps fresh problem bytes)
 HasConverted (IntoLrat any_order) problem result bytes written = HasSteps result (start problem.clauses) written
+    × HasLines result (lrat_steps (same_by any_order) problem.clauses bytes) written
     × (result ≡ Ok Verified → Refutes problem.clauses written)
 
 -- An opened proof was judged over this formula, and converted to a created file. Nothing is flushed yet.

@@ -13,8 +13,10 @@ use Rattle.schedule_plan.specs.declared.schedule.error.PlanKind.TheVariants.{Var
 use Rattle.cube_text.specs.declared.error.CubeKind.{CubeKind}
 use Rattle.cube_text.specs.declared.error.CubeKind.TheVariants as cube
 use Rattle.solver_cli.specs.declared.status.Status.{Status}
-use Rattle.solver_cli.specs.declared.status.Status.TheVariants.{Sat, Unsat, Unknown, Answered, Verified, NotVerified, Done, Help, Usage, CnfRefused}
-use Rattle.solver_cli.specs.declared.status.Status.TheVariants.{OrderRefused, BucketsRefused, PlanRefused, CubeRefused, TooLong, ReadFault, WriteFault, OutOfMemory}
+use Rattle.solver_cli.specs.declared.status.Status.TheVariants.{Sat, Unsat, Unknown, Answered, Verified, NotVerified, Done, Help, Usage}
+use Rattle.solver_cli.specs.declared.status.Status.TheVariants.{CnfRefused}
+use Rattle.solver_cli.specs.declared.status.Status.TheVariants.{OrderRefused, BucketsRefused, PlanRefused, CubeRefused, TooLong}
+use Rattle.solver_cli.specs.declared.status.Status.TheVariants.{ReadFault, WriteFault, OutOfMemory}
 
 abbrev pub kind_name : CnfKind → List ℕ
 kind_name NoHeader = codes "NoHeader"

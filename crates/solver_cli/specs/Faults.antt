@@ -12,16 +12,18 @@ use Rattle.cube_text.specs.CubeText.{cubes as given_cubes, overlong as overlong_
 use Rattle.command_line.specs.Command.{Command, ToSolve, ToAsk, ToOrder, Solve, Ask, Arrange, ByFile, ByBuckets}
 use Rattle.command_line.specs.Command.{AsksHelp, MayMean, command, format_of, mode_of}
 use Rattle.solver_cli.specs.declared.status.Status.{Status}
-use Rattle.solver_cli.specs.declared.status.Status.TheVariants.{Sat, Unsat, Unknown, Answered, Verified, NotVerified, Done, Help, Usage, CnfRefused}
-use Rattle.solver_cli.specs.declared.status.Status.TheVariants.{OrderRefused, BucketsRefused, PlanRefused, CubeRefused, TooLong, ReadFault, WriteFault}
+use Rattle.solver_cli.specs.declared.status.Status.TheVariants.{Sat, Unsat, Unknown, Answered, Verified, NotVerified, Done, Help, Usage}
+use Rattle.solver_cli.specs.declared.status.Status.TheVariants.{CnfRefused}
+use Rattle.solver_cli.specs.declared.status.Status.TheVariants.{OrderRefused, BucketsRefused, PlanRefused, CubeRefused, TooLong}
+use Rattle.solver_cli.specs.declared.status.Status.TheVariants.{ReadFault, WriteFault}
 use Rattle.solver_cli.specs.declared.status.Status.TheVariants.{OutOfMemory}
 use Rattle.solver_cli.specs.Answer.{IsOrdered}
 use Rattle.solver_cli.specs.Format.{so_far_in}
 use Rattle.solver_cli.specs.Run.{Run, written_in, taken_in, HasFault, InputFailed, OutputFailed, GivesCommand, GivesMake, GivesConversion}
 use Rattle.solver_cli.specs.Run.{name_given, AsksOver, AsksFor, AsksByCubes, HasVerdict, AsksToConvert}
 
--- the formula that is to be decided was accepted, or the proof was judged, or none is read, or the formula was accepted of which an order is
--- to be made, or over which a proof is to be converted, or cubes over it were
+-- the formula that is to be decided was accepted, or the proof was judged, or none is read, or the formula was accepted of which an order
+-- is to be made, or over which a proof is to be converted, or cubes over it were
 abbrev pub TextsAreRead : Run → Type 0
 TextsAreRead run = ((problem : Formula) × AsksFor run problem)
     ⊎ (((problem : Formula) × (bytes : List ℕ) × (judged : Verdict) × HasVerdict run problem bytes judged)
@@ -148,10 +150,10 @@ ends_in_proof OutOfMemory = false
 abbrev pub ConvertsAsItReads : Run → Type 0
 ConvertsAsItReads run = GivesConversion run × (HasFault run ProofIn ⊎ IsTrue (ends_in_proof run.status))
 
--- Faults: a read fault comes only where a call on a file that is read and that the words name failed, and what was taken decides
--- nothing yet, and then nothing was written but on standard error, and, where the file of a proof that is converted failed, of the other
--- proof; a write fault only where all texts were read and accepted (of `drat` and `lrat` the formula), or the words may ask for help, and a call on standard
--- output, or on a created file that they name, failed.
+-- Faults: a read fault comes only where a call on a file that is read and that the words name failed, and what was taken decides nothing
+-- yet, and then nothing was written but on standard error, and, where the file of a proof that is converted failed, of the other proof; a
+-- write fault only where all texts were read and accepted (of `drat` and `lrat` the formula), or the words may ask for help, and a call on
+-- standard output, or on a created file that they name, failed.
 pub record FaultsAreCounted (run : Run) : Type 0 where
   pub read : run.status ≡ ReadFault → GivesCommand run × InputFailed run
   pub named : run.status ≡ ReadFault → NamedInputFailed run

@@ -11,7 +11,8 @@ use Rattle.drat_text.specs.declared.step.DratStep.{DratStep}
 use Rattle.drat_text.specs.DratText.{drat_lines}
 use Rattle.drat_rules.specs.Clauses.{Equality, same_list, same_set}
 use Rattle.drat_rules.specs.Run.{DratRefutesBy}
-use Rattle.drat_checker.specs.DratVerdict.{drat_text_verdict, drat_text_verdict_by, drat_verdict_so_far, drat_verdict_so_far_by, steps_of_lines}
+use Rattle.drat_checker.specs.DratVerdict.{drat_text_verdict, drat_text_verdict_by, drat_verdict_so_far, drat_verdict_so_far_by}
+use Rattle.drat_checker.specs.DratVerdict.{steps_of_lines}
 use Rattle.drat_checker.specs.Memory.{drat_check_may_want_memory, drat_check_may_want_memory_by}
 use Rattle.command_line.specs.declared.format.ProofFormat.{ProofFormat}
 use Rattle.command_line.specs.declared.format.ProofFormat.TheVariants.{Lrat, Drat, DratBySet}

@@ -35,13 +35,16 @@ use Rattle.term_runner.specs.Ends.{Says, Shows}
 use Rattle.term_runner.specs.Recovered.{IsRecovered}
 use Rattle.answer_text.specs.Status.{refused_text}
 use Rattle.command_line.specs.Command.{Command, ToSolve, ToAsk, ToConvert, ToMake, ToOrder, Solve, Ask, Convert, Make}
-use Rattle.command_line.specs.Command.{Arrange, ByFile, ByBuckets, format_of, formula_file, mode_of, AsksHelp, Misuse, MayMean, CanOnlyMean, command}
+use Rattle.command_line.specs.Command.{Arrange, ByFile, ByBuckets, format_of, formula_file, mode_of, AsksHelp, Misuse, MayMean}
+use Rattle.command_line.specs.Command.{CanOnlyMean, command}
 use Rattle.command_line.specs.Command.{parity_asked, progress_asked}
 use Rattle.solver_cli.specs.declared.status.Why.{Why}
 use Rattle.solver_cli.specs.declared.status.Why.TheVariants.{NodeLimit}
 use Rattle.solver_cli.specs.declared.status.Status.{Status}
-use Rattle.solver_cli.specs.declared.status.Status.TheVariants.{Sat, Unsat, Unknown, Answered, Verified, NotVerified, Done, Help, Usage, CnfRefused}
-use Rattle.solver_cli.specs.declared.status.Status.TheVariants.{OrderRefused, BucketsRefused, PlanRefused, CubeRefused, TooLong, ReadFault, WriteFault}
+use Rattle.solver_cli.specs.declared.status.Status.TheVariants.{Sat, Unsat, Unknown, Answered, Verified, NotVerified, Done, Help, Usage}
+use Rattle.solver_cli.specs.declared.status.Status.TheVariants.{CnfRefused}
+use Rattle.solver_cli.specs.declared.status.Status.TheVariants.{OrderRefused, BucketsRefused, PlanRefused, CubeRefused, TooLong}
+use Rattle.solver_cli.specs.declared.status.Status.TheVariants.{ReadFault, WriteFault}
 use Rattle.solver_cli.specs.declared.status.Status.TheVariants.{OutOfMemory}
 use Rattle.solver_cli.specs.Comments.{are_comments, are_comments_so_far}
 use Rattle.solver_cli.specs.ErrorText.{error_text, is_answer}
@@ -55,7 +58,8 @@ use Rattle.solver_cli.specs.Verdict.{status_of_verdict}
 use Rattle.solver_cli.specs.Replies.{answers_from, replies_at, replies_text, status_of_replies}
 use Rattle.solver_cli.specs.Run.{Run, written_in, taken_in, limits_given, HasFault, InputFailed, OutputFailed, IsUnharmed, GivesMake}
 use Rattle.solver_cli.specs.Run.{AsksByCubes, GivesAsk, goes_by_order}
-use Rattle.solver_cli.specs.Run.{GivesConversion, GivesDecision, GivesTrimming, name_given, GivesFormula, GivesProof, GivesOrder, GivesBuckets}
+use Rattle.solver_cli.specs.Run.{GivesConversion, GivesDecision, GivesTrimming, name_given, GivesFormula, GivesProof, GivesOrder}
+use Rattle.solver_cli.specs.Run.{GivesBuckets}
 use Rattle.solver_cli.specs.Run.{GivesSchedule, AsksOver, AsksByOrder, AsksByBuckets, AsksBySchedule, AsksBy, IsBoardAsked, IsPlanAsked}
 use Rattle.solver_cli.specs.Run.{AsksFor, AsksToJudge, HasVerdict, AsksToConvert, IsConverted, IsTrimmed, text_for, verdict_text_for}
 use Rattle.solver_cli.specs.Faults.{ConvertsAsItReads, FaultsAreCounted, FailuresAreTold}
@@ -104,10 +108,10 @@ pub record IsSatisfied (run : Run) : Type 0 where
 abbrev pub SatisfiableIsTrue : Run → Type 0
 SatisfiableIsTrue run = run.status ≡ Sat → IsSatisfied run
 
--- Undecided: the words give `solve` or `bench`, and the plan is wider than the nodes that are allowed, where that is the
--- limit; no width fits into the limits, with the sums of the parity equations, where these are added up first. Where they are in conflict then,
--- fewer nodes are allowed than they may need. It is the formula that is asked for, by its order and plan; the proof's bytes show
--- that the limit is reached, and it was printed.
+-- Undecided: the words give `solve` or `bench`, and the plan is wider than the nodes that are allowed, where that is the limit; no width
+-- fits into the limits, with the sums of the parity equations, where these are added up first. Where they are in conflict then, fewer nodes
+-- are allowed than they may need. It is the formula that is asked for, by its order and plan; the proof's bytes show that the limit is
+-- reached, and it was printed.
 pub record IsShownUndecided (run : Run) (why : Why) (problem : Formula) (order : List ℕ) (moves : List Move) : Type 0 where
   pub asked : AsksBy run problem order moves
   pub reached : Shows problem (limits_given run) (written_in run ProofOut) (outcome_at why)
@@ -125,8 +129,8 @@ pub record IsUndecided (run : Run) (why : Why) : Type 0 where
   pub sums : IsTrue (parity_asked (command run.words)) → why ≡ NodeLimit → NeedsSums (limits_given run) problem
   pub shown : IsTrue run.tells → IsShownUndecided run why problem order moves
 
--- Or the words give `ask`: more nodes are needed than are allowed, where that is the limit. It is the formula that is asked for, by its order
--- and cubes; the proof's bytes show that the limit is reached, and it was printed.
+-- Or the words give `ask`: more nodes are needed than are allowed, where that is the limit. It is the formula that is asked for, by its
+-- order and cubes; the proof's bytes show that the limit is reached, and it was printed.
 pub record IsShownUnanswered (run : Run) (why : Why) (problem : Formula) (order : List ℕ) (cubes : List (List ℤ)) : Type 0 where
   pub asked : AsksByCubes run problem order (given_cubes cubes)
   pub reached : ShowsOfCubes problem order cubes (limits_given run) (written_in run ProofOut) (replies_at why)
@@ -164,9 +168,9 @@ pub record IsAnswered (run : Run) : Type 0 where
 abbrev pub CubesAreAnswered : Run → Type 0
 CubesAreAnswered run = run.status ≡ Answered → IsAnswered run
 
--- Verified: the very bytes of the proof's file refute the formula's clauses, by the rules of LRAT, or with `check --format drat` and `lrat` by
--- those of DRAT, so that no assignment satisfies them. With `drat` and `lrat` the proof was converted, whole: what `lrat` wrote refutes the
--- formula's clauses by the rules of LRAT. With `trim` it was trimmed.
+-- Verified: the very bytes of the proof's file refute the formula's clauses, by the rules of LRAT, or with `check --format drat` and `lrat`
+-- by those of DRAT, so that no assignment satisfies them. With `drat` and `lrat` the proof was converted, whole: what `lrat` wrote refutes
+-- the formula's clauses by the rules of LRAT. With `trim` it was trimmed.
 pub record IsVerified (run : Run) : Type 0 where
   pub problem : Formula
   pub bytes : List ℕ
@@ -177,8 +181,8 @@ pub record IsVerified (run : Run) : Type 0 where
   pub unsatisfiable : AreUnsatisfiable problem.clauses
   pub printed : written_in run Out ≡ verdict_text_for run problem bytes judgement.Verified
 
--- Not verified: this is the first bad line of the proof by the same rules, or that of its end, and why it is refused. With `drat` and `lrat`
--- what comes before it was converted, whole.
+-- Not verified: this is the first bad line of the proof by the same rules, or that of its end, and why it is refused. With `drat` and
+-- `lrat` what comes before it was converted, whole.
 pub record IsNotVerified (run : Run) (line : ℕ) (reason : Reason) : Type 0 where
   pub problem : Formula
   pub bytes : List ℕ
@@ -563,9 +567,9 @@ pub record TrimStands (run : Run) : Type 0 where
   pub whole : run.status ≢ WriteFault → IsTrue run.tells → (written_in run ProofOut ≡ [])
       ⊎ ((trimmed : IsFrontOfTrimmed run) × (trimmed.rest ≡ []))
 
--- The proof that `ask` writes: nothing, or exactly the lines of good steps from the clauses of the formula that is asked for. A front of one
--- more such line may stand behind them only after a failed write. However the run ends, its numbers keep within the price of conjoining the
--- clauses and of each cube, by the width.
+-- The proof that `ask` writes: nothing, or exactly the lines of good steps from the clauses of the formula that is asked for. A front of
+-- one more such line may stand behind them only after a failed write. However the run ends, its numbers keep within the price of conjoining
+-- the clauses and of each cube, by the width.
 pub record AskStands (run : Run) : Type 0 where
   pub so_far : IsTrue run.tells → (written_in run ProofOut ≡ []) ⊎ ((problem : Formula) × (order : List ℕ) × (cubes : List (List ℤ))
       × AsksByCubes run problem order (given_cubes cubes) × IsProofSoFarOfKind problem.clauses AnyState (written_in run ProofOut))
@@ -584,8 +588,8 @@ pub record WrittenStands (run : Run) : Type 0 where
   pub asked : GivesAsk run → AskStands run
   pub proved : (GivesConversion run → ⊥) → (GivesTrimming run → ⊥) → (GivesAsk run → ⊥) → ProofStands run
 
--- a status with which a run ends that creates no file, or before it does; but `drat` and `lrat` create their own before they read the proof,
--- and `trim` once that is verified
+-- a status with which a run ends that creates no file, or before it does; but `drat` and `lrat` create their own before they read the
+-- proof, and `trim` once that is verified
 abbrev pub ends_before_proof : Status → Bool
 ends_before_proof Sat = false
 ends_before_proof Unsat = false

@@ -252,8 +252,8 @@ pub record IsConverted (run : Run) (into : Conversion) (problem : Formula) (byte
   pub written : IsConversion into problem bytes judged (written_in run ProofOut)
   pub flushed : (run.after ProofOut).flushed ≡ length (run.after ProofOut).written
 
--- The file that the core goes to gained exactly the numbers of those of the formula's clauses that the trimmed proof names, a line each, and
--- that is flushed. No assignment satisfies these clauses, and the trimmed proof's steps refute them alone, under those numbers.
+-- The file that the core goes to gained exactly the numbers of those of the formula's clauses that the trimmed proof names, a line each,
+-- and that is flushed. No assignment satisfies these clauses, and the trimmed proof's steps refute them alone, under those numbers.
 pub record IsCored (run : Run) (problem : Formula) (bytes : List ℕ) : Type 0 where
   pub written : written_in run Made ≡ core_text (core problem.clauses bytes)
   pub flushed : (run.after Made).flushed ≡ length (run.after Made).written

@@ -41,10 +41,12 @@ use Rattle.command_line.specs.declared.words.CheckTask.{CheckTask}
 use Rattle.command_line.specs.declared.order.OrderTask.{OrderTask}
 use Rattle.command_line.specs.declared.board.BenchTask.{BenchTask}
 use Rattle.command_line.specs.declared.board.MakeTask.{MakeTask}
-use Rattle.command_line.specs.Command.{ToSolve, ToAsk, ToCheck, ToBench, ToMake, ToOrder, ToConvert, ToTrim, Solve, Ask, Check, Bench, Make, Arrange}
+use Rattle.command_line.specs.Command.{ToSolve, ToAsk, ToCheck, ToBench, ToMake, ToOrder, ToConvert, ToTrim, Solve, Ask, Check, Bench}
+use Rattle.command_line.specs.Command.{Make, Arrange}
 use Rattle.command_line.specs.Command.{Convert, Trim, AsksHelp, Misuse}
 use Rattle.command_line.specs.Command.{MayMean, command}
-use Rattle.solver_cli.specs.Phases.{TakesCubes, TakesFormula, HasOrder, HasBuckets, HasPlan, JudgesProof, WritesProof, PutsText, basis_of, buckets_file}
+use Rattle.solver_cli.specs.Phases.{TakesCubes, TakesFormula, HasOrder, HasBuckets, HasPlan, JudgesProof, WritesProof, PutsText}
+use Rattle.solver_cli.specs.Phases.{basis_of, buckets_file}
 use Rattle.solver_cli.specs.ConvertedProof.{RewritesProof}
 use Rattle.solver_cli.specs.TrimmedProof.{PutsFile, PutsNamed, TrimsProof}
 
@@ -516,8 +518,8 @@ pub record Rejected (tells : Bool) (old new : Streams) (files : Files) (task : T
   pub made : new.made ≡ old.made
   pub shows : ShowsVerdict tells old.out new.out (verdict_text (judgement.Refused line reason)) (judgement.Refused line reason) status
 
--- What comes of the steps of a trimmed proof, and of its core, is told of the streams that they are written to and of standard output, before
--- and after.
+-- What comes of the steps of a trimmed proof, and of its core, is told of the streams that they are written to and of standard output,
+-- before and after.
 
 -- the steps' file was not created, or they were not written
 pub record Unkept (tells : Bool) (old new old_made made old_out out : Channel) (file text : List ℕ) (status : Status) : Type 0 where

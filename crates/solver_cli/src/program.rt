@@ -20,7 +20,8 @@ ghost use Rattle.solver_cli.specs.declared.status.Status.{Status};
 ghost use Rattle.solver_cli.specs.declared.status.Status.TheVariants.{OutOfMemory};
 ghost use Rattle.solver_cli.specs.Stages.{Came, CameToAnswer, CameToArrange, CameToBench, CameToCheck, CameToConvert, CameToKeep};
 ghost use Rattle.solver_cli.specs.Stages.{CameToMake, CameToTrim, FilesBeside, KeptButThree, ShowsVerdict};
-ghost use Rattle.solver_cli.specs.Stages.{LeavesInputs, ShowsHelp, Stages, arrange_of, bench_of, check_of, job_of, make_of, streams_of, task_of};
+ghost use Rattle.solver_cli.specs.Stages.{LeavesInputs, ShowsHelp, Stages, arrange_of, bench_of, check_of, job_of, make_of, streams_of};
+ghost use Rattle.solver_cli.specs.Stages.{task_of};
 
 use crate::answer::{Shape, status_of};
 use crate::arrangement::{order_by, put_order};
@@ -377,8 +378,8 @@ fn show<H: Host>(host: &mut H, verdict: Verdict) -> Status
     }
 }
 
-/// Does all that the program does: reads the words (the program's own name first), decides the formula and writes the
-/// proof, answers cubes over it, judges a proof, or writes it in the other format, or trimmed, or makes a text, prints the answer or what went
+/// Does all that the program does: reads the command line (its first word is the program's name), decides the formula and writes the proof,
+/// answers cubes over it, judges a proof, or writes it in the other format, or trimmed, or makes a text, prints the answer or what went
 /// wrong, and says how the run ends.
 pub fn run<H: Host>(alloc: Global, words: &[String], host: &mut H) -> Status
     requires unnamed { (role : Role) → (H.channel host.old role).name ≡ None }
@@ -417,8 +418,8 @@ pub fn run_in_memory(alloc: Global, words: &[String], host: &mut MemoryHost) -> 
     run(alloc, words, host)
 }
 
-/// All that `main` does: the program's run over the words that come, or, where none can be had, only the line on standard
-/// error that says so. Answers the exit code.
+/// All that `main` does: the program's run over the command line that comes, or, where none can be had, only the line on standard error
+/// that says so. Answers the exit code.
 pub fn run_with<H: Host, I: Iterator<Item = String> + Drop>(
     alloc: Global,
     words: Result<I, ErrorKind>,
@@ -453,7 +454,7 @@ pub fn run_with<H: Host, I: Iterator<Item = String> + Drop>(
     }
 }
 
-// Tells on standard error how a run ends that has no words; answers the exit code.
+// Tells on standard error how a run ends that has no command line; answers the exit code.
 fn tell<H: Host>(host: &mut H, status: Status) -> u8
     requires unnamed { (role : Role) → (H.channel host.old role).name ≡ None }
     ensures told { OnlyTold H.tells (H.channel host.old) (H.channel host.new) (H.files host.old) (H.files host.new) status }

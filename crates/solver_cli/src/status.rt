@@ -38,9 +38,9 @@ pub enum Status {
     NotVerified(u64, Reason),
     /// The text that was asked for was written.
     Done,
-    /// The words ask for help, or for the version, which was shown.
+    /// The command line asks for help, or for the version, which was shown.
     Help,
-    /// The words ask for nothing that the program does.
+    /// The command line is invalid.
     Usage,
     /// The formula's text is none; the line is where that shows.
     CnfRefused(CnfKind, u64),

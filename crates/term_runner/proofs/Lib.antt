@@ -67,3 +67,4 @@ pub mod WeakerFound
 pub mod Weakened
 pub mod SumOver
 pub mod Counted
+mod Derived

@@ -21,3 +21,4 @@ pub mod Runner
 pub mod Parity
 pub mod Sets
 pub mod Asked
+pub mod Derived

@@ -206,8 +206,8 @@ fn push_both(hints: &mut Vec<Id>, unit: Id, both: Id) -> Result<(), OutOfMemory>
     Ok(())
 }
 
-// Adds the clause that forbids a cube.
-fn refuse<S: Sink + Drop>(
+/// Adds the clause that forbids a cube.
+pub(crate) fn refuse<S: Sink + Drop>(
     alloc: Global,
     table: &mut Table<S>,
     cube: &[Lit],

@@ -16,6 +16,7 @@ mod finish;
 mod found;
 mod gauge;
 mod held;
+mod hinted;
 mod moves;
 mod open;
 mod outcome;

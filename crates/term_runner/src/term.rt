@@ -4,6 +4,7 @@ ghost use Rattle.std.specs.Prelude.{◌≡◌, ◌≢◌, ◌⊎◌, ◌≤◌, 
 ghost use Rattle.std.specs.Prelude.{IsTrue, IfErr, IfOk, OnErr, OnOk, MatchOption, get_or, length, true, false, vec_capacity, vec_len};
 ghost use Rattle.cnf_base.specs.Truth.{Assignment};
 ghost use Rattle.node_table.specs.declared.error.TableError.TheVariants.{NodeLimit, OutOfMemory, WriteFault};
+ghost use Rattle.node_table.specs.declared.node.Justification.TheVariants.{Clause, Trivial};
 ghost use Rattle.node_table.specs.declared.node.Node.TheVariants.{False, True};
 ghost use Rattle.node_table.specs.Progress.{Leaves, error_of};
 ghost use Rattle.node_table.specs.Table.{AddsAtMost, UnlessTorn, live_nodes};
@@ -22,7 +23,8 @@ use crate::held::HeldTerm;
 use crate::moves::is_node_limit;
 use crate::reclamation::roots_of;
 use crate::runner::Runner;
-use crate::unit::{is_same, is_same_term, retire_unit};
+use crate::unit::{clause_id, is_same, is_same_term, retire_unit};
+use cnf_base::Id;
 use host_io::Sink;
 use node_table::{
     Justification, Node, Table, TableError, growth_law, reach_law, steps_law, subfunction_law,
@@ -42,6 +44,13 @@ impl Term {
         ensures { result ≡ self.now.held.node }
     {
         self.held.node
+    }
+
+    /// The number of the clause that proves it; None for True.
+    pub fn unit(&self) -> Option<Id>
+        ensures { MatchOption result (self.now.held.unit ≡ Trivial) (λ id. self.now.held.unit ≡ Clause id) }
+    {
+        clause_id(&self.held.unit)
     }
 }
 

@@ -1,12 +1,11 @@
-// What is read: tokens, formulas, orders, schedules and the steps of proofs, in pieces of one byte, of three, and whole. The expected
+// What is read: tokens, formulas, orders, cubes, schedules and the first step of a proof, in pieces of one byte and whole. The expected
 // answers are those of the formats' rules.
 use crate::support::{
     cut, push_clauses, push_cubes, push_ids, push_literals, push_moves, push_order, text_of,
 };
-use cnf_base::{Cnf, Group, Id, IdList, LitList, OutOfMemory, Step};
+use cnf_base::{Cnf, OutOfMemory, Step};
 use cube_text::read_cubes;
 use dimacs_reader::{Mode, read_cnf};
-use drat_text::{DratReader, DratStep};
 use host_io::SliceSource;
 use lrat_text::{StepError, StepReader};
 use schedule_plan::{Order, Plan};
@@ -21,9 +20,8 @@ const FORMULA: &[u8] = b"p cnf 3 3\n1 -2 0\n2 -3 0\n3 0";
 
 // A format, a text, and what it is. Each token stands behind its line, a long one marked; a formula behind the number of its variables;
 // an order and cubes are of three variables; a schedule is one for the formula above. A step is told by its line, its number, `+` with
-// the literals and the hints, each group by its candidate, or `-` with the numbers; one of DRAT by its line, and `+` or `-` with the
-// literals. Behind tokens and steps stands the end or the error, and which line is told. Behind `=` stands how many bytes the text may
-// have. The last row has the texts of errors that no text leads to.
+// the literals and the positive hints, or `-` with the numbers. Behind tokens stands the end or the error, and which line is told. Behind
+// `=` stands how many bytes the text may have. The last row has the texts of errors that no text leads to.
 const TEXTS: &str = "\
 tokens=9;; end 1
 tokens=9;/ \t\r/; end 3
@@ -154,40 +152,11 @@ schedule;c 1 2/a 2/;line 3: ClauseUnused
 schedule;c 1 2/;line 2: ClauseUnused
 schedule;;line 1: ClauseUnused
 schedule;c 1 2 3//a 2/;line 4: TermsLeft
-steps=1000;; end 1
-steps=1000;/ c 1 2//; end 4
-steps=1000;3 0 1 2 0/; 1:3 + | 1 2 end 2
-steps=1000;3 0 1 2 0; 1:3 + | 1 2 end 1
-steps=1000;3 1 -1 0 1 0/4 0 1 2 0/; 1:3 + 1 -1 | 1 2:4 + | 1 2 end 3
-steps=1000;3 0 1 2 0/3 d 1 7 1 0/; 1:3 + | 1 2 2:3 - 1 7 1 end 3
-steps=1000;2 1 0 -5 0\r/; 1:2 + 1 | (5) end 2
-steps=1000;6 -4 1 3 0 7 -4 8 -5 0; 1:6 + -4 1 3 | 7 (4 8) (5) end 1
-steps=1000;0 d 0/c x/1 d 1 0/; 1:0 - 3:1 - 1 end 4
-steps=1000;1 0 0 /\t\r/2 0 0; 1:1 + | 3:2 + | end 3
-steps=1000;007 -01 00 0009 000; 1:7 + -1 | 9 end 1
-steps=1000;999999999999999999 2147483647 0 -999999999999999999 0; 1:999999999999999999 + 2147483647 | (999999999999999999) end 1
-steps=1000;999999999999999999 d 999999999999999999 0; 1:999999999999999999 - 999999999999999999 end 1
-steps=1000;3 0 1 0/3 0/; 1:3 + | 1 line 2 is no step of a proof 1
-steps=1000;1 1 2 3 0 4 5 -6 7 -8 0/2 d 9 8 7 0/3 -4 0 5 -6 0/4 d 3 0/5 0 0/6 d 0/7 d 2 0/; 1:1 + 1 2 3 | 4 5 (6 7) (8) 2:2 - 9 8 7 3:3 + -4 | 5 (6) 4:4 - 3 5:5 + | 6:6 - 7:7 - 2 end 8
-steps=1000;3 1 0 1 0 2; line 1 is no step of a proof 1
-steps=1000;3 d -1 0; line 1 is no step of a proof 1
-steps=0;1 0 0/2 0 0/; the text is too long 1
-steps=5;1 0 0/2 0 0/; the text is too long 1
-steps=6;1 0 0/2 0 0/; 1:1 + | the text is too long 1
-steps=11;1 0 0/2 0 0/; 1:1 + | the text is too long 1
-steps=12;1 0 0/2 0 0/; 1:1 + | 2:2 + | end 3
-drat=1000;; end 1
-drat=1000;1 -2 0/d 1 -2 0/0/; 1:+ 1 -2 2:- 1 -2 3:+ end 4
-drat=1000;c 1 0/ 1 0 /\t/d 0; 2:+ 1 4:- end 4
-drat=1000;007 -01 00; 1:+ 7 -1 end 1
-drat=1000;2147483647 0/2147483648 0; 1:+ 2147483647 line 2 is no step of a proof 1
-drat=1000;1 0/1 2/; 1:+ 1 line 2 is no step of a proof 1
-drat=1000;1 0 2 0; line 1 is no step of a proof 1
-drat=1000;-0 0; line 1 is no step of a proof 1
-drat=1000;d; line 1 is no step of a proof 1
-drat=1000;1 d 0; line 1 is no step of a proof 1
-drat=5;1 0/2 0/; 1:+ 1 the text is too long 1
-step;6 -4 1 3 0 7 -4 8 -5 0; 1:6 + -4 1 3 | 7 (4 8) (5)
+step=99;6 -4 1 3 0 7 -4 8 -5 0; 1:6 + -4 1 3 | 7
+step=99;/c x/3 d 2 0; 3:3 - 2
+step=99;/;no step
+step=99;3 d -1 0;line 1 is no step of a proof
+step=5;1 0 0/;the text is too long
 memory;;out of memory, out of memory";
 
 // The same, where a read of the last byte would fail. The byte behind the deciding token was read; a line of a schedule is judged
@@ -227,16 +196,8 @@ cubes;1 2/-1 0;line 2: BothSigns
 schedule;c 4/a 2;line 1: ClauseRange
 schedule;# x/q 1/c 1;line 2: StackShort
 schedule;c 1/q 2/x x;line 2: VariableInUse
-steps=1000;3 1 0 2 0/4 d; 1:3 + 1 | 2 a read failed 1";
-
-// Texts of 30 bytes, and what comes of a read that fails at any place.
-const FAULTS: &str = "\
-strict;p cnf 2 2/c a note/1 -2 0/2 0/;a read failed
-lax;p cnf 2 2/c a note/1 -2 0/2 0/;a read failed
-order;# of three variables:/3  2  1/;a read failed
-cubes;# of two cubes:/1 -2 0/3  1 0/;a read failed
-schedule;# all are at once/c 1 2 3/a 3/;a read failed
-steps=1000;c a proof of one/3 1 0  2  0 /; a read failed 1";
+step=99;3 1 0 2 0/4 d; 1:3 + 1 | 2
+step=99;3 1 0 2 0/4;a read failed";
 
 // Numbers that lie in what was read are taken at once: their line stands before a sign of equality.
 const NUMBERS: &str = "\
@@ -356,30 +317,14 @@ fn schedule(alloc: Global, out: &mut String, source: &mut SliceSource) -> Result
     }
 }
 
-fn push_groups(out: &mut String, groups: &[Group]) -> Result<(), AllocError> {
-    for group in groups {
-        let id = group.id.get();
-        write!(out, " ({id}")?;
-        push_ids(out, group.hints.as_slice())?;
-        out.push(')')?;
-    }
-    Ok(())
-}
-
 fn push_step(out: &mut String, step: &Step, line: u64) -> Result<(), AllocError> {
     match step {
-        Step::Add {
-            id,
-            lits,
-            pos,
-            groups,
-        } => {
+        Step::Add { id, lits, pos, .. } => {
             let id = id.get();
             write!(out, " {line}:{id} +")?;
             push_literals(out, lits.as_slice())?;
             out.push_str(" |")?;
-            push_ids(out, pos.as_slice())?;
-            push_groups(out, groups.as_slice())
+            push_ids(out, pos.as_slice())
         }
         Step::Delete { id, ids } => {
             let id = id.get();
@@ -389,102 +334,26 @@ fn push_step(out: &mut String, step: &Step, line: u64) -> Result<(), AllocError>
     }
 }
 
-// Each step is put into one place, whose lists have what the line before it left there.
-fn push_steps(
+fn push_first(
     out: &mut String,
     reader: &mut StepReader,
-    step: &mut Step,
     source: &mut SliceSource,
 ) -> Result<(), AllocError> {
-    for _ in 0..100 {
-        match reader.next_into(source, step) {
-            Ok(Some(line)) => push_step(out, step, line)?,
-            end => return push_end(out, end.err(), reader.line()),
-        }
+    match reader.next(source) {
+        Ok(Some((step, line))) => push_step(out, &step, line),
+        Ok(None) => out.push_str("no step"),
+        Err(error) => write!(out, "{error}"),
     }
-    Ok(())
 }
 
-fn steps_of(
-    alloc: Global,
-    out: &mut String,
-    reader: &mut StepReader,
-    source: &mut SliceSource,
-) -> Result<(), AllocError> {
-    let mut step = Step::Delete {
-        id: Id(0),
-        ids: IdList::new(alloc),
-    };
-    push_steps(out, reader, &mut step, source)
-}
-
-fn steps(
+fn first_step(
     alloc: Global,
     out: &mut String,
     limit: u32,
     source: &mut SliceSource,
 ) -> Result<(), AllocError> {
     let mut reader = StepReader::new(alloc, u64::from(limit));
-    steps_of(alloc, out, &mut reader, source)
-}
-
-// The first step, by the call that makes its place itself.
-fn first_step(alloc: Global, out: &mut String, source: &mut SliceSource) -> Result<(), AllocError> {
-    let mut reader = StepReader::new(alloc, 1000);
-    match reader.next(source) {
-        Ok(Some((step, line))) => push_step(out, &step, line),
-        _ => out.push_str("no step"),
-    }
-}
-
-fn push_drat_step(out: &mut String, step: &DratStep, line: u64) -> Result<(), AllocError> {
-    match step {
-        DratStep::Add { lits } => {
-            write!(out, " {line}:+")?;
-            push_literals(out, lits.as_slice())
-        }
-        DratStep::Delete { lits } => {
-            write!(out, " {line}:-")?;
-            push_literals(out, lits.as_slice())
-        }
-    }
-}
-
-fn push_drat_steps(
-    out: &mut String,
-    reader: &mut DratReader,
-    step: &mut DratStep,
-    source: &mut SliceSource,
-) -> Result<(), AllocError> {
-    for _ in 0..100 {
-        match reader.next_into(source, step) {
-            Ok(Some(line)) => push_drat_step(out, step, line)?,
-            end => return push_end(out, end.err(), reader.line()),
-        }
-    }
-    Ok(())
-}
-
-fn drat_steps_of(
-    alloc: Global,
-    out: &mut String,
-    reader: &mut DratReader,
-    source: &mut SliceSource,
-) -> Result<(), AllocError> {
-    let mut step = DratStep::Delete {
-        lits: LitList::new(alloc),
-    };
-    push_drat_steps(out, reader, &mut step, source)
-}
-
-fn drat_steps(
-    alloc: Global,
-    out: &mut String,
-    limit: u32,
-    source: &mut SliceSource,
-) -> Result<(), AllocError> {
-    let mut reader = DratReader::new(alloc, u64::from(limit));
-    drat_steps_of(alloc, out, &mut reader, source)
+    push_first(out, &mut reader, source)
 }
 
 fn push_answer(
@@ -502,9 +371,7 @@ fn push_answer(
         "order" => order(alloc, out, source),
         "cubes" => cubes(alloc, out, source),
         "schedule" => schedule(alloc, out, source),
-        "steps" => steps(alloc, out, limit, source),
-        "step" => first_step(alloc, out, source),
-        "drat" => drat_steps(alloc, out, limit, source),
+        "step" => first_step(alloc, out, limit, source),
         _ => write!(out, "{OutOfMemory}, {}", StepError::OutOfMemory),
     }
 }
@@ -576,7 +443,6 @@ fn expect_rows(
 #[test]
 fn texts_in_pieces(rt: HostRuntime) -> Result<(), Fail> {
     expect_rows(&rt, rt.alloc(), TEXTS, 1, None)?;
-    expect_rows(&rt, rt.alloc(), TEXTS, 3, None)?;
     expect_rows(&rt, rt.alloc(), TEXTS, usize::MAX, None)
 }
 
@@ -588,12 +454,4 @@ fn numbers_at_once(rt: HostRuntime) -> Result<(), Fail> {
 #[test]
 fn reads_no_further(rt: HostRuntime) -> Result<(), Fail> {
     expect_rows(&rt, rt.alloc(), DECIDED, 1, Some(1))
-}
-
-#[test]
-fn reads_fail(rt: HostRuntime) -> Result<(), Fail> {
-    for left in 0..31 {
-        expect_rows(&rt, rt.alloc(), FAULTS, 1, Some(left))?;
-    }
-    Ok(())
 }

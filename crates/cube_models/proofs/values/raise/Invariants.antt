@@ -10,7 +10,8 @@ use Rattle.cube_models.proofs.values.raise.Given as goal
 abbrev pub invariant-nodes : goal.invariant-nodes
 invariant-nodes g l = record {
   one_each : length l.values.items ≡ levels l.table.graph;
-  down : (first : Node) → is_node l.table.graph first ≡ true → Leads l.table.graph (next_in l.table.graph l.signs l.marks l.round) first l.path True
+  down : (first : Node) → is_node l.table.graph first ≡ true
+      → Leads l.table.graph (next_in l.table.graph l.signs l.marks l.round) first l.path True
       → (node : Node) × (Leads l.table.graph (next_in l.table.graph l.signs l.marks l.round) node (drop l.key-index l.path) True
       × IsDown l.table.graph l.signs (levels_of l.table.graph l.values.items) first node);
 }

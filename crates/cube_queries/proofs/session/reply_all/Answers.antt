@@ -1,7 +1,6 @@
 -- What is left to show of `reply_all`.
 use Rattle.std.proofs.Common.{◌∙◌, [], ℕ, List, length, ap, sym, subst}
 use Rattle.cnf_base.specs.Formula.{Formula}
-use Rattle.cnf_base.specs.Truth.{AreClausesOf}
 use Rattle.term_runner.specs.declared.held.HeldTerm.{HeldTerm}
 use Rattle.term_runner.specs.Runner.{IsListed}
 use Rattle.cube_text.specs.CubeText.{AreCubes}
@@ -48,11 +47,6 @@ pub reply_each-answers-requires-clause-value : goal.reply_each-answers-requires-
 reply_each-answers-requires-clause-value g c a =
     c.in_ok-term.ensures.takes.value a
     ∙ ap (λ (f : Formula). formula_holds f a) (sym (ap (λ f. f.now) c.in_ok-term.ensures.takes.goes.formula ∙ c.requires.formula))
-
-pub reply_each-answers-requires-clause-literals : goal.reply_each-answers-requires-clause-literals
-reply_each-answers-requires-clause-literals g c =
-    subst (λ (f : Formula). AreClausesOf f.vars f.clauses)
-    (sym (ap (λ f. f.now) c.in_ok-term.ensures.takes.goes.formula ∙ c.requires.formula)) c.formula_law.ensures.literals
 
 pub reply_each-answers-requires-clause-cubes : goal.reply_each-answers-requires-clause-cubes
 reply_each-answers-requires-clause-cubes g c =

@@ -1,19 +1,19 @@
 -- What is left to show of `reply_each`.
-use Rattle.std.proofs.Common.{◌≡◌, ◌∙◌, ◌+◌, ◌-◌, ◌++◌, ◌∷◌, [], ℕ, ℤ, List, None, Some, Ok, Err, length, take, true, sym, ap, subst, arith}
+use Rattle.std.proofs.Common.{◌≡◌, ◌∙◌, ◌<◌, ◌+◌, ◌-◌, [], ℕ, ℤ, List, None, Some, Ok, Err, length, take, true, sym, ap, subst, arith, inl}
 use Rattle.std.specs.Prelude.{slice_index_or}
 use Rattle.std.specs.List.{list_all}
 use Rattle.cnf_base.specs.Cube.{is_consistent}
-use Rattle.cnf_base.specs.Formula.{Formula}
-use Rattle.cnf_base.specs.Truth.{AreClausesOf, is_literal_of}
+use Rattle.cnf_base.specs.Truth.{is_literal_of}
 use Rattle.node_table.specs.declared.error.TableError.TheVariants.{NodeLimit, OutOfMemory}
-use Rattle.node_table.specs.HandedOn.{no_error}
 use Rattle.term_runner.specs.declared.held.HeldTerm.{HeldTerm}
-use Rattle.term_runner.specs.Runner.{IsListed}
+use Rattle.node_table.specs.Made.{inner}
+use Rattle.node_table.specs.Marks.{IsReached}
+use Rattle.term_runner.specs.Runner.{IsListed, nodes_of}
 use Rattle.cube_queries.specs.declared.answer.Answer.{Answer}
+use Rattle.cube_queries.proofs.Added.{all_reached}
 use Rattle.cube_queries.proofs.Alone.{alone_good}
 use Rattle.cube_queries.proofs.Asked.{AnswersIn, all_at, all_replied, answers_more, no_room_replied, none_reclaimed, none_replied, stays_none}
 use Rattle.cube_queries.proofs.Asked.{stays_replied, value_yet, whole_answers}
-use Rattle.cube_queries.proofs.Replied.{answers_further}
 use Rattle.cube_queries.proofs.Stays.{stays_back, stays_further}
 use Rattle.cube_queries.proofs.Totals.{cube_costs, cube_short, cubes_back, cubes_done, cubes_handed, no_cubes}
 use Rattle.cube_queries.proofs.Tries.{error_is}
@@ -24,13 +24,37 @@ at_place : (cubes : List (List ℤ)) (place : ℕ) (cube : List ℤ) → cube �
     → cube ≡ slice_index_or cubes place []
 at_place cubes place cube is = let back : place + 1 - 1 ≡ place = omega arith in is ∙ ap (λ (k : ℕ). slice_index_or cubes k []) back
 
+pub returns-in_err-give_back-clause-replies : goal.returns-in_err-give_back-clause-replies
+returns-in_err-give_back-clause-replies g c =
+    none_reclaimed c.steps_law.ensures c.args.cubes.now c.args.runner.now c.args.runner.now c.give_back.new.runner
+    (stays_none c.steps_law.ensures c.args.runner.now c.requires.runner) c.in_err-give_back.field-0.0 _ c.from_residual.ensures.1
+    c.in_err-give_back.ensures.back
+
+pub returns-in_err-give_back-clause-out : goal.returns-in_err-give_back-clause-out
+returns-in_err-give_back-clause-out g c = c.in_err-give_back.ensures.back.out
+
+pub returns-in_err-give_back-clause-costs : goal.returns-in_err-give_back-clause-costs
+returns-in_err-give_back-clause-costs g c =
+    let came = c.in_err-give_back.field-0.0 in
+    cubes_handed c.args.cubes.now c.args.runner.now c.give_back.new.runner came _ c.from_residual.ensures.1
+    (cubes_done c.args.cubes.now 0 c.args.runner.now c.give_back.new.runner (Some came) (omega arith)
+    (λ is. c.in_err-give_back.ensures.back.no_limit (error_is (Err came) NodeLimit is))
+    (cubes_back c.args.cubes.now 0 c.args.runner.now c.args.runner.now c.give_back.new.runner (Err came)
+    (no_cubes c.args.cubes.now c.args.runner.now) c.in_err-give_back.ensures.back))
+
 pub cubes-init : goal.cubes-init
-cubes-init g c = record {
-  finder = c.new-finder.ensures;
-  stays = stays_none c.steps_law.ensures c.args.runner.now c.requires.runner;
-  paid = no_cubes c.args.cubes.now c.args.runner.now;
-  answers = subst (λ (l : List Answer). AnswersIn c.args.runner.now [] l) (sym c.new-answers.ensures) tt;
-}
+cubes-init g c =
+    let back = c.in_ok-give_back.ensures.back in
+    record {
+      finder = c.new-finder.ensures;
+      stays = stays_back c.args.runner.now c.give_back.new.runner c.in_ok-give_back.field-0 back;
+      reached = λ key branch at. subst (λ (l : List HeldTerm). IsReached c.give_back.new.runner.terms.table.graph (nodes_of l) (inner key))
+          (sym back.out) (c.in_ok-give_back.ensures.reached.reached key branch at);
+      sums = inl c.new-sums.ensures.items;
+      paid = cubes_back c.args.cubes.now 0 c.args.runner.now c.args.runner.now c.give_back.new.runner (Ok c.in_ok-give_back.field-0)
+          (no_cubes c.args.cubes.now c.args.runner.now) back;
+      answers = subst (λ (l : List Answer). AnswersIn c.give_back.new.runner [] l) (sym c.new-answers.ensures) tt;
+    }
 
 pub reply-requires-clause-runner : goal.reply-requires-clause-runner
 reply-requires-clause-runner g c = c.cubes.invariant.stays.runner
@@ -42,9 +66,11 @@ pub reply-requires-clause-alone : goal.reply-requires-clause-alone
 reply-requires-clause-alone g c =
     subst (λ (l : List HeldTerm). IsListed [] l c.args.term.now.held) (sym c.cubes.invariant.stays.out) c.requires.alone
 
-pub reply-requires-clause-literals : goal.reply-requires-clause-literals
-reply-requires-clause-literals g c =
-    subst (λ (f : Formula). AreClausesOf f.vars f.clauses) (sym (ap (λ f. f.now) c.cubes.invariant.stays.goes.formula)) c.requires.literals
+pub reply-requires-clause-reached : goal.reply-requires-clause-reached
+reply-requires-clause-reached g c = c.cubes.invariant.reached
+
+pub reply-requires-clause-sums : goal.reply-requires-clause-sums
+reply-requires-clause-sums g c = c.cubes.invariant.sums
 
 pub reply-requires-clause-value : goal.reply-requires-clause-value
 reply-requires-clause-value g c =
@@ -55,7 +81,7 @@ pub reply-requires-clause-variables : goal.reply-requires-clause-variables
 reply-requires-clause-variables g c =
     let stays = c.cubes.invariant.stays in
     subst (λ (cube : List ℤ). list_all (is_literal_of (length c.cubes.runner.terms.table.graph.order)) cube ≡ true)
-    (sym (at_place c.args.cubes.now c.cubes.place c.cube.result.now c.cube.ensures))
+    (sym (at_place c.args.cubes.now c.cubes.place c.cube-cube.result.now c.cube-cube.ensures))
     (subst (λ (o : List ℕ). list_all (is_literal_of (length o)) (slice_index_or c.args.cubes.now c.cubes.place []) ≡ true)
     (sym stays.goes.order)
     (all_at (list_all (is_literal_of (length c.args.runner.now.terms.table.graph.order))) c.args.cubes.now c.cubes.place []
@@ -63,14 +89,14 @@ reply-requires-clause-variables g c =
 
 pub reply-requires-clause-consistent : goal.reply-requires-clause-consistent
 reply-requires-clause-consistent g c =
-    subst (λ (cube : List ℤ). is_consistent cube ≡ true) (sym (at_place c.args.cubes.now c.cubes.place c.cube.result.now c.cube.ensures))
+    subst (λ (cube : List ℤ). is_consistent cube ≡ true) (sym (at_place c.args.cubes.now c.cubes.place c.cube-cube.result.now c.cube-cube.ensures))
     (all_at is_consistent c.args.cubes.now c.cubes.place [] c.requires.cubes.consistent
     (omega (arith, c.cubes-test.true, c.len-place-end.ensures)))
 
 pub returns-in_err-answer-clause-replies : goal.returns-in_err-answer-clause-replies
 returns-in_err-answer-clause-replies g c =
     none_replied c.steps_law.ensures c.args.cubes.now c.args.runner.now c.cubes.runner c.reply.new.runner c.cubes.invariant.stays
-    c.in_err-answer.field-0.0 _ c.from_residual.ensures.1 c.cube.result.now c.in_err-answer.ensures.replies
+    c.in_err-answer.field-0.0 _ c.from_residual-in_err-answer.ensures.1 c.cube-cube.result.now c.in_err-answer.ensures.replies
 
 pub returns-in_err-answer-clause-out : goal.returns-in_err-answer-clause-out
 returns-in_err-answer-clause-out g c = c.in_err-answer.ensures.replies.out ∙ c.cubes.invariant.stays.out
@@ -79,43 +105,29 @@ pub returns-in_err-push-clause-replies : goal.returns-in_err-push-clause-replies
 returns-in_err-push-clause-replies g c =
     no_room_replied c.args.cubes.now c.args.runner.now c.reply.new.runner
     (stays_further c.steps_law.ensures c.args.runner.now c.cubes.runner c.reply.new.runner c.cubes.invariant.stays
-    (stays_replied c.cube.result.now c.cubes.runner c.reply.new.runner c.in_ok-answer.answer c.in_ok-answer.ensures.replies))
+    (stays_replied c.cube-cube.result.now c.cubes.runner c.reply.new.runner c.in_ok-answer.answer c.in_ok-answer.ensures.replies))
     _ c.from_residual-in_err-push.ensures.1
 
 pub returns-in_err-push-clause-out : goal.returns-in_err-push-clause-out
 returns-in_err-push-clause-out g c = c.in_ok-answer.ensures.replies.out ∙ c.cubes.invariant.stays.out
 
-pub tidied-requires : goal.tidied-requires
-tidied-requires g c = c.in_ok-answer.ensures.replies.goes_on no_error
-
-pub returns-in_err-left-clause-replies : goal.returns-in_err-left-clause-replies
-returns-in_err-left-clause-replies g c =
-    none_reclaimed c.steps_law.ensures c.args.cubes.now c.args.runner.now c.reply.new.runner c.tidied.new.runner
-    (stays_further c.steps_law.ensures c.args.runner.now c.cubes.runner c.reply.new.runner c.cubes.invariant.stays
-    (stays_replied c.cube.result.now c.cubes.runner c.reply.new.runner c.in_ok-answer.answer c.in_ok-answer.ensures.replies))
-    c.in_err-left.field-0.0 _ c.from_residual-in_err-left.ensures.1 c.in_err-left.ensures
-
-pub returns-in_err-left-clause-out : goal.returns-in_err-left-clause-out
-returns-in_err-left-clause-out g c = c.in_err-left.ensures.out ∙ c.in_ok-answer.ensures.replies.out ∙ c.cubes.invariant.stays.out
-
 pub cubes-preserved : goal.cubes-preserved
 cubes-preserved g c =
-    let replied = stays_replied c.cube.result.now c.cubes.runner c.reply.new.runner c.in_ok-answer.answer c.in_ok-answer.ensures.replies in
-    let back = stays_back c.reply.new.runner c.tidied.new.runner c.in_ok-left.left c.in_ok-left.ensures in
-    let more = answers_more c.cubes.runner c.reply.new.runner c.args.cubes.now c.cubes.place (omega (arith, c.cubes-test.true, c.len-place-end.ensures)) c.cubes.answers
-    c.in_ok-answer.answer c.cubes.invariant.answers (rw (at_place c.args.cubes.now c.cubes.place c.cube.result.now c.cube.ensures) at c.in_ok-answer.ensures.replies) in
+    let own = c.in_ok-answer.ensures in
+    let within : c.cubes.place < length c.args.cubes.now = omega (arith, c.cubes-test.true, c.len-place-end.ensures) in
+    let replied = stays_replied c.cube-cube.result.now c.cubes.runner c.reply.new.runner c.in_ok-answer.answer own.replies in
+    let more = answers_more c.cubes.runner c.reply.new.runner c.args.cubes.now c.cubes.place within c.cubes.answers
+    c.in_ok-answer.answer c.cubes.invariant.answers (rw (at_place c.args.cubes.now c.cubes.place c.cube-cube.result.now c.cube-cube.ensures) at own.replies) in
     record {
-      finder = c.in_ok-answer.ensures.finder;
-      paid = cubes_back c.args.cubes.now (c.cubes.place + 1) c.args.runner.now c.reply.new.runner c.tidied.new.runner
-          (Ok c.in_ok-left.left) (cube_costs c.args.cubes.now c.args.runner.now c.cubes.runner c.reply.new.runner c.cubes.place
-          (omega (arith, c.cubes-test.true, c.len-place-end.ensures)) c.cubes.invariant.stays.goes c.cubes.invariant.paid None (rw (at_place c.args.cubes.now c.cubes.place c.cube.result.now c.cube.ensures) at c.in_ok-answer.ensures.costs))
-          c.in_ok-left.ensures;
-      stays = stays_further c.steps_law.ensures c.args.runner.now c.reply.new.runner c.tidied.new.runner
-          (stays_further c.steps_law.ensures c.args.runner.now c.cubes.runner c.reply.new.runner c.cubes.invariant.stays replied) back;
-      answers = subst (λ (l : List Answer). AnswersIn c.tidied.new.runner (take (c.cubes.place + 1) c.args.cubes.now) l)
-          (sym c.in_ok-push.ensures)
-          (answers_further c.reply.new.runner c.tidied.new.runner back.goes (take (c.cubes.place + 1) c.args.cubes.now)
-          (c.cubes.answers ++ c.in_ok-answer.answer ∷ []) more);
+      finder = own.finder;
+      reached = all_reached c.cubes.runner c.reply.new.runner own.nodes own.replies.out c.cubes.invariant.reached;
+      sums = own.sums;
+      paid = cube_costs c.args.cubes.now c.args.runner.now c.cubes.runner c.reply.new.runner c.cubes.place within
+          c.cubes.invariant.stays.goes c.cubes.invariant.paid None
+          (rw (at_place c.args.cubes.now c.cubes.place c.cube-cube.result.now c.cube-cube.ensures) at own.costs);
+      stays = stays_further c.steps_law.ensures c.args.runner.now c.cubes.runner c.reply.new.runner c.cubes.invariant.stays replied;
+      answers = subst (λ (l : List Answer). AnswersIn c.reply.new.runner (take (c.cubes.place + 1) c.args.cubes.now) l)
+          (sym c.in_ok-push.ensures) more;
     }
 
 pub returns-clause-replies : goal.returns-clause-replies
@@ -129,9 +141,9 @@ returns-clause-out g c = c.cubes.invariant.stays.out
 
 pub returns-in_err-answer-clause-costs : goal.returns-in_err-answer-clause-costs
 returns-in_err-answer-clause-costs g c =
-    cubes_handed c.args.cubes.now c.args.runner.now c.reply.new.runner c.in_err-answer.field-0.0 _ c.from_residual.ensures.1
+    cubes_handed c.args.cubes.now c.args.runner.now c.reply.new.runner c.in_err-answer.field-0.0 _ c.from_residual-in_err-answer.ensures.1
     (cube_short c.args.cubes.now c.args.runner.now c.cubes.runner c.reply.new.runner c.cubes.place (omega (arith, c.cubes-test.true, c.len-place-end.ensures))
-    c.cubes.invariant.stays.goes c.cubes.invariant.paid (Some c.in_err-answer.field-0.0) (rw (at_place c.args.cubes.now c.cubes.place c.cube.result.now c.cube.ensures) at c.in_err-answer.ensures.costs))
+    c.cubes.invariant.stays.goes c.cubes.invariant.paid (Some c.in_err-answer.field-0.0) (rw (at_place c.args.cubes.now c.cubes.place c.cube-cube.result.now c.cube-cube.ensures) at c.in_err-answer.ensures.costs))
 
 pub returns-in_err-push-clause-costs : goal.returns-in_err-push-clause-costs
 returns-in_err-push-clause-costs g c =
@@ -139,17 +151,7 @@ returns-in_err-push-clause-costs g c =
     (cubes_done c.args.cubes.now (c.cubes.place + 1) c.args.runner.now c.reply.new.runner (Some OutOfMemory)
     (omega (arith, c.cubes-test.true, c.len-place-end.ensures)) (λ is. let e : OutOfMemory ≡ NodeLimit = cc in cc)
     (cube_costs c.args.cubes.now c.args.runner.now c.cubes.runner c.reply.new.runner c.cubes.place (omega (arith, c.cubes-test.true, c.len-place-end.ensures))
-    c.cubes.invariant.stays.goes c.cubes.invariant.paid None (rw (at_place c.args.cubes.now c.cubes.place c.cube.result.now c.cube.ensures) at c.in_ok-answer.ensures.costs)))
-
-pub returns-in_err-left-clause-costs : goal.returns-in_err-left-clause-costs
-returns-in_err-left-clause-costs g c =
-    cubes_handed c.args.cubes.now c.args.runner.now c.tidied.new.runner c.in_err-left.field-0.0 _ c.from_residual-in_err-left.ensures.1
-    (cubes_done c.args.cubes.now (c.cubes.place + 1) c.args.runner.now c.tidied.new.runner (Some c.in_err-left.field-0.0)
-    (omega (arith, c.cubes-test.true, c.len-place-end.ensures)) (λ is. c.in_err-left.ensures.no_limit (error_is (Err c.in_err-left.field-0.0) NodeLimit is))
-    (cubes_back c.args.cubes.now (c.cubes.place + 1) c.args.runner.now c.reply.new.runner c.tidied.new.runner
-    (Err c.in_err-left.field-0.0) (cube_costs c.args.cubes.now c.args.runner.now c.cubes.runner c.reply.new.runner c.cubes.place
-    (omega (arith, c.cubes-test.true, c.len-place-end.ensures)) c.cubes.invariant.stays.goes c.cubes.invariant.paid None (rw (at_place c.args.cubes.now c.cubes.place c.cube.result.now c.cube.ensures) at c.in_ok-answer.ensures.costs))
-    c.in_err-left.ensures))
+    c.cubes.invariant.stays.goes c.cubes.invariant.paid None (rw (at_place c.args.cubes.now c.cubes.place c.cube-cube.result.now c.cube-cube.ensures) at c.in_ok-answer.ensures.costs)))
 
 pub returns-clause-costs : goal.returns-clause-costs
 returns-clause-costs g c =

@@ -1,7 +1,7 @@
 -- The literal is false, it is true, or it is forced.
 use Rattle.std.proofs.Common.{◌≡◌, ◌∙◌, List, ℤ, true, false, neg_ℤ, ap, refl, sym}
 use Rattle.lrat_rules.specs.Chain.{literals_of, with_literal}
-use Rattle.hint_chain.proofs.GreedyPasses.{literals_of-push}
+use Rattle.hint_chain.proofs.Sets.{literals_of-push}
 use Rattle.hint_chain.proofs.step.choose_literal.Goals as goal
 
 pub returns-then-is_among-clause-hints : goal.returns-then-is_among-clause-hints

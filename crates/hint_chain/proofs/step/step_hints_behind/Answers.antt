@@ -4,7 +4,7 @@ use Rattle.std.specs.Option.{option_map}
 use Rattle.lrat_rules.specs.Chain.{FalseSet, literals_of, with_literal}
 use Rattle.hint_chain.specs.Greedy.{greedy}
 use Rattle.hint_chain.specs.Step.{Spells, parts_in}
-use Rattle.hint_chain.proofs.GreedyPasses.{literals_of-push}
+use Rattle.hint_chain.proofs.Sets.{literals_of-push}
 use Rattle.hint_chain.proofs.StepHints.{behind_first}
 use Rattle.hint_chain.proofs.step.step_hints_behind.Goals as goal
 

@@ -6,6 +6,7 @@ use Rattle.std.proofs.lemmas.List.Folds.{list_all-append}
 use Rattle.cnf_base.specs.ProofText.{is_id}
 use Rattle.drat_checker.specs.Numbers.{has_number}
 use Rattle.lrat_from_drat.proofs.Started.{OwnSoFar, own-end, own-none, own-pass, own-push, zero-push}
+use Rattle.lrat_from_drat.proofs.Becoming.{below-end, below-pass, below-push}
 use Rattle.lrat_from_drat.proofs.start.tautologies.Goals as goal
 
 pub loop-number-init : goal.loop-number-init
@@ -14,6 +15,7 @@ loop-number-init c = record {
   range = ap (list_all is_id) c.new-ids.ensures;
   own = own-none c.args.judge.now c.new-ids.result c.new-ids.ensures;
   zero = ap (has_number 0) c.new-ids.ensures;
+  all = c.new-ids.ensures;
 }
 
 pub loop-number-preserved-then-not-dropped : goal.loop-number-preserved-then-not-dropped
@@ -25,6 +27,7 @@ loop-number-preserved-then-not-dropped c =
       range = so_far.range;
       own = own-pass c.args.judge.now c.loop-number.ids i so_far.own (sym c.in_ok-dropped.ensures.answer ∙ c.if-not-dropped.true);
       zero = so_far.zero;
+      all = below-pass c.args.judge.now c.loop-number.ids i so_far.all (sym c.in_ok-dropped.ensures.answer ∙ c.if-not-dropped.true);
     }
 
 pub loop-number-preserved : goal.loop-number-preserved
@@ -41,6 +44,8 @@ loop-number-preserved c =
           (own-push c.args.judge.now c.loop-number.ids i so_far.own (i + 1) refl
           (sym c.in_ok-dropped.ensures.answer ∙ c.if-not-dropped.false));
       zero = ap (has_number 0) pushed ∙ zero-push c.loop-number.ids i so_far.zero;
+      all = pushed
+          ∙ below-push c.args.judge.now c.loop-number.ids i so_far.all (sym c.in_ok-dropped.ensures.answer ∙ c.if-not-dropped.false);
     }
 
 pub returns-clause-dropped : goal.returns-clause-dropped
@@ -51,3 +56,8 @@ returns-clause-dropped c =
       own = own-end c.args.judge.now c.loop-number.ids c.loop-number.number past c.loop-number.invariant.own;
       zero = c.loop-number.invariant.zero;
     }
+
+pub returns-clause-all : goal.returns-clause-all
+returns-clause-all c =
+    let past : length c.args.judge.now ≤ c.loop-number.number = omega (arith, c.loop-number-test.false, c.requires) in
+    below-end c.args.judge.now c.loop-number.ids c.loop-number.number past c.loop-number.invariant.all

@@ -9,6 +9,7 @@ use Rattle.drat_proof.specs.declared.error.ConvertError.TheVariants.{OutOfMemory
 use Rattle.drat_checker.specs.Places.{standing}
 use Rattle.drat_checker.proofs.Standing.{place-within, remove-first, without-none}
 use Rattle.lrat_from_drat.specs.Writing.{Takes}
+use Rattle.lrat_from_drat.proofs.Becoming.{first-twin, no-twin}
 use Rattle.lrat_from_drat.proofs.Taken.{takes-deletion, takes-gone, takes-nothing}
 use Rattle.lrat_from_drat.proofs.take.delete_into.Goals as goal
 
@@ -16,7 +17,8 @@ pub returns-in-None-clause-takes : goal.returns-in-None-clause-takes
 returns-in-None-clause-takes g c =
     takes-nothing g.S.Sink.tells (g.S.Sink.channel c.args.sink.now) (g.S.Sink.channel c.args.sink.now) (equality_of c.args.deletions)
     c.args.judge.now c.args.judge.now c.args.clause.now
-    (sym (without-none (equality_of c.args.deletions) c.args.judge.now c.args.clause.now (c.in-None.ensures.none refl).absent)) refl refl
+    (sym (without-none (equality_of c.args.deletions) c.args.judge.now c.args.clause.now (c.in-None.ensures.none refl).absent))
+    (no-twin (equality_of c.args.deletions) c.args.clause.now c.args.judge.now (c.in-None.ensures.none refl)) refl refl
 
 pub clear-requires : goal.clear-requires
 clear-requires g c = place-within c.args.judge.now c.in-Some.number c.in-Some.ensures.found.own c.in-Some.ensures.found.stands
@@ -41,7 +43,8 @@ returns-then-gone-clause-takes g c =
     c.args.clause.now
     (ap standing c.clear.ensures
     ∙ remove-first same c.args.judge.now c.in-Some.number c.args.clause.now first.own first.stands first.twin first.least)
-    c.in-Some.number first.own first.stands c.clear.ensures (sym c.in_ok-gone-in-Some.ensures.gone ∙ c.if-gone.true) refl
+    c.in-Some.number first.own first.stands (first-twin same c.args.clause.now c.args.judge.now c.in-Some.number first) c.clear.ensures
+    (sym c.in_ok-gone-in-Some.ensures.gone ∙ c.if-gone.true) refl
 
 pub returns-else-gone-clause-takes : goal.returns-else-gone-clause-takes
 returns-else-gone-clause-takes g c =
@@ -51,7 +54,9 @@ returns-else-gone-clause-takes g c =
     c.clear.new.self c.args.clause.now
     (ap standing c.clear.ensures
     ∙ remove-first same c.args.judge.now c.in-Some.number c.args.clause.now first.own first.stands first.twin first.least)
-    c.in-Some.number first.own first.stands c.clear.ensures c.last_of-last.result c.id_of-id.result c.id_of-id.ensures.value
+    c.in-Some.number first.own first.stands (first-twin same c.args.clause.now c.args.judge.now c.in-Some.number first) c.clear.ensures
+    (sym c.in_ok-gone-in-Some.ensures.gone ∙ c.if-gone.false) c.last_of-last.result c.id_of-id.result
+    (c.last_of-last.ensures.value ∙ c.in_ok-count-in-Some.ensures) c.id_of-id.ensures.value
     (and_from _ _ (ap (λ n. nat_le n max_id) c.last_of-last.ensures.value ∙ c.last_of-last.ensures.range)
     (and_from _ _ (ap is_id c.id_of-id.ensures.value ∙ c.id_of-id.ensures.range) refl))
     c.write_deletion.result c.write_deletion.ensures.writes

@@ -2,7 +2,8 @@
 use Rattle.std.proofs.Common.{refl}
 use Rattle.host_io.specs.declared.role.Role.TheVariants.{Out}
 use Rattle.command_line.specs.Reading.{convert_of}
-use Rattle.solver_cli.proofs.StagedConversion.{converted, error_converted, error_unconverted, files_converted, files_unconverted, unconverted}
+use Rattle.solver_cli.proofs.StagedConversion.{converted, error_converted, error_unconverted, files_converted, files_unconverted}
+use Rattle.solver_cli.proofs.StagedConversion.{unconverted}
 use Rattle.solver_cli.proofs.program.convert.Goals as goal
 
 pub returns-in-Err-rewrite-clause-came : goal.returns-in-Err-rewrite-clause-came

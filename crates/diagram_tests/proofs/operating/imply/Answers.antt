@@ -1,6 +1,0 @@
--- What is left to show of `imply`.
-use Rattle.node_table.specs.HandedOn.{no_error}
-use Rattle.diagram_tests.proofs.operating.imply.Goals as goal
-
-pub returns-clause-fits : goal.returns-clause-fits
-returns-clause-fits c = c.in_ok-why.ensures.fits no_error
