@@ -7,10 +7,11 @@ class Bad(Exception):
 
 
 class Proof:
-    """The live clauses of a proof over a formula. A hint list is judged on the set of the literals that are false."""
+    """The live clauses of a proof over a formula. A hint list is judged on the set of the literals that are false. A proof that has to be
+    strict has no idle hint: each forces a literal that wasn't decided, but for the last one, which is the conflict."""
 
-    def __init__(self, clauses):
-        self.top, self.has_empty = len(clauses), False
+    def __init__(self, clauses, strict=False):
+        self.top, self.has_empty, self.strict = len(clauses), False, strict
         self.live, self.holders, self.ever = {}, collections.defaultdict(set), []
         for number, clause in enumerate(clauses, 1):
             self.keep(number, clause)
@@ -26,15 +27,20 @@ class Proof:
             self.holders[literal].discard(number)
 
     def conflicts(self, false, hints):
-        for hint in hints:
+        for at, hint in enumerate(hints, 1):
             if hint not in self.live:
                 raise Bad(f"clause {hint} is not live")
             rest = {literal for literal in self.live[hint] if literal not in false}
+            if self.strict and not rest and at < len(hints):
+                raise Bad(f"hints behind {hint}, which is the conflict")
             if not rest:
                 return True
             if len(rest) > 1:
                 raise Bad(f"clause {hint} is not unit")
-            false.add(-rest.pop())
+            literal = rest.pop()
+            if self.strict and -literal in false:
+                raise Bad(f"clause {hint} forces nothing new")
+            false.add(-literal)
         return False
 
     def add(self, number, clause, hints):
@@ -46,6 +52,8 @@ class Proof:
             if not clause:
                 raise Bad("no conflict")
             self.resolvents(clause[0], false, hints[first:])
+        elif self.strict and first < len(hints):
+            raise Bad("groups behind a conflict")
         self.top, self.has_empty = number, self.has_empty or not clause
         self.keep(number, clause)
 
@@ -57,6 +65,8 @@ class Proof:
         for candidate, own in groups:
             if candidate not in is_blocked:
                 raise Bad(f"group {candidate} is stray")
+            if self.strict and is_blocked[candidate] and own:
+                raise Bad(f"candidate {candidate} is blocked and has hints")
             others = {literal for literal in self.live[candidate] if literal != -pivot}
             if not is_blocked[candidate] and not self.conflicts(false | others, own):
                 raise Bad(f"candidate {candidate} is open")

@@ -9,7 +9,6 @@ use Rattle.node_table.specs.Diagram.{Graph, IsReduced, IsBelow, branch_at, branc
 use Rattle.node_table.specs.Diagram.{child_in}
 use Rattle.node_table.specs.Laws.{Cofactors}
 use Rattle.node_table.specs.Value.{Levels, value_of}
-use Rattle.clause_terms.specs.Recovery.{IsLeast}
 use Rattle.clause_terms.specs.Walk.{IsDown}
 
 -- a node that has a branch: its level, its children, and its value by them
@@ -117,25 +116,3 @@ high_step graph reduced a later first node b has down no_low on same =
       ];
       rest = λ i late small. same i small (λ e. omega (arith, e, late, below)) ∙ down.rest i (omega (arith, late, below, here)) small;
     }
-
--- at first all values are false
-pub start_down : (graph : Graph) (a : Levels) (first : Node) → is_node graph first ≡ true → first ≢ False
-    → ((i : ℕ) → i < levels graph → a i ≡ false) → level_of graph first ≤ levels graph → IsDown graph a first first
-start_down graph a first stands some off bottom = record {
-  stands = stands;
-  some = some;
-  leads = λ c agree. refl;
-  least = λ other holds level early agree on. absurd (let no : a level ≡ false = off level (omega (arith, early, bottom)) in cc);
-  rest = λ i late small. off i small;
-}
-
--- at the end the node is True
-pub down_is_least : (graph : Graph) (a : Levels) (first node : Node) → IsDown graph a first node → branch_of graph node ≡ None
-    → IsLeast (levels graph) (λ c. value_of graph c first) a
-down_is_least graph a first False down none = absurd (down.some refl)
-down_is_least graph a first True down none = record {
-  satisfies = down.leads a (λ i early. refl);
-  least = λ other holds level small agree on. down.least other holds level small agree on;
-}
-down_is_least graph a first (Inner key) down none = absurd (let some : is_some (branch_at graph key.index) ≡ true = down.stands in
-    let no : is_some (branch_at graph key.index) ≡ false = ap is_some none in cc)

@@ -14,9 +14,3 @@ pub mod ClauseParts
 pub mod MadeNodes
 pub mod LackedPart
 pub mod Handed
-pub mod CubeParts
-pub mod CubeNodes
-pub mod CubeOrder
-pub mod CubeStep
-pub mod CubeAdded
-pub mod CubeWhole

@@ -1,6 +1,5 @@
 pub mod Placed
 pub mod ClauseDiagram
-pub mod CubeDiagram
 pub mod Term
 pub mod Recovery
 pub mod Walk

@@ -1,11 +1,9 @@
 //! Terms: diagrams with the live clauses that prove them. A clause of the formula becomes the node of its function,
-//! whose unit clause is then live (`push_clause`). A cube becomes the node of its function, with the hints that lead to it from the clause
-//! that forbids it (`cube_node`). From a node the least assignment that makes it true is recovered, and
+//! whose unit clause is then live (`push_clause`). From a node the least assignment that makes it true is recovered, and
 //! with a trail of quantified variables (`Trail`) the values of these (`recover`). Both stand on the nodes of `node_table`;
 //! the hints of the unit are those of `hint_chain`.
 #![tactic(auto)]
 
-mod cube;
 mod model;
 mod order;
 mod placed;
@@ -14,7 +12,6 @@ mod step;
 mod term;
 mod trail;
 
-pub use cube::cube_node;
 pub use model::Model;
 pub use recovery::recover;
 pub use term::push_clause;

@@ -55,8 +55,8 @@ pub fn take_literal<S: Sink + Drop>(
     add_literal(table, &placed[i], below, path)
 }
 
-/// Whether the next literal is of the same variable.
-pub(crate) fn is_repeated(placed: &[Placed], i: usize) -> bool
+// Whether the next literal is of the same variable.
+fn is_repeated(placed: &[Placed], i: usize) -> bool
     requires { i < length placed.now }
     ensures same { IsTrue result → (d : PlacedValue) → (i + 1 < length placed.now)
         × ((slice_index_or placed.now i d).level ≡ (slice_index_or placed.now (i + 1) d).level) }

@@ -523,11 +523,6 @@ only_command _ = None
 abbrev pub command : List Text → Option Command
 command words = only_command (meanings words)
 
--- the mode in which they have the formula's file read
-abbrev pub mode_asked : Option Command → Mode
-mode_asked None = Strict
-mode_asked (Some asked) = mode_of asked
-
 -- the limits of their run
 abbrev pub limits_asked : Option Command → Limits
 limits_asked None = default_limits

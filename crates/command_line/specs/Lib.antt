@@ -1,3 +1,4 @@
 pub mod Parser
+pub mod Tables
 pub mod Command
 pub mod Reading

@@ -13,7 +13,7 @@ use dimacs_reader::Mode;
 use schedule_plan::Limits;
 
 /// The formula and the cubes over it, how far they are answered, and where the proof goes.
-#[derive(Drop)]
+#[derive(Clone, Copy)]
 pub struct AskTask<'a> {
     pub files: FileNames<'a>,
     /// The file of the cubes.

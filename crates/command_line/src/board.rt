@@ -5,14 +5,14 @@ ghost use Rattle.command_line.specs.Command.{Asks, IsSize, Misuse, bench_means, 
 ghost use Rattle.command_line.specs.Reading.{IsWithin, command_of, text_of};
 
 use crate::limits::{limits_among, number_within};
-use crate::mode::progress_among;
+use crate::mode::flag_among;
 use crate::part::{BoardText, part_named};
 use crate::words::Asked;
 use clap::ArgMatches;
 use schedule_plan::Limits;
 
 /// The board that is to be decided, by its column order and schedule, and how far.
-#[derive(Drop)]
+#[derive(Clone, Copy)]
 pub struct BenchTask<'a> {
     /// The squares a side.
     pub size: u32,
@@ -24,7 +24,7 @@ pub struct BenchTask<'a> {
 }
 
 /// The board that a text is made of, and which.
-#[derive(Drop)]
+#[derive(Clone, Copy)]
 pub struct MakeTask<'a> {
     /// The squares a side.
     pub size: u32,
@@ -45,7 +45,7 @@ pub fn bench_asked<'a>(values: &ArgMatches<'a>) -> Option<Asked<'a>>
     let size = size_among(values)?;
     let proof = values.get_str("proof")?;
     let limits = limits_among(values)?;
-    let progress = progress_among(values);
+    let progress = flag_among(values, "progress");
     Some(Asked::Bench(BenchTask {
         size,
         proof,

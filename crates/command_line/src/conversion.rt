@@ -1,7 +1,7 @@
 // Between which formats of proofs a conversion goes.
 
 /// From one format of proofs to the other.
-#[derive(Clone, Copy, Debug, PartialEq, Eq)]
+#[derive(Clone, Copy)]
 pub enum Conversion {
     /// From LRAT to DRAT.
     IntoDrat {

@@ -4,7 +4,7 @@ ghost use Rattle.command_line.specs.Command.{format_given, format_named, format_
 ghost use Rattle.command_line.specs.Reading.{text_of};
 
 /// A format of proofs, in text.
-#[derive(Clone, Copy, Debug, PartialEq, Eq)]
+#[derive(Clone, Copy)]
 pub enum ProofFormat {
     /// With hints (Cruz-Filipe, Heule, Hunt, Kaufmann, Schneider-Kamp 2017).
     Lrat,

@@ -2,11 +2,10 @@
 //! functions of the parser `clap`. No file is touched here; the layer above acts on the command.
 #![tactic(auto)]
 
-mod args;
+mod argument;
 mod ask;
-mod ask_parser;
 mod board;
-mod board_parser;
+mod commands;
 mod conversion;
 mod format;
 mod limits;
@@ -14,12 +13,11 @@ mod method;
 mod mode;
 mod names;
 mod order;
-mod order_parser;
 mod parser;
 mod part;
 mod plan;
 mod rewrite;
-mod rewrite_parser;
+mod subcommand;
 mod words;
 
 pub use ask::AskTask;

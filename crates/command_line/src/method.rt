@@ -3,7 +3,7 @@ ghost use Rattle.std.specs.Prelude.{◌≡◌};
 ghost use Rattle.command_line.specs.Command.{method_named};
 
 /// A method that finds an order.
-#[derive(Clone, Copy, Debug, PartialEq, Eq)]
+#[derive(Clone, Copy)]
 pub enum OrderMethod {
     /// Approximate minimum degree (Amestoy, Davis, Duff 1996).
     Degree,

@@ -1,7 +1,7 @@
 // The flags of the command line, and the mode in which a formula is read, by the flag `--lax`.
 ghost use Rattle.std.specs.Prelude.{◌≡◌};
-ghost use Rattle.clap.specs.Words.{found_of, rows_of};
-ghost use Rattle.command_line.specs.Command.{any_order_among, fresh_among, is_set, mode_given, parity_among, progress_among};
+ghost use Rattle.clap.specs.Words.{first_of, found_of, rows_of};
+ghost use Rattle.command_line.specs.Command.{is_set, mode_given};
 ghost use Rattle.command_line.specs.Reading.{text_of};
 
 use clap::ArgMatches;
@@ -18,32 +18,11 @@ pub fn mode_given(flag: Option<&str>) -> Mode
     }
 }
 
-/// Whether progress is told, among these values.
-pub fn progress_among(values: &ArgMatches<'_>) -> bool
-    ensures { result ≡ progress_among (rows_of (found_of values.now)) }
+/// Whether the flag of this name is among these values.
+pub fn flag_among(values: &ArgMatches<'_>, name: &str) -> bool
+    ensures { result ≡ is_set (first_of name.now (rows_of (found_of values.now))) }
 {
-    is_set(values.get_str("progress"))
-}
-
-/// Whether the deletions of a proof name sets of literals, among these values.
-pub fn any_order_among(values: &ArgMatches<'_>) -> bool
-    ensures { result ≡ any_order_among (rows_of (found_of values.now)) }
-{
-    is_set(values.get_str("any-order"))
-}
-
-/// Whether extension variables get fresh names, among these values.
-pub fn fresh_among(values: &ArgMatches<'_>) -> bool
-    ensures { result ≡ fresh_among (rows_of (found_of values.now)) }
-{
-    is_set(values.get_str("fresh"))
-}
-
-/// Whether parity equations are added up, among these values.
-pub fn parity_among(values: &ArgMatches<'_>) -> bool
-    ensures { result ≡ parity_among (rows_of (found_of values.now)) }
-{
-    is_set(values.get_str("parity"))
+    is_set(values.get_str(name))
 }
 
 /// Whether a flag is among the words, by the text that the parser gives it.

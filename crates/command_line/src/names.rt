@@ -8,7 +8,7 @@ ghost use Rattle.command_line.specs.Reading.{text_of};
 use clap::ArgMatches;
 
 /// The files that a command is given: the formula's, and the proof's.
-#[derive(Drop)]
+#[derive(Clone, Copy)]
 pub struct FileNames<'a> {
     pub formula: &'a str,
     pub proof: &'a str,

@@ -12,7 +12,7 @@ use clap::ArgMatches;
 use dimacs_reader::Mode;
 
 /// The formula whose variables are ordered, how, and where the order goes.
-#[derive(Drop)]
+#[derive(Clone, Copy)]
 pub struct OrderTask<'a> {
     /// The file of the formula.
     pub formula: &'a str,

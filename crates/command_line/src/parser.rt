@@ -1,18 +1,10 @@
-// The parser of the command line, with its texts of help.
-ghost use Rattle.std.specs.Prelude.{◌≡◌, IfOk, MatchResult, false};
-ghost use Rattle.clap.specs.Words.{app_of, shape_of, with_subcommand};
-ghost use Rattle.clap.specs.declared.Command.TheViews.{out-Command};
-ghost use Rattle.command_line.specs.Parser.{check_app, file_commands, first_commands, order_rules, plan_rules, program_app};
-ghost use Rattle.command_line.specs.Parser.{proof_commands, solve_app, the_app, with_rules};
+// The parser of the command line, with the program's texts of help.
+ghost use Rattle.std.specs.Prelude.{◌≡◌, IfOk};
+ghost use Rattle.clap.specs.Words.{app_of};
+ghost use Rattle.command_line.specs.Parser.{program_app, the_app};
 
-use crate::args::{
-    Texts, any_order_arg, command, flag_arg, formula_arg, lax_arg, option_arg, proof_arg,
-    proof_file_arg, with_limits, with_progress,
-};
-use crate::ask_parser::ask_parser;
-use crate::board_parser::{bench_parser, make_parser};
-use crate::order_parser::order_parser;
-use crate::rewrite_parser::{drat_parser, lrat_parser, trim_parser};
+use crate::commands::COMMANDS;
+use crate::subcommand::{Texts, command, with_commands};
 use clap::Command;
 use std::alloc::{AllocError, Global};
 
@@ -65,78 +57,11 @@ Examples:
   bddsat make board 8 --part cnf --out board.cnf",
 };
 
-const SOLVE: Texts<'static> = Texts {
-    about: "Decide FILE and write the proof to P",
-    usage: "\
-bddsat solve FILE --proof P [--lax] [--order F]
-                    [--search | --buckets F | --schedule F | --plan PLAN]
-                    [--parity] [--max-nodes N] [--max-ids N] [--cache N]
-                    [--progress]",
-    after: "\
-Example:
-  bddsat solve formula.cnf --search --proof formula.lrat",
-};
-
-const CHECK: Texts<'static> = Texts {
-    about: "Check the proof in PROOF that FILE is unsatisfiable",
-    usage: "\
-bddsat check FILE PROOF [--format FORMAT] [--any-order] [--lax]
-                    [--progress]",
-    after: "\
-Examples:
-  bddsat check formula.cnf formula.lrat
-  bddsat check formula.cnf formula.drat --format drat --any-order",
-};
-
-const PROOF_HELP: &str = "The proof, in LRAT or in textual DRAT";
-
-const FORMAT_HELP: &str = "lrat, or drat, which has no hints [default: lrat]";
-
-const SEARCH_HELP: &str = "Find both orders by trial runs; try this first";
-
-const ORDER_HELP: &str = "A file with the variables' order [default: 1, 2, ..]";
-
-const BUCKETS_HELP: &str = "A file with the order that the bucket plan goes by";
-
-const SCHEDULE_HELP: &str = "A file with the plan, as lines of commands c, a, q and e";
-
-const PLAN_HELP: &str = "bucket quantifies early, conjoin never [default: bucket]";
-
-const PARITY_HELP: &str = "Add up parity equations first; not with --search";
-
 /// The parser: one of nine commands after the program's name.
 pub fn parser<'a>(alloc: Global) -> Result<Command<'a>, AllocError>
     ensures { IfOk result (λ command. app_of command ≡ the_app) }
 {
-    let files = file_commands(alloc)?;
-    let bench = with_command(files, bench_parser(alloc))?;
-    with_command(bench, make_parser(alloc))
-}
-
-// The program's name with the commands about a formula's file.
-fn file_commands<'a>(alloc: Global) -> Result<Command<'a>, AllocError>
-    ensures { IfOk result (λ command. app_of command ≡ file_commands) }
-{
-    let trim = proof_commands(alloc)?;
-    let order = with_command(trim, order_parser(alloc))?;
-    with_command(order, ask_parser(alloc))
-}
-
-// The program's name with those of them that are about a proof's file too.
-fn proof_commands<'a>(alloc: Global) -> Result<Command<'a>, AllocError>
-    ensures { IfOk result (λ command. app_of command ≡ proof_commands) }
-{
-    let check = first_commands(alloc)?;
-    let drat = with_command(check, drat_parser(alloc))?;
-    let lrat = with_command(drat, lrat_parser(alloc))?;
-    with_command(lrat, trim_parser(alloc))
-}
-
-fn first_commands<'a>(alloc: Global) -> Result<Command<'a>, AllocError>
-    ensures { IfOk result (λ command. app_of command ≡ first_commands) }
-{
-    let solve = with_command(program(alloc), solve_parser(alloc))?;
-    with_command(solve, check_parser(alloc))
+    with_commands(alloc, program(alloc), &COMMANDS)
 }
 
 // The program's name, with the version.
@@ -144,65 +69,4 @@ fn program<'a>(alloc: Global) -> Command<'a>
     ensures { app_of result ≡ program_app }
 {
     command(alloc, "bddsat", ALL).version(VERSION)
-}
-
-// The command with this one behind its commands, where there was memory to make it.
-fn with_command<'a>(
-    command: Command<'a>,
-    made: Result<Command<'a>, AllocError>,
-) -> Result<Command<'a>, AllocError>
-    ensures { IfOk result (λ more. MatchResult made.entry (λ sub. (out-Command sub).has_globals ≡ false
-        → app_of more ≡ with_subcommand (app_of command.entry) (shape_of sub)) (λ error. ⊥)) }
-{
-    let made = made?;
-    command.subcommand(made)
-}
-
-fn solve_parser<'a>(alloc: Global) -> Result<Command<'a>, AllocError>
-    ensures app { IfOk result (λ command. app_of command ≡ solve_app) }
-    ensures local { IfOk result (λ command. (out-Command command).has_globals ≡ false) }
-{
-    let command = command(alloc, "solve", SOLVE)
-        .arg(formula_arg(alloc))?
-        .arg(proof_arg(alloc))?
-        .arg(lax_arg(alloc))?;
-    let command = with_orders(alloc, command)?;
-    let command = with_plans(alloc, command)?;
-    let command = with_limits(alloc, command)?;
-    with_progress(alloc, command)
-}
-
-// The command with the options of what gives its orders behind its arguments.
-fn with_orders<'a>(alloc: Global, command: Command<'a>) -> Result<Command<'a>, AllocError>
-    ensures app { IfOk result (λ more. app_of more ≡ with_rules (app_of command.entry) order_rules) }
-    ensures local { IfOk result (λ more. (out-Command more).has_globals ≡ (out-Command command.entry).has_globals) }
-{
-    command
-        .arg(flag_arg(alloc, "search", SEARCH_HELP))?
-        .arg(option_arg(alloc, "order", "F", ORDER_HELP))
-}
-
-// The command with the options of what gives its plan behind its arguments.
-fn with_plans<'a>(alloc: Global, command: Command<'a>) -> Result<Command<'a>, AllocError>
-    ensures app { IfOk result (λ more. app_of more ≡ with_rules (app_of command.entry) plan_rules) }
-    ensures local { IfOk result (λ more. (out-Command more).has_globals ≡ (out-Command command.entry).has_globals) }
-{
-    command
-        .arg(option_arg(alloc, "buckets", "F", BUCKETS_HELP))?
-        .arg(option_arg(alloc, "schedule", "F", SCHEDULE_HELP))?
-        .arg(option_arg(alloc, "plan", "PLAN", PLAN_HELP))?
-        .arg(flag_arg(alloc, "parity", PARITY_HELP))
-}
-
-fn check_parser<'a>(alloc: Global) -> Result<Command<'a>, AllocError>
-    ensures app { IfOk result (λ command. app_of command ≡ check_app) }
-    ensures local { IfOk result (λ command. (out-Command command).has_globals ≡ false) }
-{
-    let command = command(alloc, "check", CHECK)
-        .arg(formula_arg(alloc))?
-        .arg(proof_file_arg(alloc, PROOF_HELP))?
-        .arg(option_arg(alloc, "format", "FORMAT", FORMAT_HELP))?
-        .arg(any_order_arg(alloc))?
-        .arg(lax_arg(alloc))?;
-    with_progress(alloc, command)
 }

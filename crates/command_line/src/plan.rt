@@ -5,11 +5,11 @@ ghost use Rattle.clap.specs.Words.{found_of, rows_of};
 ghost use Rattle.command_line.specs.Command.{Found, plan_among, plan_given, plan_named, planned_with};
 ghost use Rattle.command_line.specs.Reading.{planned_of, text_of};
 
-use crate::mode::{is_set, parity_among};
+use crate::mode::{flag_among, is_set};
 use clap::ArgMatches;
 
 /// A plan that has a name.
-#[derive(Clone, Copy, Debug, PartialEq, Eq)]
+#[derive(Clone, Copy)]
 pub enum PlanName {
     /// Variables are quantified in their order, each as soon as all terms that hold it are conjoined.
     Bucket,
@@ -18,7 +18,7 @@ pub enum PlanName {
 }
 
 /// What gives a plan.
-#[derive(Drop)]
+#[derive(Clone, Copy)]
 pub enum PlanSource<'a> {
     /// Its name.
     Name(PlanName),
@@ -42,7 +42,7 @@ pub fn plan_among<'a>(values: &ArgMatches<'a>) -> Option<PlanSource<'a>>
         values.get_str("buckets"),
         is_set(values.get_str("search")),
     );
-    with_parity(plan, parity_among(values))
+    with_parity(plan, flag_among(values, "parity"))
 }
 
 // The same plan, unless it is to be found and parity equations are added up before it.

@@ -5,14 +5,14 @@ ghost use Rattle.command_line.specs.Command.{Asks, Misuse, drat_means, lrat_mean
 ghost use Rattle.command_line.specs.Reading.{IsWithin, command_of, rewrite_of, text_of};
 
 use crate::conversion::Conversion;
-use crate::mode::{any_order_among, fresh_among, mode_given};
+use crate::mode::{flag_among, mode_given};
 use crate::names::{FileNames, two_names};
 use crate::words::Asked;
 use clap::ArgMatches;
 use dimacs_reader::Mode;
 
 /// What is to be judged, and where the other proof goes.
-#[derive(Drop)]
+#[derive(Clone, Copy)]
 pub struct RewriteTask<'a> {
     /// The files that are read.
     pub files: FileNames<'a>,
@@ -23,7 +23,7 @@ pub struct RewriteTask<'a> {
 }
 
 /// What is to be judged and written in the other format, and where that goes.
-#[derive(Drop)]
+#[derive(Clone, Copy)]
 pub struct ConvertTask<'a> {
     /// The files that are read.
     pub files: FileNames<'a>,
@@ -40,7 +40,7 @@ pub fn drat_asked<'a>(values: &ArgMatches<'a>) -> Option<Asked<'a>>
         (λ asked. drat_means (rows_of (found_of values.now)) ≡ Asks (command_of asked)) }
     ensures within { IfSome result (λ asked. IsWithin (command_of asked)) }
 {
-    let fresh = fresh_among(values);
+    let fresh = flag_among(values, "fresh");
     convert_asked(values, Conversion::IntoDrat { fresh })
 }
 
@@ -49,7 +49,7 @@ pub fn lrat_asked<'a>(values: &ArgMatches<'a>) -> Option<Asked<'a>>
         (λ asked. lrat_means (rows_of (found_of values.now)) ≡ Asks (command_of asked)) }
     ensures within { IfSome result (λ asked. IsWithin (command_of asked)) }
 {
-    let any_order = any_order_among(values);
+    let any_order = flag_among(values, "any-order");
     convert_asked(values, Conversion::IntoLrat { any_order })
 }
 
@@ -70,7 +70,7 @@ fn convert_asked<'a>(values: &ArgMatches<'a>, into: Conversion) -> Option<Asked<
 }
 
 /// What is to be judged and trimmed, and where the trimmed proof and its core go.
-#[derive(Drop)]
+#[derive(Clone, Copy)]
 pub struct TrimTask<'a> {
     /// The files that are read.
     pub files: FileNames<'a>,

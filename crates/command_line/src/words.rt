@@ -14,7 +14,7 @@ use crate::ask::{AskTask, ask_asked};
 use crate::board::{BenchTask, MakeTask, bench_asked, make_asked};
 use crate::format::{ProofFormat, format_given};
 use crate::limits::limits_among;
-use crate::mode::{any_order_among, mode_given, parity_among, progress_among};
+use crate::mode::{flag_among, mode_given};
 use crate::names::{FileNames, names_among, two_names};
 use crate::order::{OrderTask, order_asked};
 use crate::parser::parser;
@@ -28,7 +28,7 @@ use schedule_plan::Limits;
 use std::alloc::Global;
 
 /// The command that a command line asks for.
-#[derive(Drop)]
+#[derive(Clone, Copy)]
 pub enum Asked<'a> {
     /// To decide a formula, and to write the proof.
     Solve(SolveTask<'a>),
@@ -49,7 +49,7 @@ pub enum Asked<'a> {
 }
 
 /// What is to be decided, by what and how far.
-#[derive(Drop)]
+#[derive(Clone, Copy)]
 pub struct SolveTask<'a> {
     pub files: FileNames<'a>,
     /// How the formula is read.
@@ -65,7 +65,7 @@ pub struct SolveTask<'a> {
 }
 
 /// What is to be judged.
-#[derive(Drop)]
+#[derive(Clone, Copy)]
 pub struct CheckTask<'a> {
     pub files: FileNames<'a>,
     /// The format of the proof.
@@ -197,8 +197,8 @@ fn solve_asked<'a>(values: &ArgMatches<'a>) -> Option<Asked<'a>>
     let order = values.get_str("order");
     let plan = plan_among(values)?;
     let limits = limits_among(values)?;
-    let progress = progress_among(values);
-    let parity = parity_among(values);
+    let progress = flag_among(values, "progress");
+    let parity = flag_among(values, "parity");
     Some(Asked::Solve(SolveTask {
         files,
         mode,
@@ -222,10 +222,10 @@ fn check_asked<'a>(values: &ArgMatches<'a>) -> Option<Asked<'a>>
         None,
         None,
     )?;
-    let any_order = any_order_among(values);
+    let any_order = flag_among(values, "any-order");
     let format = format_given(any_order, values.get_str("format"))?;
     let mode = mode_given(values.get_str("lax"));
-    let progress = progress_among(values);
+    let progress = flag_among(values, "progress");
     let files = FileNames { formula, proof };
     Some(Asked::Check(CheckTask {
         files,

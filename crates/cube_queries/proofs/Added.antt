@@ -26,9 +26,8 @@ use Rattle.node_table.specs.Tied.{KeepsClauses}
 use Rattle.node_table.specs.Value.{value_of}
 use Rattle.term_runner.specs.declared.held.HeldTerm.{HeldTerm}
 use Rattle.term_runner.specs.declared.runner.Runner.{Runner}
-use Rattle.term_runner.specs.Asked.{Asks}
 use Rattle.term_runner.specs.Counting.{Counting, IsPartOfOne}
-use Rattle.term_runner.specs.Derived.{GoesOn, none_of}
+use Rattle.term_runner.specs.Derived.{Refuses}
 use Rattle.term_runner.specs.Price.{IsMovePrice}
 use Rattle.term_runner.specs.Runner.{IsListed, IsRunner, holds_in, nodes_of}
 use Rattle.cube_queries.specs.declared.answer.Answer.{Answer}
@@ -111,37 +110,22 @@ module _ {S : Type 0} (old new : Runner S) where
   })
 
   -- a cube is refused
-  pub adds_refused : {T : Type 0} (held : HeldTerm) (cube : List ℤ) (r : Result T TableError) → Asks held cube old new (none_of r)
-      → GoesOn old new r → Adds 1 old new r
-  adds_refused held cube (Ok x) asks on = record {
-    goes_on = λ whole. asks.goes_on no_error;
-    out = asks.out;
-    nodes = on.nodes;
-    clauses = on.keeps;
-    top = on.top;
+  pub adds_refused : {T : Type 0} (held : HeldTerm) (cube : List ℤ) (r : Result T TableError) → Refuses held cube old new r
+      → Adds 1 old new r
+  adds_refused held cube r is = record {
+    goes_on = is.runner;
+    out = ap (λ (x : Runner S). x.terms.out.items) is.same;
+    nodes = is.goes_on.nodes;
+    clauses = is.goes_on.keeps;
+    top = is.goes_on.top;
     goes = record {
-      formula = asks.formula;
-      limits = asks.limits;
-      order = asks.nodes.order;
-      origin = asks.origin;
-      leaves = asks.leaves;
+      formula = ap (λ (x : Runner S). x.formula) is.same;
+      limits = ap (λ (x : Runner S). x.limits) is.same;
+      order = ap (λ (graph : Graph). graph.order) is.goes_on.nodes;
+      origin = is.origin;
+      leaves = is.leaves;
     };
-    no_limit = on.no_limit;
-  }
-  adds_refused held cube (Err e) asks on = record {
-    goes_on = λ whole. asks.goes_on (λ same. whole (ap Err (same_error same)));
-    out = asks.out;
-    nodes = on.nodes;
-    clauses = on.keeps;
-    top = on.top;
-    goes = record {
-      formula = asks.formula;
-      limits = asks.limits;
-      order = asks.nodes.order;
-      origin = asks.origin;
-      leaves = asks.leaves;
-    };
-    no_limit = on.no_limit;
+    no_limit = is.goes_on.no_limit;
   }
 
   -- a cube is answered

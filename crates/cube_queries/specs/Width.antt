@@ -4,19 +4,22 @@
 -- Proofs with a BDD-Based SAT Solver, 2021, section 5.)
 use Rattle.std.specs.Prelude.{◌⊎◌, ◌≤◌, ◌+◌, ◌*◌, ◌&&◌, ℕ, Bool, ℤ, List, [], ◌∷◌, length, Contains}
 use Rattle.std.specs.List.{list_all}
+use Rattle.cnf_base.specs.Cube.{cube_holds}
 use Rattle.cnf_base.specs.Formula.{Formula}
 use Rattle.cnf_base.specs.Truth.{clause_holds}
 use Rattle.lrat_rules.specs.State.{State}
 use Rattle.node_table.specs.Value.{Levels}
-use Rattle.clause_terms.specs.CubeDiagram.{cube_function}
 use Rattle.clause_terms.specs.Term.{by_variable}
 use Rattle.schedule_plan.specs.Plan.{conjoin}
 use Rattle.term_runner.specs.Counting.{IsPartOfOne}
 use Rattle.term_runner.specs.Width.{AreMore, IsWider}
 
--- whether all clauses hold, and whether the literals of a cube do beside them, by levels
+-- whether all clauses hold, whether the literals of a cube do, and both, by levels
 abbrev pub formula_function : Formula → List ℕ → Levels → Bool
 formula_function formula order a = list_all (clause_holds (by_variable order a)) formula.clauses
+
+abbrev pub cube_function : List ℕ → List ℤ → Levels → Bool
+cube_function order cube a = cube_holds (by_variable order a) cube
 
 abbrev pub both_function : Formula → List ℕ → List ℤ → Levels → Bool
 both_function formula order cube a = cube_function order cube a && formula_function formula order a

@@ -1,5 +1,5 @@
 -- What two calls say together of the answer: the second decides it, of the bytes that follow those of the first.
-use Rattle.std.proofs.Common.{◌≡◌, ℕ, false, List, ◌++◌, None, Result, Ok, Err, refl, sym, ◌∙◌, ap, subst}
+use Rattle.std.proofs.Common.{◌≡◌, ℕ, false, List, ◌++◌, Option, None, Result, Ok, Err, refl, sym, ◌∙◌, ap, subst}
 use Rattle.std.specs.Result.{IsErrAnd}
 use Rattle.std.specs.Prelude.{codes}
 use Rattle.host_io.specs.Channel.{Channel}
@@ -13,6 +13,7 @@ use Rattle.text_scan.specs.declared.scanner.ScanError.{ScanError}
 use Rattle.text_scan.specs.declared.scanner.ScanError.TheVariants.{ReadFault as ScanFault, TooLong as ScanTooLong}
 use Rattle.dimacs_reader.specs.declared.error.CnfError.{CnfError}
 use Rattle.dimacs_reader.specs.declared.error.CnfError.TheVariants.{Refused, ReadFault, TooLong, OutOfMemory}
+use Rattle.dimacs_reader.specs.declared.error.CnfKind.{CnfKind}
 use Rattle.dimacs_reader.specs.declared.mode.Mode.{Mode}
 use Rattle.dimacs_reader.specs.Answers.{Answers, error_of}
 use Rattle.dimacs_reader.specs.Body.{Takes, Passes, pass_none, pass_one}
@@ -74,3 +75,19 @@ passes_same {mode} {count} (pass_one {word} {items} {draft} before good) =
 pub undecided_behind : {a b c : Channel} {P Q : List ℕ → List ℕ → Type 0} (text rest : List ℕ → CnfText) → Decides a b P → Decides b c Q
     → ((more : List ℕ) → text (gained a b ++ more) ≡ rest more) → rest (gained b c) ≡ overlong → text (gained a c) ≡ overlong
 undecided_behind {b = b} {c = c} text rest first second front last = ap text (gained-then first second) ∙ front (gained b c) ∙ last
+
+-- which answers stand for a failed read, and which for want of memory
+pub fault_of_scan : (e : ScanError) → error_of e ≡ ReadFault → e ≡ ScanFault
+fault_of_scan ScanFault is = refl
+fault_of_scan ScanTooLong is = cc
+
+pub scan_wants_none : (e : ScanError) → error_of e ≡ OutOfMemory → ⊥
+scan_wants_none ScanFault is = cc
+scan_wants_none ScanTooLong is = cc
+
+pub taken_no_fault : (e : CnfError) (offence : Option CnfKind) (line : ℕ) (with new : Draft)
+    → Takes {T = Unit {0}} (Err e) offence line with new → e ≡ ReadFault → ⊥
+taken_no_fault (Refused kind at) offence line with new takes is = cc
+taken_no_fault ReadFault offence line with new takes is = absurd takes
+taken_no_fault TooLong offence line with new takes is = absurd takes
+taken_no_fault OutOfMemory offence line with new takes is = cc

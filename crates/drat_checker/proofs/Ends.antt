@@ -5,7 +5,7 @@ use Rattle.std.specs.Prelude.{IsTrue, IsFalse}
 use Rattle.drat_rules.specs.Quiet.{has_quiet}
 use Rattle.drat_checker.specs.declared.addition.Refutation.TheVariants.{Conflict}
 use Rattle.drat_checker.specs.Places.{Places}
-use Rattle.drat_checker.specs.Reasons.{IsFalsified, Refutes}
+use Rattle.drat_checker.specs.Reasons.{AreFree, IsFalsified, Refutes}
 use Rattle.drat_checker.specs.Propagation.{IsClosed, SameQuiet}
 use Rattle.drat_checker.specs.Trail.{IsApart, Trail}
 use Rattle.drat_checker.proofs.Propagated.{NoneLaw, FailsLaw, ended, refuted, same-then}
@@ -23,6 +23,6 @@ some-map None = refl
 some-map (Some number) = refl
 
 pub refuted-by : (places : Places) (trail : Trail) (assumed : List ℤ) (o : Option ℕ) → IfSome o (IsFalsified places trail.literals)
-    → IfSome (option_map Conflict o) (Refutes places trail assumed)
-refuted-by places trail assumed None h = tt
-refuted-by places trail assumed (Some number) h = h
+    → AreFree trail.literals assumed → IfSome (option_map Conflict o) (Refutes places trail assumed)
+refuted-by places trail assumed None h free = tt
+refuted-by places trail assumed (Some number) h free = (h, free)

@@ -12,6 +12,7 @@ use Rattle.std.proofs.lemmas.List.Folds.{list_any-append, list_all-append, list_
 use Rattle.lrat_rules.specs.Chain.{FalseSet, literals_of}
 use Rattle.lrat_rules.specs.Trail.{with_last}
 use Rattle.drat_checker.specs.Propagation.{Clashes}
+use Rattle.drat_checker.specs.Reasons.{AreFree}
 use Rattle.drat_checker.specs.Trail.{IsApart}
 
 pub int_eq-true : (x y : ℤ) → int_eq x y ≡ true → x ≡ y
@@ -135,6 +136,41 @@ all-filter q p (x ∷ xs) =
       | true ↦ ap (λ b. q x && b) (all-filter q p xs)
       | false ↦ all-filter q p xs
     ]
+
+-- a literal that is left is one that passes
+and_none : (b : Bool) → false ≡ (b && false)
+and_none true = refl
+and_none false = refl
+
+pub of-filter : (p : ℤ → Bool) (xs : List ℤ) (x : ℤ) → literals_of (filter p xs) x ≡ (p x && literals_of xs x)
+of-filter p [] x = and_none (p x)
+of-filter p (y ∷ ys) x =
+    elim (int_eq x y) as (λ b. int_eq x y ≡ b
+    → literals_of (cond (p y) (y ∷ filter p ys) (filter p ys)) x ≡ (p x && (b || literals_of ys x))) [
+      | true ↦ λ same.
+          elim (p y) as (λ c. p x ≡ c → literals_of (cond c (y ∷ filter p ys) (filter p ys)) x ≡ (p x && true)) [
+            | true ↦ λ e. or_left _ _ same ∙ sym (ap (λ b. b && true) e)
+            | false ↦ λ e. of-filter p ys x ∙ ap (λ b. b && literals_of ys x) e ∙ sym (ap (λ b. b && true) e)
+          ] (ap p (int_eq-true x y same))
+      | false ↦ λ other.
+          elim (p y) as (λ c. literals_of (cond c (y ∷ filter p ys) (filter p ys)) x ≡ (p x && literals_of ys x)) [
+            | true ↦ ap (λ b. b || literals_of (filter p ys) x) other ∙ of-filter p ys x
+            | false ↦ of-filter p ys x
+          ]
+    ] refl
+
+-- where none stands beside its negation, none is the negation of one of them
+pub free-held : (literals xs : List ℤ) → IsApart literals → list_all (literals_of literals) xs ≡ true → AreFree literals xs
+free-held literals xs apart all = record {
+  free = λ x m.
+      false_from_ne_true _ (λ there.
+      both_ways (literals_of literals (neg_ℤ x)) (apart.apart x m) (at_member (literals_of literals) xs (neg_ℤ x) all there));
+}
+
+pub free-both : (literals xs ys : List ℤ) → AreFree literals xs → AreFree literals ys → AreFree literals (xs ++ ys)
+free-both literals xs ys f g = record {
+  free = λ x m. list_any-append (int_eq (neg_ℤ x)) xs ys ∙ or_from _ _ (f.free x m) (g.free x m);
+}
 
 -- a set has the literals that are false now exactly where it has those at the start and these
 abbrev pub HasSoFar : List ℤ → List ℤ → List ℤ → FalseSet → Type 0

@@ -1,28 +1,32 @@
--- Hints from a conflict back close: each step back needs the literals of one clause more.
-use Rattle.std.proofs.Common.{◌≡◌, ℕ, zero, suc, ◌+◌, ◌<◌, Bool, true, false, cond, not, ◌||◌, ◌⊎◌, ℤ, pos, neg_ℤ, int_eq}
-use Rattle.std.proofs.Common.{List, [], ◌∷◌, ◌++◌, length, take, drop, reverse}
+-- Hints from a conflict back refute, and each is needed: each step back needs the literals of one clause more.
+use Rattle.std.proofs.Common.{◌≡◌, ℕ, zero, suc, ◌+◌, ◌<◌, ◌≤◌, Bool, true, false, cond, not, ◌||◌, ◌⊎◌, ℤ, pos, neg_ℤ, int_eq}
+use Rattle.std.proofs.Common.{List, [], ◌∷◌, ◌++◌, length, take, drop, reverse, IfSome, Option}
 use Rattle.std.proofs.Common.{get_or, None, Some, if◌then◌else◌, inl, inr, refl, sym, ap, ◌∙◌, subst, arith}
-use Rattle.std.specs.List.{list_any, list_all}
+use Rattle.std.proofs.Common.{append_assoc}
+use Rattle.std.specs.List.{list_any, list_all, filter}
 use Rattle.std.proofs.Math.IntN.{neg_ℤ-neg_ℤ}
 use Rattle.std.proofs.lemmas.Bool.{and_parts, and_from, or_cases, or_left, or_right, both_ways, false_from_ne_true}
-use Rattle.std.proofs.lemmas.List.{reverse-append, take_all, take_more, take-append-drop}
+use Rattle.std.proofs.lemmas.List.Elements.{filter_more}
+use Rattle.std.proofs.lemmas.List.{append-nil, reverse-append, take_all, take_more, take-append-drop, take-take}
 use Rattle.std.proofs.lemmas.List.Folds.{list_all-append, list_any-append}
 use Rattle.lrat_rules.specs.declared.outcome.Effect.{Effect}
 use Rattle.lrat_rules.specs.declared.outcome.Effect.TheVariants.{Conflict, Unit as Forced, NotUnit}
-use Rattle.cnf_base.specs.ProofText.{is_id}
+use Rattle.cnf_base.specs.ProofText.{is_empty, is_id}
 use Rattle.lrat_rules.specs.State.{Live, clause_at}
-use Rattle.lrat_rules.specs.Chain.{Closed, FalseSet, Outcome, after_effect, after_hint, chain, effect, effect_of_outside, literals_of}
-use Rattle.lrat_rules.specs.Chain.{outside, with_literal}
+use Rattle.lrat_rules.specs.Chain.{FalseSet, effect, effect_of_outside, literals_of, outside, with_literal}
+use Rattle.lrat_rules.specs.Strict.{is_strict, is_strict_effect, is_strict_hint}
 use Rattle.lrat_rules.specs.Trail.{with_last}
 use Rattle.drat_checker.specs.declared.flags.Flags.{Flags}
 use Rattle.drat_checker.specs.Flags.{is_set}
 use Rattle.drat_checker.specs.Places.{Place, Places, place_at}
 use Rattle.drat_checker.specs.Propagation.{makes_false}
 use Rattle.drat_checker.specs.Trail.{AreOnce, IsApart, Trail}
-use Rattle.drat_checker.specs.Reasons.{AreReasons, ClashesAt, HasReason, IsFalsified, is_reason, place_forces}
-use Rattle.drat_checker.specs.Hints.{AreLive, AreMarks, IsConflict, Refute, RefuteSoFar, is_tautology, pending, plain}
+use Rattle.drat_checker.specs.declared.hints.FirstConflict.{FirstConflict}
+use Rattle.drat_checker.specs.Reasons.{AreFree, AreReasons, ClashesAt, IsFalsified, is_reason, place_forces}
+use Rattle.drat_checker.specs.Hints.{AreLive, AreMarks, ClashesAssumed, HasSame, IsConflict, IsFirstClash, IsFirstConflict, IsForcedAt}
+use Rattle.drat_checker.specs.Hints.{IsStart, NoneClashes, Refute, RefuteSoFar, is_tautology, plain, untaken}
 use Rattle.drat_checker.proofs.FalseSets.{all_members, at_member, eq-int_eq, int_eq-true}
-use Rattle.drat_checker.proofs.Guarded.{all-false, forced-held, last-forced}
+use Rattle.drat_checker.proofs.Guarded.{forced-held, last-forced}
 use Rattle.drat_checker.proofs.Settled.{front-false}
 use Rattle.drat_checker.proofs.Trails.{literals_of-last}
 
@@ -139,7 +143,7 @@ at-any literals k within =
     ∙ list_any-append (int_eq (get_or literals k (pos 0))) (take k literals) (drop k literals)
     ∙ or_right (literals_of (take k literals) (get_or literals k (pos 0))) _ (at-place literals k within)
 
-new-at : (literals : List ℤ) → AreOnce literals → (k : ℕ) → k < length literals
+pub new-at : (literals : List ℤ) → AreOnce literals → (k : ℕ) → k < length literals
     → literals_of (take k literals) (get_or literals k (pos 0)) ≡ false
 new-at literals once k within =
     false_from_ne_true _ (λ there. both_ways _ (once.once k (get_or literals k (pos 0)) there) (at-place literals k within))
@@ -173,25 +177,21 @@ none-outside n (z ∷ zs) all =
 
 -- one hint
 module _ (live : Live) (n : FalseSet) (hint : ℕ) (hints : List ℕ) (clause : List ℤ) (at : clause_at live hint ≡ Some clause) where
-  abbrev later : FalseSet → Outcome
-  later m = chain live m hints
+  abbrev later : FalseSet → Bool
+  later m = is_strict live m hints
 
-  of-effect : (e : Effect) → effect n clause ≡ e → after_effect n later e ≡ Closed → chain live n (hint ∷ hints) ≡ Closed
-  of-effect e is h = ap (after_hint n later) at ∙ ap (after_effect n later) is ∙ h
+  pub of-effect : (e : Effect) → effect n clause ≡ e → is_strict_effect n (is_empty hints) later e ≡ true
+      → is_strict live n (hint ∷ hints) ≡ true
+  of-effect e is h = ap (is_strict_hint n (is_empty hints) later) at ∙ ap (is_strict_effect n (is_empty hints) later) is ∙ h
 
-  pub hint-closes : (y : ℤ) → list_all (λ z. int_eq z y || n z) clause ≡ true → n y ≡ true → chain live n (hint ∷ hints) ≡ Closed
-  hint-closes y all own = of-effect Conflict (all-false n y clause all own) refl
+  pub hint-forces : (y : ℤ) → list_all (λ z. int_eq z y || n z) clause ≡ true → literals_of clause y ≡ true → n y ≡ false
+      → n (neg_ℤ y) ≡ false → is_strict live (with_literal (neg_ℤ y) n) hints ≡ true → is_strict live n (hint ∷ hints) ≡ true
+  hint-forces y all held own new h = of-effect (Forced y) (last-forced n y clause all held own) (and_from _ _ (ap not new) h)
 
-  pub hint-forces : (y : ℤ) → list_all (λ z. int_eq z y || n z) clause ≡ true → literals_of clause y ≡ true
-      → chain live (with_literal (neg_ℤ y) n) hints ≡ Closed → chain live n (hint ∷ hints) ≡ Closed
-  hint-forces y all held h =
-      elim (n y) as (λ b. n y ≡ b → chain live n (hint ∷ hints) ≡ Closed) [
-        | true ↦ λ own. hint-closes y all own
-        | false ↦ λ own. of-effect (Forced y) (last-forced n y clause all held own) h
-      ] refl
-
-  pub hint-false : list_all n clause ≡ true → chain live n (hint ∷ hints) ≡ Closed
-  hint-false all = of-effect Conflict (ap effect_of_outside (none-outside n clause all)) refl
+pub hint-false : (live : Live) (n : FalseSet) (hint : ℕ) (clause : List ℤ) → clause_at live hint ≡ Some clause → list_all n clause ≡ true
+    → is_strict live n (hint ∷ []) ≡ true
+hint-false live n hint clause at all =
+    of-effect live n hint [] clause at Conflict (ap effect_of_outside (none-outside n clause all)) refl
 
 -- what numbers pass, they pass with one more, and turned
 all-last-number : (p : ℕ → Bool) (xs : List ℕ) (x : ℕ) → list_all p xs ≡ true → p x ≡ true → list_all p (xs ++ x ∷ []) ≡ true
@@ -204,114 +204,163 @@ all-turned p (x ∷ xs) all =
     ap (list_all p) (reverse-append (x ∷ []) xs) ∙ all-last-number p (reverse xs) x (all-turned p xs parts.1) parts.0
 
 -- the conflict alone
-pub refute-start : (places : Places) (trail : Trail) (number : ℕ) (needed : FalseSet) (place : ℕ) → place ≡ length trail.literals
-    → ((clause : List ℤ) → place_at places number ≡ Some clause → (x : ℤ) → literals_of clause x ≡ true → needed x ≡ true)
-    → is_id (number + 1) ≡ true → RefuteSoFar places trail number place needed ((number + 1) ∷ [])
-refute-start places trail number needed place is has id = record {
-  ids = and_from _ _ id refl;
-  closes = λ live assumed n are reasons conflict all front.
-      let clause = conflict.clause in
-      let in_front : (x : ℤ) → literals_of trail.literals x ≡ true → literals_of (take place trail.literals) x ≡ true = λ x m.
-      ap (λ (l : List ℤ). literals_of l x) (take_all place trail.literals (omega (arith, is))) ∙ m in
-      hint-false live n (number + 1) [] clause (live-at live places are number clause conflict.stands conflict.plain)
-      (all_members n clause (λ x m.
-      elim (or_cases (literals_of trail.literals x) (literals_of assumed x)
-      (at_member (λ z. literals_of trail.literals z || literals_of assumed z) clause x conflict.falsified m)) [
-        | inl false_now ↦ front x (in_front x false_now) (has clause conflict.stands x m)
-        | inr given ↦ at_member n assumed x all given
-      ]));
-}
+pub refute-start : (places : Places) (trail : Trail) (given : List ℤ) (first : FirstConflict) (left needed : FalseSet) (found : List ℕ)
+    → ((x : ℤ) → literals_of (take first.count trail.literals) x ≡ true → left x ≡ true)
+    → ((clause : List ℤ) → place_at places first.number ≡ Some clause → (x : ℤ) → literals_of clause x ≡ true → needed x ≡ true)
+    → is_id (first.number + 1) ≡ true → found ≡ (first.number + 1) ∷ [] → RefuteSoFar places trail given first left needed found
+refute-start places trail given first left needed found whole has id is =
+    subst (RefuteSoFar places trail given first left needed) (sym is) (record {
+      ids = and_from _ _ id refl;
+      strict = λ live assumed n are start all front bounded.
+          let conflict = start.conflict.conflict in
+          let clause = conflict.clause in
+          hint-false live n (first.number + 1) clause (live-at live places are first.number clause conflict.stands conflict.plain)
+          (all_members n clause (λ x m.
+          elim (or_cases (literals_of (take first.count trail.literals) x) (literals_of assumed x)
+          (at_member (λ z. literals_of (take first.count trail.literals) z || literals_of assumed z) clause x conflict.falsified m)) [
+            | inl there ↦ front x (whole x there) (has clause conflict.stands x m)
+            | inr own ↦ at_member n assumed x all own
+          ]));
+    })
 
--- one place back: its literal isn't needed, or it is
+-- a literal of a front
+pub at-front : (literals : List ℤ) (k count : ℕ) → k < count → k < length literals
+    → literals_of (take count literals) (get_or literals k (pos 0)) ≡ true
+at-front [] k count before within = absurd (omega (arith, within))
+at-front (x ∷ xs) k zero before within = absurd (omega (arith, before))
+at-front (x ∷ xs) zero (suc count) before within = or_left _ _ (eq-int_eq x x refl)
+at-front (x ∷ xs) (suc k) (suc count) before within =
+    or_right (int_eq (get_or xs k (pos 0)) x) _ (at-front xs k count (omega (arith, before)) (omega (arith, within)))
+
+pub front-front : (literals : List ℤ) (k count : ℕ) → k ≤ count → (x : ℤ) → literals_of (take k literals) x ≡ true
+    → literals_of (take count literals) x ≡ true
+front-front literals k count within x m =
+    front-false (take count literals) k x (ap (λ (l : List ℤ). literals_of l x) (take-take k count literals within) ∙ m)
+
+-- One place back: its literal is assumed or isn't needed, or a clause forced it.
 or-last : (b : Bool) → (b || false) ≡ true → b ≡ true
 or-last true h = h
 or-last false h = h
 
-module _ (places : Places) (trail : Trail) (number place : ℕ) (within : place < length trail.literals) where
-  abbrev own : ℤ
-  own = get_or trail.literals place (pos 0)
+module _ (places : Places) (trail : Trail) (given : List ℤ) (first : FirstConflict) (place : ℕ) (before : place < first.count)
+    (within : place < length trail.literals) (left left' : FalseSet)
+    (split : (z : ℤ) → left z ≡ true → (z ≡ get_or trail.literals place (pos 0)) ⊎ (left' z ≡ true))
+    (more : (z : ℤ) → left' z ≡ true → left z ≡ true) (needed needed' : FalseSet) (kept : (z : ℤ) → needed z ≡ true → needed' z ≡ true)
+  where
+    abbrev own : ℤ
+    own = get_or trail.literals place (pos 0)
 
-  abbrev before : List ℤ
-  before = take place trail.literals
+    abbrev front : List ℤ
+    front = take place trail.literals
 
-  one-more : (x : ℤ) → literals_of (take (place + 1) trail.literals) x ≡ true → (literals_of before x || (int_eq x own || false)) ≡ true
-  one-more x m =
-      sym (list_any-append (int_eq x) before (own ∷ []))
-      ∙ ap (λ (l : List ℤ). literals_of l x) (sym (take_more trail.literals place (pos 0) within)) ∙ m
+    still-bounded : (assumed : List ℤ) (n : FalseSet) → ((x : ℤ) → n x ≡ true → (literals_of assumed x || left' x) ≡ true)
+        → (x : ℤ) → n x ≡ true → (literals_of assumed x || left x) ≡ true
+    still-bounded assumed n bounded x m =
+        elim (or_cases (literals_of assumed x) (left' x) (bounded x m)) [
+          | inl a ↦ or_left _ _ a
+          | inr l ↦ or_right (literals_of assumed x) _ (more x l)
+        ]
 
-  -- what a set has of the literals before, and of this one, it has of all of them
-  has-more : (n needed : FalseSet) → ((x : ℤ) → literals_of before x ≡ true → needed x ≡ true → n x ≡ true)
-      → (needed own ≡ true → n own ≡ true)
-      → (x : ℤ) → literals_of (take (place + 1) trail.literals) x ≡ true → needed x ≡ true → n x ≡ true
-  has-more n needed front here x m need =
-      elim (or_cases (literals_of before x) _ (one-more x m)) [
-        | inl earlier ↦ front x earlier need
-        | inr last ↦
-            let is : x ≡ own = int_eq-true x own (or-last (int_eq x own) last) in
-            ap n is ∙ here (ap needed (sym is) ∙ need)
-      ]
+    pub step-idle : (found : List ℕ)
+        → ((assumed : List ℤ) → IsStart places trail given assumed first → needed own ≡ true → literals_of assumed own ≡ true)
+        → RefuteSoFar places trail given first left needed found → RefuteSoFar places trail given first left' needed' found
+    step-idle found idle so_far = record {
+      ids = so_far.ids;
+      strict = λ live assumed n are start all has bounded.
+          so_far.strict live assumed n are start all (λ z there need.
+          elim (split z there) [
+            | inl is ↦ at_member n assumed z all (ap (literals_of assumed) is ∙ idle assumed start (ap needed (sym is) ∙ need))
+            | inr still ↦ has z still (kept z need)
+          ]) (still-bounded assumed n bounded);
+    }
 
-  pub refute-pass : (needed : FalseSet) (found : List ℕ) → needed own ≡ false
-      → RefuteSoFar places trail number (place + 1) needed found → RefuteSoFar places trail number place needed found
-  refute-pass needed found unneeded so_far = record {
-    ids = so_far.ids;
-    closes = λ live assumed n are reasons conflict all front.
-        so_far.closes live assumed n are reasons conflict all
-        (has-more n needed front (λ need. absurd (both_ways (needed own) unneeded need)));
-  }
+    pub step-forced : IsApart trail.literals → AreOnce trail.literals → left own ≡ true → left' own ≡ false
+        → ((z : ℤ) → left' z ≡ true → literals_of trail.literals z ≡ true) → (found found' : List ℕ) (reason : ℕ)
+        → IsForcedAt trail given place reason → found' ≡ found ++ (reason + 1) ∷ [] → is_id (reason + 1) ≡ true
+        → ((clause : List ℤ) → place_at places reason ≡ Some clause → (z : ℤ) → literals_of clause z ≡ true → needed' z ≡ true)
+        → ((clause : List ℤ) → place_at places reason ≡ Some clause → (z : ℤ) → literals_of clause z ≡ true → literals_of front z ≡ true
+        → left' z ≡ true)
+        → RefuteSoFar places trail given first left needed found → RefuteSoFar places trail given first left' needed' found'
+    step-forced apart once here gone inside found found' reason why is id has_all still so_far = record {
+      ids = ap (list_all is_id) is ∙ all-last-number is_id found (reason + 1) so_far.ids id;
+      strict = λ live assumed n are start all has bounded.
+          let forced : IsForced places front own reason =
+          forced-at places front own reason (ap (is_reason places assumed front own) (sym why.reason) ∙ start.reasons.reason place within) in
+          let y = forced.literal in
+          let is_own : neg_ℤ y ≡ own = sym forced.negates in
+          let fails : is_tautology forced.clause ≡ false =
+          plain-reason trail.literals apart once place within forced.clause y forced.negates forced.forces in
+          let others : list_all (λ z. int_eq z y || literals_of front z) forced.clause ≡ true =
+          forced-others (literals_of front) forced.clause y forced.forces in
+          let has_others : list_all (λ z. int_eq z y || n z) forced.clause ≡ true =
+          all_members (λ z. int_eq z y || n z) forced.clause (λ z m.
+          elim (or_cases (int_eq z y) _ (at_member (λ z. int_eq z y || literals_of front z) forced.clause z others m)) [
+            | inl same ↦ or_left _ _ same
+            | inr earlier ↦ or_right (int_eq z y) _
+                (has z (still forced.clause forced.stands z m earlier) (has_all forced.clause forced.stands z m))
+          ]) in
+          let free : literals_of assumed (neg_ℤ own) ≡ false =
+          start.conflict.free.free own (at-front trail.literals place first.count before within) in
+          let back : neg_ℤ own ≡ y = ap neg_ℤ forced.negates ∙ neg_ℤ-neg_ℤ y in
+          let new_literal : n y ≡ false =
+          false_from_ne_true _ (λ m.
+          elim (or_cases (literals_of assumed y) (left' y) (bounded y m)) [
+            | inl a ↦ both_ways (literals_of assumed y) (ap (literals_of assumed) (sym back) ∙ free) a
+            | inr l ↦ both_ways (literals_of trail.literals (neg_ℤ own)) (apart.apart own (at-any trail.literals place within))
+                (ap (literals_of trail.literals) back ∙ inside y l)
+          ]) in
+          let new_own : n own ≡ false =
+          false_from_ne_true _ (λ m.
+          elim (or_cases (literals_of assumed own) (left' own) (bounded own m)) [
+            | inl a ↦ both_ways (literals_of given own) why.new (start.same.same own ∙ a)
+            | inr l ↦ both_ways (left' own) gone l
+          ]) in
+          let m : FalseSet = with_literal (neg_ℤ y) n in
+          ap (is_strict live n) (ap reverse is ∙ reverse-append found ((reason + 1) ∷ []))
+          ∙ hint-forces live n (reason + 1) (reverse found) forced.clause
+          (live-at live places are reason forced.clause forced.stands fails) y has_others
+          (forced-held (literals_of front) forced.clause y forced.forces) new_literal (ap n is_own ∙ new_own)
+          (so_far.strict live assumed m are start
+          (all_members m assumed (λ z a. or_right (int_eq z (neg_ℤ y)) _ (at_member n assumed z all a)))
+          (λ z there need.
+          elim (split z there) [
+            | inl same ↦ or_left _ _ (eq-int_eq z (neg_ℤ y) (same ∙ forced.negates))
+            | inr later ↦ or_right (int_eq z (neg_ℤ y)) _ (has z later (kept z need))
+          ])
+          (λ z either.
+          elim (or_cases (int_eq z (neg_ℤ y)) (n z) either) [
+            | inl same ↦ or_right (literals_of assumed z) _ (ap left (int_eq-true z (neg_ℤ y) same ∙ is_own) ∙ here)
+            | inr old ↦ still-bounded assumed n bounded z old
+          ]));
+    }
 
-  pub refute-assumed : (needed : FalseSet) (found : List ℕ) → get_or trail.reasons place None ≡ None
-      → RefuteSoFar places trail number (place + 1) needed found → RefuteSoFar places trail number place needed found
-  refute-assumed needed found none so_far = record {
-    ids = so_far.ids;
-    closes = λ live assumed n are reasons conflict all front.
-        let given : literals_of assumed own ≡ true = ap (is_reason places assumed before own) (sym none) ∙ reasons.reason place within in
-        so_far.closes live assumed n are reasons conflict all
-        (has-more n needed front (λ need. at_member n assumed own all given));
-  }
-
-  pub refute-forced : IsApart trail.literals → AreOnce trail.literals → (needed more : FalseSet) (found found' : List ℕ) (reason : ℕ)
-      → get_or trail.reasons place None ≡ Some reason → found' ≡ found ++ (reason + 1) ∷ [] → is_id (reason + 1) ≡ true
-      → ((x : ℤ) → needed x ≡ true → more x ≡ true)
-      → ((clause : List ℤ) → place_at places reason ≡ Some clause → (x : ℤ) → literals_of clause x ≡ true → more x ≡ true)
-      → RefuteSoFar places trail number (place + 1) needed found → RefuteSoFar places trail number place more found'
-  refute-forced apart once needed more found found' reason why is id kept has so_far = record {
-    ids = ap (list_all is_id) is ∙ all-last-number is_id found (reason + 1) so_far.ids id;
-    closes = λ live assumed n are reasons conflict all front.
-        let forced : IsForced places before own reason =
-        forced-at places before own reason (ap (is_reason places assumed before own) (sym why) ∙ reasons.reason place within) in
-        let y = forced.literal in
-        let fails : is_tautology forced.clause ≡ false =
-        plain-reason trail.literals apart once place within forced.clause y forced.negates forced.forces in
-        let others : list_all (λ z. int_eq z y || literals_of before z) forced.clause ≡ true =
-        forced-others (literals_of before) forced.clause y forced.forces in
-        let has_others : list_all (λ z. int_eq z y || n z) forced.clause ≡ true =
-        all_members (λ z. int_eq z y || n z) forced.clause (λ z m.
-        elim (or_cases (int_eq z y) _ (at_member (λ z. int_eq z y || literals_of before z) forced.clause z others m)) [
-          | inl same ↦ or_left _ _ same
-          | inr earlier ↦ or_right (int_eq z y) _ (front z earlier (has forced.clause forced.stands z m))
-        ]) in
-        let m : FalseSet = with_literal (neg_ℤ y) n in
-        ap (chain live n) (ap reverse is ∙ reverse-append found ((reason + 1) ∷ []))
-        ∙ hint-forces live n (reason + 1) (reverse found) forced.clause
-        (live-at live places are reason forced.clause forced.stands fails) y has_others
-        (forced-held (literals_of before) forced.clause y forced.forces)
-        (so_far.closes live assumed m are reasons conflict
-        (all_members m assumed (λ z given. or_right (int_eq z (neg_ℤ y)) _ (at_member n assumed z all given)))
-        (has-more m needed
-        (λ z earlier need. or_right (int_eq z (neg_ℤ y)) _ (front z earlier (kept z need)))
-        (λ need. or_left _ _ (eq-int_eq own (neg_ℤ y) forced.negates))));
-  }
-
--- where no place is left, what is assumed is enough
-pub refute-end : (places : Places) (trail : Trail) (number : ℕ) (needed : FalseSet) (found : List ℕ)
-    → RefuteSoFar places trail number 0 needed found → Refute places trail number (reverse found)
-refute-end places trail number needed found so_far = record {
+-- where what is left isn't needed, or is assumed
+pub refute-end : (places : Places) (trail : Trail) (given : List ℤ) (first : FirstConflict) (left needed : FalseSet) (found : List ℕ)
+    → ((x : ℤ) → left x ≡ true → needed x ≡ true → literals_of given x ≡ true)
+    → RefuteSoFar places trail given first left needed found → Refute places trail given first (reverse found)
+refute-end places trail given first left needed found none so_far = record {
   ids = all-turned is_id found so_far.ids;
-  closes = λ live assumed n are reasons conflict all. record {
-    closed = so_far.closes live assumed n are reasons conflict all (λ x m need. cc);
-  };
+  strict = λ live assumed n are start same.
+      so_far.strict live assumed n are start (all_members n assumed (λ x m. same x ∙ m))
+      (λ x there need. same x ∙ sym (start.same.same x) ∙ none x there need) (λ x m. or_left _ _ (sym (same x) ∙ m));
 }
+
+-- The literals before a place are left, and before the next one.
+module _ (literals : List ℤ) (place : ℕ) (within : place < length literals) where
+  parts-of : (z : ℤ) → literals_of (take (place + 1) literals) z
+      ≡ (literals_of (take place literals) z || (int_eq z (get_or literals place (pos 0)) || false))
+  parts-of z =
+      ap (λ (l : List ℤ). literals_of l z) (take_more literals place (pos 0) within)
+      ∙ list_any-append (int_eq z) (take place literals) (get_or literals place (pos 0) ∷ [])
+
+  pub front-split : (z : ℤ) → literals_of (take (place + 1) literals) z ≡ true
+      → (z ≡ get_or literals place (pos 0)) ⊎ (literals_of (take place literals) z ≡ true)
+  front-split z m =
+      elim (or_cases (literals_of (take place literals) z) _ (sym (parts-of z) ∙ m)) [
+        | inl earlier ↦ inr earlier
+        | inr last ↦
+            inl (int_eq-true z (get_or literals place (pos 0)) (or-last (int_eq z (get_or literals place (pos 0))) last))
+      ]
 
 marked-with : (old : List ℤ) (x y : ℤ) → literals_of (with_last x old) y ≡ (int_eq y x || literals_of old y)
 marked-with old x y =
@@ -324,113 +373,68 @@ marked-with old x y =
       | false ↦ λ new. literals_of-last old x y
     ] refl
 
--- The same in any order of places, where what was taken isn't needed again: the conflict alone,
-all-front : (literals : List ℤ) (x : ℤ) → literals_of literals x ≡ true → literals_of (take (length literals) literals) x ≡ true
-all-front literals x m = ap (λ (l : List ℤ). literals_of l x) (take_all (length literals) literals (omega arith)) ∙ m
-
-is-pending : (needed taken : List ℤ) (x : ℤ) → literals_of needed x ≡ true → literals_of taken x ≡ false → pending needed taken x ≡ true
-is-pending needed taken x own untaken = and_from _ _ own (ap not untaken)
-
-pub refute-first : (places : Places) (trail : Trail) (number : ℕ) (needed taken : List ℤ) (found : List ℕ) → taken ≡ []
-    → ((clause : List ℤ) → place_at places number ≡ Some clause → (x : ℤ) → literals_of clause x ≡ true → literals_of needed x ≡ true)
-    → is_id (number + 1) ≡ true → found ≡ (number + 1) ∷ []
-    → RefuteSoFar places trail number (length trail.literals) (pending needed taken) found
-refute-first places trail number needed taken found none has id is =
-    subst (RefuteSoFar places trail number (length trail.literals) (pending needed taken)) (sym is)
-    (refute-start places trail number (pending needed taken) (length trail.literals) refl
-    (λ clause stands x m. is-pending needed taken x (has clause stands x m) (ap (λ (l : List ℤ). literals_of l x) none)) id)
-
+-- Those of the first literals are left that weren't taken, and fewer once one is.
 not-true : (b : Bool) → not b ≡ true → b ≡ false
 not-true true h = cc
 not-true false h = refl
 
--- one place, whose literal is assumed or forced,
-module _ (places : Places) (trail : Trail) (number place : ℕ) (within : place < length trail.literals) (x : ℤ)
-    (own : x ≡ get_or trail.literals place (pos 0)) (needed more taken taken' : List ℤ) (marks : taken' ≡ with_last x taken)
-    (kept : (z : ℤ) → literals_of needed z ≡ true → literals_of more z ≡ true) where
-  still-pending : (z : ℤ) → pending needed taken z ≡ true → (z ≡ x) ⊎ (pending more taken' z ≡ true)
-  still-pending z is =
-      let parts = and_parts (literals_of needed z) (not (literals_of taken z)) is in
-      let sets : literals_of taken' z ≡ (int_eq z x || literals_of taken z) =
-      ap (λ (l : List ℤ). literals_of l z) marks ∙ marked-with taken x z in
-      elim (int_eq z x) as (λ b. int_eq z x ≡ b → (z ≡ x) ⊎ (pending more taken' z ≡ true)) [
-        | true ↦ λ same. inl (int_eq-true z x same)
-        | false ↦ λ other. inr (is-pending more taken' z (kept z parts.0)
-            (sets ∙ ap (λ b. b || literals_of taken z) other ∙ not-true (literals_of taken z) parts.1))
+pub untaken-all : (first : FirstConflict) (trail : Trail) (taken : List ℤ) → taken ≡ []
+    → (x : ℤ) → literals_of (take first.count trail.literals) x ≡ true → untaken first trail taken x ≡ true
+untaken-all first trail taken none x m = and_from _ _ m (ap (λ (l : List ℤ). not (literals_of l x)) none)
+
+pub untaken-false : (first : FirstConflict) (trail : Trail) (taken : List ℤ) (x : ℤ) → untaken first trail taken x ≡ true
+    → literals_of trail.literals x ≡ true
+untaken-false first trail taken x is =
+    front-false trail.literals first.count x (and_parts (literals_of (take first.count trail.literals) x) _ is).0
+
+module _ (first : FirstConflict) (trail : Trail) (place : ℕ) (before : place < first.count) (within : place < length trail.literals) (x : ℤ)
+    (at : x ≡ get_or trail.literals place (pos 0)) (taken taken' : List ℤ) (marks : taken' ≡ with_last x taken) where
+  sets : (z : ℤ) → literals_of taken' z ≡ (int_eq z x || literals_of taken z)
+  sets z = ap (λ (l : List ℤ). literals_of l z) marks ∙ marked-with taken x z
+
+  pub untaken-split : (z : ℤ) → untaken first trail taken z ≡ true
+      → (z ≡ get_or trail.literals place (pos 0)) ⊎ (untaken first trail taken' z ≡ true)
+  untaken-split z is =
+      let parts = and_parts (literals_of (take first.count trail.literals) z) (not (literals_of taken z)) is in
+      elim (int_eq z x) as (λ b. int_eq z x ≡ b → (z ≡ get_or trail.literals place (pos 0)) ⊎ (untaken first trail taken' z ≡ true)) [
+        | true ↦ λ same. inl (int_eq-true z x same ∙ at)
+        | false ↦ λ other. inr (and_from _ _ parts.0 (ap not (sets z ∙ ap (λ b. b || literals_of taken z) other) ∙ parts.1))
       ] refl
 
-  pub listed-assumed : (found : List ℕ) → get_or trail.reasons place None ≡ None
-      → RefuteSoFar places trail number (length trail.literals) (pending needed taken) found
-      → RefuteSoFar places trail number (length trail.literals) (pending more taken') found
-  listed-assumed found none so_far = record {
-    ids = so_far.ids;
-    closes = λ live assumed n are reasons conflict all front.
-        let given : literals_of assumed x ≡ true =
-        ap (literals_of assumed) own
-        ∙ ap (is_reason places assumed (take place trail.literals) (get_or trail.literals place (pos 0))) (sym none)
-        ∙ reasons.reason place within in
-        so_far.closes live assumed n are reasons conflict all (λ z there need.
-        elim (still-pending z need) [
-          | inl same ↦ at_member n assumed z all (ap (literals_of assumed) same ∙ given)
-          | inr still ↦ front z there still
-        ]);
-  }
+  pub untaken-more : (z : ℤ) → untaken first trail taken' z ≡ true → untaken first trail taken z ≡ true
+  untaken-more z is =
+      let parts = and_parts (literals_of (take first.count trail.literals) z) (not (literals_of taken' z)) is in
+      and_from _ _ parts.0
+      (ap not (false_from_ne_true _ (λ there.
+      both_ways (literals_of taken' z) (not-true (literals_of taken' z) parts.1) (sets z ∙ or_right (int_eq z x) _ there))))
 
-  pub listed-forced : IsApart trail.literals → AreOnce trail.literals → (found found' : List ℕ) (reason : ℕ)
-      → get_or trail.reasons place None ≡ Some reason → found' ≡ found ++ (reason + 1) ∷ [] → is_id (reason + 1) ≡ true
-      → ((clause : List ℤ) → place_at places reason ≡ Some clause → (z : ℤ) → literals_of clause z ≡ true → literals_of more z ≡ true)
-      → ((clause : List ℤ) → place_at places reason ≡ Some clause → (z : ℤ) → literals_of clause z ≡ true
-      → literals_of taken' z ≡ false)
-      → RefuteSoFar places trail number (length trail.literals) (pending needed taken) found
-      → RefuteSoFar places trail number (length trail.literals) (pending more taken') found'
-  listed-forced apart once found found' reason why is id has untaken so_far = record {
-    ids = ap (list_all is_id) is ∙ all-last-number is_id found (reason + 1) so_far.ids id;
-    closes = λ live assumed n are reasons conflict all front.
-        let before = take place trail.literals in
-        let forced : IsForced places before (get_or trail.literals place (pos 0)) reason =
-        forced-at places before (get_or trail.literals place (pos 0)) reason
-        (ap (is_reason places assumed before (get_or trail.literals place (pos 0))) (sym why) ∙ reasons.reason place within) in
-        let y = forced.literal in
-        let fails : is_tautology forced.clause ≡ false =
-        plain-reason trail.literals apart once place within forced.clause y forced.negates forced.forces in
-        let others : list_all (λ z. int_eq z y || literals_of before z) forced.clause ≡ true =
-        forced-others (literals_of before) forced.clause y forced.forces in
-        let has_others : list_all (λ z. int_eq z y || n z) forced.clause ≡ true =
-        all_members (λ z. int_eq z y || n z) forced.clause (λ z m.
-        elim (or_cases (int_eq z y) _ (at_member (λ z. int_eq z y || literals_of before z) forced.clause z others m)) [
-          | inl same ↦ or_left _ _ same
-          | inr earlier ↦ or_right (int_eq z y) _
-              (front z (all-front trail.literals z (front-false trail.literals place z earlier))
-              (is-pending more taken' z (has forced.clause forced.stands z m) (untaken forced.clause forced.stands z m)))
-        ]) in
-        let m : FalseSet = with_literal (neg_ℤ y) n in
-        ap (chain live n) (ap reverse is ∙ reverse-append found ((reason + 1) ∷ []))
-        ∙ hint-forces live n (reason + 1) (reverse found) forced.clause
-        (live-at live places are reason forced.clause forced.stands fails) y has_others
-        (forced-held (literals_of before) forced.clause y forced.forces)
-        (so_far.closes live assumed m are reasons conflict
-        (all_members m assumed (λ z given. or_right (int_eq z (neg_ℤ y)) _ (at_member n assumed z all given)))
-        (λ z there need.
-        elim (still-pending z need) [
-          | inl same ↦ or_left _ _ (eq-int_eq z (neg_ℤ y) (same ∙ own ∙ forced.negates))
-          | inr still ↦ or_right (int_eq z (neg_ℤ y)) _ (front z there still)
-        ]));
-  }
+  pub untaken-here : literals_of taken x ≡ false → untaken first trail taken (get_or trail.literals place (pos 0)) ≡ true
+  untaken-here new =
+      and_from _ _ (at-front trail.literals place first.count before within)
+      (ap (λ z. not (literals_of taken z)) (sym at) ∙ ap not new)
 
--- and the end
-pub refute-listed : (places : Places) (trail : Trail) (number : ℕ) (needed taken : List ℤ) (found : List ℕ)
-    → ((x : ℤ) → literals_of needed x ≡ true → literals_of trail.literals x ≡ true → literals_of taken x ≡ true)
-    → RefuteSoFar places trail number (length trail.literals) (pending needed taken) found
-    → Refute places trail number (reverse found)
-refute-listed places trail number needed taken found none so_far = record {
-  ids = all-turned is_id found so_far.ids;
-  closes = λ live assumed n are reasons conflict all. record {
-    closed = so_far.closes live assumed n are reasons conflict all (λ x there need.
-        let parts = and_parts (literals_of needed x) (not (literals_of taken x)) need in
-        absurd (both_ways (literals_of taken x) (not-true (literals_of taken x) parts.1)
-        (none x parts.0 (front-false trail.literals (length trail.literals) x there))));
-  };
-}
+  pub untaken-gone : untaken first trail taken' (get_or trail.literals place (pos 0)) ≡ false
+  untaken-gone =
+      false_from_ne_true _ (λ is.
+      both_ways (literals_of taken' x)
+      (ap (literals_of taken') at
+      ∙ not-true (literals_of taken' (get_or trail.literals place (pos 0)))
+      (and_parts (literals_of (take first.count trail.literals) (get_or trail.literals place (pos 0))) _ is).1)
+      (sets x ∙ or_left _ _ (eq-int_eq x x refl)))
+
+  pub untaken-still : (z : ℤ) → literals_of taken' z ≡ false → literals_of (take place trail.literals) z ≡ true
+      → untaken first trail taken' z ≡ true
+  untaken-still z new m =
+      and_from _ _ (front-front trail.literals place first.count (omega (arith, before)) z m) (ap not new)
+
+pub none-untaken : (first : FirstConflict) (trail : Trail) (given taken : List ℤ) (x : ℤ)
+    → (literals_of taken x || literals_of given x) ≡ true → untaken first trail taken x ≡ true → literals_of given x ≡ true
+none-untaken first trail given taken x either is =
+    elim (or_cases (literals_of taken x) (literals_of given x) either) [
+      | inl there ↦ absurd (both_ways (literals_of taken x)
+          (not-true (literals_of taken x) (and_parts (literals_of (take first.count trail.literals) x) _ is).1) there)
+      | inr own ↦ own
+    ]
 
 -- what holds of the literals up to a place, and of the one there
 pub each-literal : (P : ℤ → Type 0) (clause : List ℤ) (i : ℕ) (x : ℤ) → i < length clause → x ≡ get_or clause i x
@@ -444,22 +448,6 @@ each-literal P clause i x within at so_far here y m =
       | inr last ↦
           subst P (at ∙ sym (int_eq-true y (get_or clause i x) (or-last (int_eq y (get_or clause i x)) last))) here
     ]
-
--- one literal more that isn't this one
-neither : (a b : Bool) → a ≡ false → b ≡ false → (a || (b || false)) ≡ false
-neither true b e f = cc
-neither false true e f = f
-neither false false e f = refl
-
-pub none-more : (xs : List ℤ) (i : ℕ) (own x : ℤ) → i < length xs → own ≡ get_or xs i (pos 0) → int_eq own x ≡ false
-    → literals_of (take i xs) x ≡ false → literals_of (take (i + 1) xs) x ≡ false
-none-more xs i own x within at other before =
-    let apart : int_eq x (get_or xs i (pos 0)) ≡ false =
-    false_from_ne_true _ (λ same.
-    both_ways (int_eq own x) other (eq-int_eq own x (at ∙ sym (int_eq-true x (get_or xs i (pos 0)) same)))) in
-    ap (λ (l : List ℤ). literals_of l x) (take_more xs i (pos 0) within)
-    ∙ list_any-append (int_eq x) (take i xs) (get_or xs i (pos 0) ∷ [])
-    ∙ neither (literals_of (take i xs) x) (int_eq x (get_or xs i (pos 0))) before apart
 
 -- The conflict by how propagation came to it.
 pub conflict-falsified : (places : Places) (literals assumed : List ℤ) (number : ℕ) → IsApart literals → IsFalsified places literals number
@@ -476,39 +464,67 @@ conflict-falsified places literals assumed number apart f = record {
       or_left _ _ (at_member (literals_of literals) f.clause x f.falsified m));
 }
 
-module _ (places : Places) (trail : Trail) (assumed : List ℤ) (literal : ℤ) (apart : IsApart trail.literals) (once : AreOnce trail.literals)
-    (are : AreReasons places assumed trail) (clash : ClashesAt trail assumed literal) where
-  pub conflict-clash : (number : ℕ) → HasReason trail (neg_ℤ literal) (Some number) → IsConflict places trail.literals assumed number
-  conflict-clash number has =
-      let k = has.place in
-      let front = take k trail.literals in
-      let x = get_or trail.literals k (pos 0) in
-      let forced : IsForced places front x number =
-      forced-at places front x number (ap (is_reason places assumed front x) (sym has.reason_is) ∙ are.reason k has.within) in
-      let y = forced.literal in
-      let is : y ≡ literal = sym (neg_ℤ-neg_ℤ y) ∙ ap neg_ℤ (sym forced.negates) ∙ ap neg_ℤ (sym has.own) ∙ neg_ℤ-neg_ℤ literal in
-      let others = forced-others (literals_of front) forced.clause y forced.forces in
-      record {
-        clause = forced.clause;
-        stands = forced.stands;
-        plain = plain-reason trail.literals apart once k has.within forced.clause y forced.negates forced.forces;
-        falsified = all_members (λ z. literals_of trail.literals z || literals_of assumed z) forced.clause (λ z m.
-            elim (or_cases (int_eq z y) _ (at_member (λ z. int_eq z y || literals_of front z) forced.clause z others m)) [
-              | inl same ↦
-                  or_right (literals_of trail.literals z) _
-                  (ap (literals_of assumed) (int_eq-true z y same ∙ is) ∙ clash.own)
-              | inr there ↦ or_left _ _ (front-false trail.literals k z there)
-            ]);
-      }
+pub first-falsified : (places : Places) (literals assumed : List ℤ) (number count : ℕ) → count ≡ length literals → IsApart literals
+    → IsFalsified places literals number → AreFree literals assumed
+    → IsFirstConflict places literals assumed (record { number = number; count = count })
+first-falsified places literals assumed number count is apart falsified free =
+    let whole : take count literals ≡ literals = take_all count literals (omega (arith, is)) in
+    record {
+      conflict = subst (λ (l : List ℤ). IsConflict places l assumed number) (sym whole)
+          (conflict-falsified places literals assumed number apart falsified);
+      free = subst (λ (l : List ℤ). AreFree l assumed) (sym whole) free;
+    }
 
-  pub both-assumed : HasReason trail (neg_ℤ literal) None → is_tautology assumed ≡ true
-  both-assumed has =
-      let k = has.place in
-      let given : literals_of assumed (neg_ℤ literal) ≡ true =
-      ap (literals_of assumed) has.own
-      ∙ ap (is_reason places assumed (take k trail.literals) (get_or trail.literals k (pos 0))) (sym has.reason_is) ∙ are.reason k
-      has.within in
-      some-pair assumed assumed literal clash.own given
+-- The reason of a literal: a clause, or it is assumed.
+pub reason-assumed : (places : Places) (assumed : List ℤ) (trail : Trail) (k : ℕ) → k < length trail.literals
+    → AreReasons places assumed trail → get_or trail.reasons k None ≡ None → literals_of assumed (get_or trail.literals k (pos 0)) ≡ true
+reason-assumed places assumed trail k within are none =
+    ap (is_reason places assumed (take k trail.literals) (get_or trail.literals k (pos 0))) (sym none) ∙ are.reason k within
+
+pub reason-some : (trail : Trail) (given : List ℤ) (place : ℕ) (o : Option ℕ) → o ≡ get_or trail.reasons place None
+    → literals_of given (get_or trail.literals place (pos 0)) ≡ false → IfSome o (IsForcedAt trail given place)
+reason-some trail given place None is new = tt
+reason-some trail given place (Some number) is new = record { new = new; reason = sym is }
+
+module _ (places : Places) (trail : Trail) (given assumed : List ℤ) (same : HasSame given assumed) (are : AreReasons places assumed trail)
+  where
+    pub first-clash : IsApart trail.literals → AreOnce trail.literals → (first : FirstConflict) → IsFirstClash trail given first
+        → IsFirstConflict places trail.literals assumed first
+    first-clash apart once first clash =
+        let k = first.count in
+        let front = take k trail.literals in
+        let x = get_or trail.literals k (pos 0) in
+        let forced : IsForced places front x first.number =
+        forced-at places front x first.number (ap (is_reason places assumed front x) (sym clash.reason) ∙ are.reason k clash.within) in
+        let y = forced.literal in
+        let is : y ≡ neg_ℤ x = sym (neg_ℤ-neg_ℤ y) ∙ ap neg_ℤ (sym forced.negates) in
+        let others = forced-others (literals_of front) forced.clause y forced.forces in
+        record {
+          conflict = record {
+            clause = forced.clause;
+            stands = forced.stands;
+            plain = plain-reason trail.literals apart once k clash.within forced.clause y forced.negates forced.forces;
+            falsified = all_members (λ z. literals_of front z || literals_of assumed z) forced.clause (λ z m.
+                elim (or_cases (int_eq z y) _ (at_member (λ z. int_eq z y || literals_of front z) forced.clause z others m)) [
+                  | inl own ↦
+                      or_right (literals_of front z) _
+                      (ap (literals_of assumed) (int_eq-true z y own ∙ is) ∙ sym (same.same (neg_ℤ x)) ∙ clash.negation)
+                  | inr there ↦ or_left _ _ there
+                ]);
+          };
+          free = record { free = λ z m. sym (same.same (neg_ℤ z)) ∙ clash.free.free z m };
+        }
+
+    -- where there is none, the literals that are assumed clash
+    pub clash-assumed : (literal : ℤ) → ClashesAt trail assumed literal → NoneClashes trail given ⊎ ClashesAssumed trail given
+        → is_tautology assumed ≡ true
+    clash-assumed literal clash (inl free) =
+        absurd (both_ways (literals_of given (neg_ℤ (neg_ℤ literal))) (free.none.free (neg_ℤ literal) clash.negation)
+        (same.same (neg_ℤ (neg_ℤ literal)) ∙ ap (literals_of assumed) (neg_ℤ-neg_ℤ literal) ∙ clash.own))
+    clash-assumed literal clash (inr both) =
+        let x = get_or trail.literals both.place (pos 0) in
+        some-pair assumed assumed x (reason-assumed places assumed trail both.place both.within are both.reason)
+        (sym (same.same (neg_ℤ x)) ∙ both.negation)
 
 -- of marks
 pub marks-push : {old new : Flags} {literals : List ℤ} → AreMarks old literals → (literal : ℤ)
@@ -526,19 +542,48 @@ apart-plain clause apart =
 pub marked-kept : (old new : List ℤ) (x : ℤ) → new ≡ with_last x old → (y : ℤ) → literals_of old y ≡ true → literals_of new y ≡ true
 marked-kept old new x is y m = ap (λ (l : List ℤ). literals_of l y) is ∙ marked-with old x y ∙ or_right (int_eq y x) _ m
 
-pub marked-one : (old new clause : List ℤ) (i : ℕ) (x : ℤ) → new ≡ with_last x old → i < length clause → x ≡ get_or clause i x
-    → ((y : ℤ) → literals_of (take i clause) y ≡ true → literals_of old y ≡ true)
-    → (y : ℤ) → literals_of (take (i + 1) clause) y ≡ true → literals_of new y ≡ true
-marked-one old new clause i x is within at so_far y m =
-    let parts : (literals_of (take i clause) y || (int_eq y (get_or clause i x) || false)) ≡ true =
-    sym (list_any-append (int_eq y) (take i clause) (get_or clause i x ∷ []))
-    ∙ ap (λ (l : List ℤ). literals_of l y) (sym (take_more clause i x within)) ∙ m in
-    elim (or_cases (literals_of (take i clause) y) _ parts) [
-      | inl earlier ↦ marked-kept old new x is y (so_far y earlier)
-      | inr last ↦
-          ap (λ (l : List ℤ). literals_of l y) is ∙ marked-with old x y
-          ∙ or_left _ _ (ap (int_eq y) at ∙ or-last (int_eq y (get_or clause i x)) last)
-    ]
+pub marked-none : (b : Bool) → b ≡ (b || false)
+marked-none true = refl
+marked-none false = refl
+
+or-later : (a b c : Bool) → (a || (b || c)) ≡ (b || (a || c))
+or-later true true c = refl
+or-later true false c = refl
+or-later false b c = refl
+
+pub marked-more : (start old new clause : List ℤ) (i : ℕ) (x : ℤ) → new ≡ with_last x old → i < length clause → x ≡ get_or clause i x
+    → (y : ℤ) → literals_of old y ≡ (literals_of start y || literals_of (take i clause) y)
+    → literals_of new y ≡ (literals_of start y || literals_of (take (i + 1) clause) y)
+marked-more start old new clause i x is within at y so_far =
+    let more : take (i + 1) clause ≡ take i clause ++ x ∷ [] =
+    take_more clause i x within ∙ ap (λ z. take i clause ++ z ∷ []) (sym at) in
+    ap (λ (l : List ℤ). literals_of l y) is ∙ marked-with old x y ∙ ap (λ b. int_eq y x || b) so_far
+    ∙ or-later (int_eq y x) (literals_of start y) (literals_of (take i clause) y)
+    ∙ ap (λ b. literals_of start y || b) (sym (literals_of-last (take i clause) x y))
+    ∙ ap (λ (l : List ℤ). literals_of start y || literals_of l y) (sym more)
+
+-- the literals of a clause, and those of another that pass a test
+module _ (p : FalseSet) (clause other : List ℤ) (i : ℕ) (x : ℤ) (within : i < length other) (at : x ≡ get_or other i x) where
+  pub filter-next : filter p (take (i + 1) other) ≡ filter p (take i other) ++ cond (p x) (x ∷ []) []
+  filter-next = filter_more p other i x within ∙ ap (λ y. filter p (take i other) ++ cond (p y) (y ∷ []) []) (sym at)
+
+  pub same-skip : p x ≡ false → (old : List ℤ) → HasSame old (clause ++ filter p (take i other))
+      → HasSame old (clause ++ filter p (take (i + 1) other))
+  same-skip fails old so_far =
+      subst (λ (l : List ℤ). HasSame old (clause ++ l))
+      (sym (filter-next ∙ ap (λ b. filter p (take i other) ++ cond b (x ∷ []) []) fails ∙ append-nil (filter p (take i other)))) so_far
+
+  pub same-more : p x ≡ true → (old new : List ℤ) → new ≡ with_last x old → HasSame old (clause ++ filter p (take i other))
+      → HasSame new (clause ++ filter p (take (i + 1) other))
+  same-more passes old new is so_far = record {
+    same = λ y.
+        let front = clause ++ filter p (take i other) in
+        let more : front ++ x ∷ [] ≡ clause ++ filter p (take (i + 1) other) =
+        append_assoc clause (filter p (take i other)) (x ∷ [])
+        ∙ ap (λ (l : List ℤ). clause ++ l) (sym (filter-next ∙ ap (λ b. filter p (take i other) ++ cond b (x ∷ []) []) passes)) in
+        ap (λ (l : List ℤ). literals_of l y) is ∙ marked-with old x y ∙ ap (λ b. int_eq y x || b) (so_far.same y)
+        ∙ sym (literals_of-last front x y) ∙ ap (λ (l : List ℤ). literals_of l y) more;
+  }
 
 pub marked-next : (old new clause : List ℤ) (i : ℕ) (x : ℤ) → new ≡ with_last x old → take (i + 1) clause ≡ take i clause ++ x ∷ []
     → ((y : ℤ) → literals_of old y ≡ literals_of (take i clause) y) → (y : ℤ) → literals_of new y ≡ literals_of (take (i + 1) clause) y

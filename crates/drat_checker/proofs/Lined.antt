@@ -1,22 +1,26 @@
 -- Lines are good: by hints that close, and by groups.
-use Rattle.std.proofs.Common.{◌≡◌, ℕ, zero, suc, ◌+◌, ◌<◌, ◌≤◌, Bool, true, false, cond, not, ◌||◌, ◌&&◌, ℤ, neg_ℤ, int_eq, List, [], ◌∷◌}
+use Rattle.std.proofs.Common.{◌≡◌, ℕ, zero, suc, ◌+◌, ◌<◌, ◌≤◌, Bool, true, false, not, ◌||◌, ◌&&◌, ℤ, neg_ℤ, int_eq, List, [], ◌∷◌}
 use Rattle.std.proofs.Common.{◌++◌}
 use Rattle.std.proofs.Common.{Option, None, Some, if◌then◌else◌, inl, inr, refl, sym, ap, ◌∙◌, subst, arith, take, length, get_or, nat_eq}
 use Rattle.std.proofs.Common.{eq-eqb, ◌==◌, ◌⊎◌}
 use Rattle.std.specs.List.{list_any, list_all, filter}
 use Rattle.std.specs.Prelude.{slice_index}
 use Rattle.std.specs.FinMap as map
-use Rattle.std.proofs.lemmas.Bool.{and_from, lt-leb, or_cases, or_left, or_right, both_ways, false_from_ne_true}
+use Rattle.std.proofs.lemmas.Bool.{and_from, and_parts, lt-leb, or_cases, or_left, or_right, both_ways, false_from_ne_true}
 use Rattle.std.proofs.Math.IntN.{neg_ℤ-neg_ℤ}
 use Rattle.std.proofs.lemmas.List.{get_or_default, take_more}
 use Rattle.std.proofs.lemmas.Map.Views.{exact_unsigned_eq}
 use Rattle.std.proofs.lemmas.List.Folds.{list_any-append, list_all-append}
 use Rattle.cnf_base.specs.declared.list.Group.{Group}
-use Rattle.cnf_base.specs.ProofText.{is_group, is_id}
+use Rattle.cnf_base.specs.ProofText.{is_empty, is_group, is_id}
+use Rattle.lrat_rules.specs.declared.outcome.Effect.{Effect}
+use Rattle.lrat_rules.specs.declared.outcome.Effect.TheVariants.{Conflict, Unit as Forced, NotUnit}
 use Rattle.lrat_rules.specs.declared.outcome.Reason.{Reason}
 use Rattle.lrat_rules.specs.declared.outcome.Reason.TheVariants.{IdNotGreater, CandidateOpen, GroupStray}
-use Rattle.lrat_rules.specs.State.{State, Live}
-use Rattle.lrat_rules.specs.Chain.{Closed, FalseSet, Open, Outcome, chain, literals_of}
+use Rattle.lrat_rules.specs.State.{State, Live, clause_at}
+use Rattle.lrat_rules.specs.Chain.{Closed, FalseSet, Open, Outcome, chain, effect, literals_of, with_literal}
+use Rattle.lrat_rules.specs.Strict.{is_strict, is_strict_effect, is_strict_hint}
+use Rattle.lrat_rules.proofs.Strictness.{chain-strict}
 use Rattle.lrat_rules.specs.Addition.{candidate_fault, fault, fault_after_hints, first_of_faults, group_fault, group_fault_at, groups_fault}
 use Rattle.lrat_rules.specs.Addition.{holds_negated, if_live, is_blocked, is_blocked_by, is_candidate, is_settled, outcome_fault}
 use Rattle.lrat_rules.specs.Addition.{resolvents_fault}
@@ -25,8 +29,10 @@ use Rattle.drat_rules.specs.Addition.{others_of}
 use Rattle.drat_checker.specs.Places.{Place, Places, place_at}
 use Rattle.drat_checker.specs.Numbers.{has_number}
 use Rattle.drat_checker.specs.Hints.{AreLive, is_tautology, plain}
+use Rattle.drat_checker.specs.Strict.{are_strict_groups, is_strict_candidate, is_strict_front, is_strict_group, is_strict_group_at}
+use Rattle.drat_checker.specs.Strict.{is_strict_line}
 use Rattle.drat_checker.specs.Lines.{AreBlocked, CloseFrom, FitGroups, FitOneMore, IsGoodLine, IsPlaceBlocked}
-use Rattle.drat_checker.proofs.FalseSets.{all-filter, all_members, has_own, int_eq-true}
+use Rattle.drat_checker.proofs.FalseSets.{int_eq-true, of-filter}
 use Rattle.drat_checker.proofs.Hinted.{live-at, some-both, some-pair}
 
 -- the number is above the greatest so far
@@ -38,6 +44,26 @@ above state id clause hints groups greater good =
     (lt-leb id state.top greater)
     ∙ good
 
+-- a strict refutation has no idle hint
+strict_effect-more : (n : FalseSet) (last : Bool) (more more' : FalseSet → Bool) → ((m : FalseSet) → more m ≡ true → more' m ≡ true)
+    → (e : Effect) → is_strict_effect n last more e ≡ true → is_strict_effect n last more' e ≡ true
+strict_effect-more n last more more' f Conflict h = h
+strict_effect-more n last more more' f (Forced y) h =
+    let parts = and_parts (not (n (neg_ℤ y))) _ h in
+    and_from _ _ parts.0 (f (with_literal (neg_ℤ y) n) parts.1)
+strict_effect-more n last more more' f NotUnit h = h
+
+strict_hint-more : (n : FalseSet) (last : Bool) (more more' : FalseSet → Bool) → ((m : FalseSet) → more m ≡ true → more' m ≡ true)
+    → (o : Option (List ℤ)) → is_strict_hint n last more o ≡ true → is_strict_hint n last more' o ≡ true
+strict_hint-more n last more more' f None h = h
+strict_hint-more n last more more' f (Some clause) h = strict_effect-more n last more more' f (effect n clause) h
+
+strict-front : (live : Live) (n : FalseSet) (hints : List ℕ) → is_strict live n hints ≡ true → is_strict_front live n hints ≡ true
+strict-front live n [] h = refl
+strict-front live n (hint ∷ hints) h =
+    strict_hint-more n (is_empty hints) (λ m. is_strict live m hints) (λ m. is_strict_front live m hints)
+    (λ m s. strict-front live m hints s) (clause_at live hint) h
+
 -- hints refute the clause
 pub good-hints : (places : Places) (clause : List ℤ) (hints : List ℕ) (groups : List Group) → groups ≡ []
     → CloseFrom places clause hints → IsGoodLine places clause hints groups
@@ -46,7 +72,12 @@ good-hints places clause hints groups none close = record {
   named = ap (list_all is_group) none;
   good = λ state id are greater.
       above state id clause hints groups greater
-      (ap (fault_after_hints state.live clause groups) (close.closes state.live (literals_of clause) are (has_own clause)).closed);
+      (ap (fault_after_hints state.live clause groups)
+      (chain-strict state.live (literals_of clause) hints (close.strict state.live (literals_of clause) are (λ x. refl))));
+  strict = λ live are.
+      let strict = close.strict live (literals_of clause) are (λ x. refl) in
+      and_from _ _ (strict-front live (literals_of clause) hints strict)
+      (ap (are_strict_groups live clause groups) (chain-strict live (literals_of clause) hints strict) ∙ ap is_empty none);
 }
 
 both-none : (a b : Option Reason) → first_of_faults a b ≡ None → (a ≡ None) × (b ≡ None)
@@ -89,10 +120,11 @@ settled-free : (c b g : Bool) → c ≡ false → (not c || b || g) ≡ true
 settled-free false b g e = refl
 settled-free true b g e = cc
 
-is-other : (e m r : Bool) → m ≡ true → (not (not e) || ((not e && m) || r)) ≡ true
-is-other true m r h = refl
-is-other false true r h = refl
-is-other false false r h = cc
+or-turn : (a b : Bool) → (a || b) ≡ (b || a)
+or-turn true true = refl
+or-turn true false = refl
+or-turn false true = refl
+or-turn false false = refl
 
 either-none : (b : Bool) (o : Outcome) → o ≡ Closed → (if b then None else outcome_fault o) ≡ None
 either-none true o e = refl
@@ -118,6 +150,7 @@ module _ (places : Places) (clause : List ℤ) (pivot : ℤ) (number : ℕ) (gro
     fits = λ seen f. record {
       named = f.named;
       good = f.good;
+      strict = f.strict;
       settled = λ live are k has. elim (one-of k number seen has) [
         | inl here ↦ subst (λ (m : ℕ). is_settled live (literals_of clause) pivot groups (m + 1) ≡ true) (sym here)
             (settled-free (is_candidate live pivot (number + 1)) _ _ (free live are))
@@ -155,14 +188,20 @@ module _ (places : Places) (clause : List ℤ) (pivot : ℤ) (number : ℕ) (oth
 
   fits-group : is_group own ≡ true
       → ((live : Live) → AreLive live places → candidate_fault live (literals_of clause) pivot other hints ≡ None)
+      → ((live : Live) → AreLive live places → is_strict_candidate live (literals_of clause) pivot other hints ≡ true)
       → FitOneMore places clause pivot number groups (groups ++ own ∷ [])
-  fits-group ranged good = record {
+  fits-group ranged good strict = record {
     fits = λ seen f. record {
       named = list_all-append is_group groups (own ∷ []) ∙ and_from _ _ f.named (and_from _ _ ranged refl);
       good = λ live are.
           groups-last live (literals_of clause) pivot groups own (f.good live are)
           (ap (group_fault_at live (literals_of clause) pivot hints) (live-at live places are number other at plain)
           ∙ ap (λ b. if b then candidate_fault live (literals_of clause) pivot other hints else Some GroupStray) holds ∙ good live are);
+      strict = λ live are.
+          list_all-append (is_strict_group live (literals_of clause) pivot) groups (own ∷ [])
+          ∙ and_from _ _ (f.strict live are)
+          (and_from _ _ (ap (is_strict_group_at live (literals_of clause) pivot hints) (live-at live places are number other at plain)
+          ∙ strict live are) refl);
       settled = λ live are k has. elim (one-of k number seen has) [
         | inl here ↦ subst (λ (m : ℕ). is_settled live (literals_of clause) pivot (groups ++ own ∷ []) (m + 1) ≡ true) (sym here)
             (ap (λ b. not (is_candidate live pivot (number + 1)) || is_blocked live (literals_of clause) pivot (number + 1) || b)
@@ -177,39 +216,33 @@ module _ (places : Places) (clause : List ℤ) (pivot : ℤ) (number : ℕ) (oth
   pub fits-blocked : is_id (number + 1) ≡ true → hints ≡ [] → is_blocked_by (literals_of clause) pivot other ≡ true
       → FitOneMore places clause pivot number groups (groups ++ own ∷ [])
   fits-blocked id bare blocked =
-      fits-group (and_from _ _ id (ap (list_all is_id) bare)) (λ live are.
+      fits-group (and_from _ _ id (ap (list_all is_id) bare))
+      (λ live are.
       ap (λ b. if b then None else outcome_fault (chain live (with_candidate (literals_of clause) pivot other) hints)) blocked)
+      (λ live are.
+      ap (λ b. if b then is_empty hints else is_strict live (with_candidate (literals_of clause) pivot other) hints) blocked
+      ∙ ap is_empty bare)
 
   -- the set of the chain has the clause's literals, and the candidate's others
-  has-both : list_all (with_candidate (literals_of clause) pivot other) (clause ++ others_of pivot other) ≡ true
-  has-both =
-      let n = with_candidate (literals_of clause) pivot other in
-      let first : list_all n clause ≡ true =
-      all_members n clause (λ x m. or_right (not (int_eq x (neg_ℤ pivot)) && list_any (int_eq x) other) _ m) in
-      let second : list_all n (others_of pivot other) ≡ true =
-      all-filter n (λ x. not (int_eq x (neg_ℤ pivot))) other
-      ∙ all_members (λ x. not (not (int_eq x (neg_ℤ pivot))) || n x) other (λ x m. is-other (int_eq x (neg_ℤ pivot)) _ _ m) in
-      list_all-append n clause (others_of pivot other) ∙ and_from _ _ first second
+  has-both : (x : ℤ) → with_candidate (literals_of clause) pivot other x ≡ literals_of (clause ++ others_of pivot other) x
+  has-both x =
+      or-turn (not (int_eq x (neg_ℤ pivot)) && literals_of other x) (literals_of clause x)
+      ∙ ap (λ b. literals_of clause x || b) (sym (of-filter (λ y. not (int_eq y (neg_ℤ pivot))) other x))
+      ∙ sym (list_any-append (int_eq x) clause (others_of pivot other))
 
-  pub fits-refuted : is_id (number + 1) ≡ true → CloseFrom places (clause ++ others_of pivot other) hints
+  pub fits-refuted : is_id (number + 1) ≡ true → is_blocked_by (literals_of clause) pivot other ≡ false
+      → CloseFrom places (clause ++ others_of pivot other) hints
       → FitOneMore places clause pivot number groups (groups ++ own ∷ [])
-  fits-refuted id close =
-      fits-group (and_from _ _ id close.ids) (λ live are.
-      either-none (is_blocked_by (literals_of clause) pivot other)
-      (chain live (with_candidate (literals_of clause) pivot other) hints)
-      (close.closes live (with_candidate (literals_of clause) pivot other) are has-both).closed)
+  fits-refuted id free close =
+      let n = with_candidate (literals_of clause) pivot other in
+      fits-group (and_from _ _ id close.ids)
+      (λ live are.
+      either-none (is_blocked_by (literals_of clause) pivot other) (chain live n hints)
+      (chain-strict live n hints (close.strict live n are has-both)))
+      (λ live are. ap (λ b. if b then is_empty hints else is_strict live n hints) free ∙ close.strict live n are has-both)
 
 in-filter : (p : ℤ → Bool) (xs : List ℤ) (x : ℤ) → literals_of (filter p xs) x ≡ true → (literals_of xs x ≡ true) × (p x ≡ true)
-in-filter p [] x m = cc
-in-filter p (y ∷ ys) x m =
-    elim (p y) as (λ b. p y ≡ b → literals_of (cond b (y ∷ filter p ys) (filter p ys)) x ≡ true
-    → (literals_of (y ∷ ys) x ≡ true) × (p x ≡ true)) [
-      | true ↦ λ e h. elim (or_cases (int_eq x y) _ h) [
-        | inl here ↦ (or_left _ _ here, ap p (int_eq-true x y here) ∙ e)
-        | inr later ↦ let rest = in-filter p ys x later in (or_right (int_eq x y) _ rest.0, rest.1)
-      ]
-      | false ↦ λ e h. let rest = in-filter p ys x h in (or_right (int_eq x y) _ rest.0, rest.1)
-    ] refl m
+in-filter p xs x m = let parts = and_parts (p x) (literals_of xs x) (sym (of-filter p xs x) ∙ m) in (parts.1, parts.0)
 
 blocks : (n : FalseSet) (pivot : ℤ) (other : List ℤ) (x : ℤ) → literals_of other x ≡ true → not (int_eq x (neg_ℤ pivot)) ≡ true
     → n (neg_ℤ x) ≡ true → is_blocked_by n pivot other ≡ true
@@ -251,19 +284,6 @@ both-plain clause other pivot plain_clause plain_other free =
           ]
     ])
 
-pub fits-either : (places : Places) (clause : List ℤ) (pivot : ℤ) (number : ℕ) (other : List ℤ) → place_at places number ≡ Some other
-    → holds_negated pivot other ≡ true → is_tautology other ≡ false → (groups : List Group) (hints : List ℕ) → is_id (number + 1) ≡ true
-    → is_tautology clause ≡ false
-    → (blocked : Bool) → blocked ≡ is_blocked_by (literals_of clause) pivot other → (blocked ≡ true → hints ≡ [])
-    → (blocked ≡ false → is_tautology (clause ++ others_of pivot other) ≡ false
-    → CloseFrom places (clause ++ others_of pivot other) hints)
-    → FitOneMore places clause pivot number groups (groups ++ record { id = number + 1; hints = hints } ∷ [])
-fits-either places clause pivot number other at holds plain_other groups hints id plain_clause true is bare close =
-    fits-blocked places clause pivot number other at holds plain_other groups hints id (bare refl) (sym is)
-fits-either places clause pivot number other at holds plain_other groups hints id plain_clause false is bare close =
-    fits-refuted places clause pivot number other at holds plain_other groups hints id
-    (close refl (both-plain clause other pivot plain_clause plain_other (sym is)))
-
 -- the groups are those of all candidates
 candidate-of : (pivot : ℤ) (place : Place) → if_live (holds_negated pivot) (plain place) ≡ true
     → (other : List ℤ) × (place ≡ Some other) × (holds_negated pivot other ≡ true)
@@ -304,6 +324,10 @@ module _ (places : Places) (clause others : List ℤ) (pivot : ℤ) (numbers : L
       ∙ ap (λ b. if b then None else Some CandidateOpen)
       (list-each (is_settled live (literals_of clause) pivot groups) (map.keys live) (settled-at live are))
 
+  strict-groups : clause ≡ pivot ∷ others → (live : Live) → AreLive live places → is_strict_line live clause [] groups ≡ true
+  strict-groups is live are =
+      subst (λ (c : List ℤ). are_strict_groups live c groups (Open (literals_of clause)) ≡ true) (sym is) (fit.strict live are)
+
   pub good-groups : clause ≡ pivot ∷ others → IsGoodLine places clause [] groups
   good-groups is = record {
     ids = refl;
@@ -312,6 +336,7 @@ module _ (places : Places) (clause others : List ℤ) (pivot : ℤ) (numbers : L
         above state id clause [] groups greater
         (subst (λ (c : List ℤ). fault_after_hints state.live c groups (Open (literals_of clause)) ≡ None) (sym is)
         (no-resolvents state.live are));
+    strict = strict-groups is;
   }
 
 -- nothing is seen yet
@@ -319,6 +344,7 @@ pub fits-start : (places : Places) (clause : List ℤ) (pivot : ℤ) → FitGrou
 fits-start places clause pivot = record {
   named = refl;
   good = λ live are. refl;
+  strict = λ live are. refl;
   settled = λ live are number has. cc;
 }
 
@@ -329,6 +355,7 @@ pub fits-next : (places : Places) (clause : List ℤ) (pivot : ℤ) (numbers : L
 fits-next places clause pivot numbers i k groups within at f = record {
   named = f.named;
   good = f.good;
+  strict = f.strict;
   settled = λ live are number has.
       let parts : (has_number number (take i numbers) || (nat_eq number (get_or numbers i k) || false)) ≡ true =
       sym (list_any-append (nat_eq number) (take i numbers) (get_or numbers i k ∷ []))

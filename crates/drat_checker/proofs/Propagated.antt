@@ -4,7 +4,6 @@ use Rattle.std.proofs.Common.{◌≡◌, Bool, true, false, cond, not, ◌||◌,
 use Rattle.std.proofs.Common.{Option, None, Some, if◌then◌else◌, refl, sym, ap, ◌∙◌, subst, append_assoc}
 use Rattle.std.specs.List.{list_all}
 use Rattle.std.proofs.Math.Seq.{take-append_seam}
-use Rattle.std.proofs.lemmas.Bool.{both_ways}
 use Rattle.std.proofs.lemmas.List.{append-nil}
 use Rattle.std.proofs.lemmas.List.Folds.{list_all-append}
 use Rattle.lrat_rules.specs.declared.outcome.Effect.TheVariants.{Conflict, Unit as Forced}
@@ -110,13 +109,6 @@ module _ (fails : FailsLaw) (forced : ForcedLaw) (conflict : ConflictLaw) (xs cl
       → has_quiet clauses xs ≡ false
   false_clause e clauses among =
       fails clauses xs (λ q quiet has. conflict clauses q (literals_of xs) clause quiet (includes q xs has) among e)
-
-  pub forced_clash : (literal : ℤ) → effect (literals_of xs) clause ≡ Forced literal → literals_of xs (neg_ℤ (neg_ℤ literal)) ≡ true
-      → (clauses : List (List ℤ)) → is_among clauses clause ≡ true → has_quiet clauses xs ≡ false
-  forced_clash literal e there clauses among =
-      fails clauses xs (λ q quiet has. both_ways (q (neg_ℤ (neg_ℤ literal)))
-      (quiet.apart (neg_ℤ literal) (forced clauses q (literals_of xs) clause literal quiet (includes q xs has) among e))
-      (at_member q xs (neg_ℤ (neg_ℤ literal)) has there))
 
 -- a pass that comes to a false clause, from literals that the same quiet sets have
 pub none-before : (none : NoneLaw) (fails : FailsLaw) (clauses : List (List ℤ)) (start old : List ℤ) → SameQuiet clauses start old

@@ -14,7 +14,7 @@ use Rattle.drat_checker.specs.declared.addition.Refutation.TheVariants.{Clash, C
 use Rattle.drat_checker.specs.Places.{Place, Places, place_at}
 use Rattle.drat_checker.specs.Propagation.{Extends, makes_false}
 use Rattle.drat_checker.specs.Trail.{Trail, cut, no_literals, with_reason}
-use Rattle.drat_checker.specs.Reasons.{AreReasons, ClashesAt, IsFalsified, KeepsReasons, Refutes, is_reason, place_forces}
+use Rattle.drat_checker.specs.Reasons.{AreFree, AreReasons, ClashesAt, IsFalsified, KeepsReasons, Refutes, is_reason, place_forces}
 use Rattle.drat_checker.proofs.FalseSets.{at_member, eq-int_eq}
 use Rattle.drat_checker.proofs.Derived.{not_unit-before}
 use Rattle.drat_checker.proofs.Settled.{front-false}
@@ -155,12 +155,13 @@ clash-held trail assumed false old last x set is of own = cc
 
 -- more is assumed
 pub refutes-more : (places : Places) (trail : Trail) (few more : List ℤ) (refutation : Refutation) → list_all (literals_of more) few ≡ true
-    → Refutes places trail few refutation → Refutes places trail more refutation
-refutes-more places trail few more (Clash literal) all h = record {
+    → (AreFree trail.literals few → AreFree trail.literals more) → Refutes places trail few refutation
+    → Refutes places trail more refutation
+refutes-more places trail few more (Clash literal) all free h = record {
   own = at_member (literals_of more) few literal all h.own;
   negation = h.negation;
 }
-refutes-more places trail few more (Conflict number) all h = h
+refutes-more places trail few more (Conflict number) all free h = (h.0, free h.1)
 
 -- taken back to the front
 pub cut-back : {places : Places} {more : List ℤ} {old new : Trail} (count : ℕ) → count ≡ length old.literals → length old.reasons

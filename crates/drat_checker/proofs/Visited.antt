@@ -1,7 +1,8 @@
 -- The walk over the numbers that watch a literal that is false: those that are visited have a clause that is true, or watch it no more.
 use Rattle.std.proofs.Common.{◌≡◌, ℕ, ◌+◌, ◌<◌, ◌≢◌, Bool, true, false, ◌||◌, ◌&&◌, ℤ, neg_ℤ, List, [], ◌∷◌, ◌++◌, length, take, get_or}
 use Rattle.std.proofs.Common.{Some, cond, nat_eq, int_eq, inl, inr, refl, sym, ap, ◌∙◌, subst, eqb-true}
-use Rattle.std.proofs.lemmas.Bool.{or_cases, or_left, or_right, cases_eq}
+use Rattle.std.specs.List.{list_all}
+use Rattle.std.proofs.lemmas.Bool.{and_parts, or_cases, or_left, or_right, cases_eq}
 use Rattle.std.proofs.lemmas.List.Folds.{list_any_more, list_any-append}
 use Rattle.lrat_rules.specs.Chain.{literals_of}
 use Rattle.lrat_rules.specs.Trail.{with_last}
@@ -9,15 +10,25 @@ use Rattle.drat_checker.specs.declared.literal_lists.LiteralLists.{LiteralLists}
 use Rattle.drat_checker.specs.Places.{Places, place_at}
 use Rattle.drat_checker.specs.Numbers.{has_number}
 use Rattle.drat_checker.specs.LiteralLists.{KeepsEach, numbers_at}
-use Rattle.drat_checker.specs.Propagation.{Extends}
+use Rattle.drat_checker.specs.Propagation.{Extends, HasAlso}
 use Rattle.drat_checker.specs.Watches.{Pairs, Watchers, AreVisited, IsWatched}
 use Rattle.drat_checker.specs.Watches.{is_true, watchers, watchers_with, watches}
-use Rattle.drat_checker.proofs.FalseSets.{int_eq-true, eq-int_eq}
+use Rattle.drat_checker.proofs.FalseSets.{all_members, at_member, has_own, int_eq-true, eq-int_eq}
 use Rattle.drat_checker.proofs.Watched.{KeepsWatchers}
 
 -- a clause that is true stays so as literals become false
 pub more-false : {old new : List ℤ} → Extends old new → (x : ℤ) → literals_of old x ≡ true → literals_of new x ≡ true
 more-false {old} {new} e x m = ap (λ (l : List ℤ). literals_of l x) e.parts ∙ list_any-append (int_eq x) old e.rest ∙ or_left _ _ m
+
+pub held-more : {old new : List ℤ} (clause : List ℤ) → Extends old new → list_all (literals_of old) clause ≡ true
+    → list_all (literals_of new) clause ≡ true
+held-more {old} {new} clause e all = all_members (literals_of new) clause (λ x m. more-false e x (at_member (literals_of old) clause x all m))
+
+-- the literals of a clause that became false stay so
+pub held-then : {old now new : List ℤ} (clause : List ℤ) → HasAlso clause old now → Extends now new
+    → list_all (literals_of new) clause ≡ true
+held-then {old} {now} {new} clause also e =
+    held-more clause e (and_parts (list_all (literals_of now) old) _ (sym (also.also (literals_of now)) ∙ has_own now)).1
 
 pub true-more : {old new : List ℤ} (clause : List ℤ) → Extends old new → is_true old clause ≡ true → is_true new clause ≡ true
 true-more [] e h = h

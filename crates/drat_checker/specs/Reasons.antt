@@ -32,18 +32,20 @@ pub record KeepsReasons (places : Places) (more : List ℤ) (old new : Trail) : 
   pub rest : List (Option ℕ)
   pub parts : new.reasons ≡ old.reasons ++ rest
 
--- a literal stands at a place that has this reason
-pub record HasReason (trail : Trail) (literal : ℤ) (reason : Option ℕ) : Type 0 where
-  pub place : ℕ
-  pub within : place < length trail.literals
-  pub own : literal ≡ slice_index_or trail.literals place (pos 0)
-  pub reason_is : slice_index_or trail.reasons place None ≡ reason
+-- these literals are false, and each false one has its reason
+pub record AreAssumed (places : Places) (assumed : List ℤ) (trail : Trail) : Type 0 where
+  pub reasons : AreReasons places assumed trail
+  pub held : list_all (literals_of trail.literals) assumed ≡ true
 
 -- the clause of this number stands, and each of its literals is false
 pub record IsFalsified (places : Places) (literals : List ℤ) (number : ℕ) : Type 0 where
   pub clause : List ℤ
   pub stands : place_at places number ≡ Some clause
   pub falsified : list_all (literals_of literals) clause ≡ true
+
+-- none of these literals is the negation of one that is assumed
+pub record AreFree (literals assumed : List ℤ) : Type 0 where
+  pub free : (x : ℤ) → literals_of literals x ≡ true → literals_of assumed (neg_ℤ x) ≡ false
 
 -- the literal is one of those that are assumed, and its negation is false
 pub record ClashesAt (trail : Trail) (assumed : List ℤ) (literal : ℤ) : Type 0 where
@@ -52,4 +54,4 @@ pub record ClashesAt (trail : Trail) (assumed : List ℤ) (literal : ℤ) : Type
 
 abbrev pub Refutes : Places → Trail → List ℤ → Refutation → Type 0
 Refutes places trail assumed (Clash literal) = ClashesAt trail assumed literal
-Refutes places trail assumed (Conflict number) = IsFalsified places trail.literals number
+Refutes places trail assumed (Conflict number) = IsFalsified places trail.literals number × AreFree trail.literals assumed

@@ -2,13 +2,14 @@
 ghost use Rattle.std.specs.Prelude.{◌≡◌, ◌∷◌, ◌++◌, [], ℤ, List, not, false, None, Some, IsTrue, is_some, OnOk, IfOk, IfSome, IsSome};
 ghost use Rattle.std.specs.List.{list_all};
 ghost use Rattle.std.specs.Option.{option_map};
+ghost use Rattle.lrat_rules.specs.Chain.{literals_of};
 ghost use Rattle.lrat_rules.specs.Addition.{holds_negated};
 ghost use Rattle.drat_rules.specs.Quiet.{has_quiet};
 ghost use Rattle.drat_rules.specs.Addition.{others_of, passes_candidate, drat_fault};
 ghost use Rattle.drat_checker.specs.declared.addition.Refutation.TheVariants.{Conflict};
 ghost use Rattle.drat_checker.specs.Places.{Places, place_at, standing};
 ghost use Rattle.drat_checker.specs.Propagation.{Clashes, Extends, HasAlso, SameQuiet, candidates_fault, fault_under, place_passes};
-ghost use Rattle.drat_checker.specs.Reasons.{AreReasons, ClashesAt, KeepsReasons, Refutes};
+ghost use Rattle.drat_checker.specs.Reasons.{AreAssumed, AreReasons, ClashesAt, IsFalsified, KeepsReasons, Refutes};
 ghost use Rattle.drat_checker.specs.Hints.{is_tautology};
 ghost use Rattle.drat_checker.specs.Lines.{FitOneMore, IsGoodLine};
 ghost use Rattle.drat_checker.specs.Watches.{AreWatched, IsSettled, MovesWatches};
@@ -57,7 +58,7 @@ pub fn addition_fault(
     let roots = trail.len();
     let refutation = refute(db, kept, trail, clause)?;
     if let Some(found) = refutation {
-        line.note_refutation(db, trail, found)?;
+        line.note_refutation(db, trail, clause, found)?;
         trail.truncate(roots);
         return Ok(None);
     }
@@ -76,7 +77,7 @@ fn fault_under(
 ) -> Result<Option<Reason>, OutOfMemory>
     requires watched { AreWatched kept.old db.now }
     requires settled { IsSettled kept.old db.now trail.old.literals }
-    requires reasons { AreReasons db.now clause.now trail.old }
+    requires assumed { AreAssumed db.now clause.now trail.old }
     requires hints { line.old.hints ≡ [] }
     requires groups { line.old.groups ≡ [] }
     ensures fault { IfOk result (λ fault. fault ≡ fault_under (standing db.now) trail.old.literals clause.now) }
@@ -103,7 +104,7 @@ fn candidates_fault(
 ) -> Result<Option<Reason>, OutOfMemory>
     requires watched { AreWatched kept.old db.now }
     requires settled { IsSettled kept.old db.now trail.old.literals }
-    requires reasons { AreReasons db.now clause.now trail.old }
+    requires assumed { AreAssumed db.now clause.now trail.old }
     requires groups { line.old.groups ≡ [] }
     ensures fault { IfOk result (λ fault. fault ≡ candidates_fault (standing db.now) trail.old.literals pivot) }
     ensures wanted { line.new.is_wanted ≡ line.old.is_wanted }
@@ -133,6 +134,7 @@ fn refute(
     requires settled { IsSettled kept.old db.now trail.old.literals }
     ensures refuted { IfOk result (λ found. is_some found ≡ not (has_quiet (standing db.now) (trail.old.literals ++ clause.now))) }
     ensures refutes { IfOk result (λ found. IfSome found (Refutes db.now trail.new clause.now)) }
+    ensures held { IfOk result (λ found. found ≡ None → IsTrue (list_all (literals_of trail.new.literals) clause.now)) }
     ensures same { IfOk result (λ found. found ≡ None → SameQuiet (standing db.now) (trail.old.literals ++ clause.now) trail.new.literals) }
     ensures watched { OnOk result (AreWatched kept.new db.now) }
     ensures moves { OnOk result (MovesWatches kept.old.pairs.items kept.new.pairs.items trail.old.literals) }
@@ -150,6 +152,19 @@ fn refute(
     let conflict = propagate(db, kept, trail, count)?;
     trail.apart_law();
     Ok(of_conflict(conflict))
+}
+
+/// The same where a clause is false already: by one of the literals that are assumed now, if its negation is false, or by the clause.
+pub fn refutation_by(trail: &FalseList, clause: &[Lit], number: u32) -> Refutation
+    ensures { (places : Places) → IsFalsified places trail.now.literals number → Refutes places trail.now clause.now result }
+{
+    for literal in clause {
+        let clash = trail.contains(literal.negated());
+        if clash {
+            return Refutation::Clash(*literal);
+        }
+    }
+    Refutation::Conflict(number)
 }
 
 fn of_conflict(conflict: Option<u32>) -> Option<Refutation>
@@ -173,7 +188,7 @@ fn all_pass(
     requires watched { AreWatched kept.old db.now }
     requires settled { IsSettled kept.old db.now trail.old.literals }
     requires groups { line.old.groups ≡ [] }
-    requires reasons { AreReasons db.now clause.now trail.old }
+    requires assumed { AreAssumed db.now clause.now trail.old }
     ensures pass { IfOk result (λ pass. pass ≡ list_all (passes_candidate (standing db.now) pivot trail.old.literals) (standing db.now)) }
     ensures wanted { line.new.is_wanted ≡ line.old.is_wanted }
     ensures hints { line.new.hints ≡ line.old.hints }
@@ -205,7 +220,7 @@ fn passes_number(
 ) -> Result<bool, OutOfMemory>
     requires watched { AreWatched kept.old db.now }
     requires settled { IsSettled kept.old db.now trail.old.literals }
-    requires reasons { AreReasons db.now clause.now trail.old }
+    requires assumed { AreAssumed db.now clause.now trail.old }
     ensures passes { IfOk result (λ passes. passes ≡ place_passes (standing db.now) pivot trail.old.literals (place_at db.now number)) }
     ensures wanted { line.new.is_wanted ≡ line.old.is_wanted }
     ensures hints { line.new.hints ≡ line.old.hints }
@@ -235,7 +250,7 @@ fn passes(
     requires watched { AreWatched kept.old db.now }
     requires settled { IsSettled kept.old db.now trail.old.literals }
     requires stands { place_at db.now number ≡ Some other.now }
-    requires reasons { AreReasons db.now clause.now trail.old }
+    requires assumed { AreAssumed db.now clause.now trail.old }
     ensures passes { IfOk result (λ passes. passes ≡ passes_candidate (standing db.now) pivot trail.old.literals other.now) }
     ensures wanted { line.new.is_wanted ≡ line.old.is_wanted }
     ensures hints { line.new.hints ≡ line.old.hints }
@@ -251,6 +266,7 @@ fn passes(
     }
     let count = trail.len();
     let refutation = refute_candidate(db, kept, trail, pivot, other)?;
+    trail.apart_law();
     note_candidate(db, trail, line, clause, pivot, number, other, refutation)?;
     trail.truncate(count);
     Ok(refutation.is_some())

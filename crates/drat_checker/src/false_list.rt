@@ -69,7 +69,7 @@ impl FalseList {
 
     /// Why the literal at a place is false: by the clause of this number, or it is assumed.
     pub fn reason(&self, place: usize) -> Option<u32>
-        requires { place < length self.now.reasons }
+        requires { place < length self.now.literals }
         ensures { result ≡ slice_index_or self.now.reasons place None }
     {
         self.reasons[place]

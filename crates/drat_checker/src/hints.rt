@@ -1,12 +1,13 @@
-// The hints that refute a clause in an LRAT proof: from a conflict back over the literals that are false, the clauses that forced those
-// that are needed.
-ghost use Rattle.std.specs.Prelude.{◌≡◌, ◌<◌, ◌+◌, ◌∷◌, ◌++◌, [], ℕ, ℤ, List, Option, None, Some, true, length, neg_ℤ, reverse, OnOk};
-ghost use Rattle.std.specs.Prelude.{IfOk, IfSome, IsTrue, IsFalse, false, not, ◌&&◌};
+// The hints that refute a clause in an LRAT proof: from the first conflict back over the literals that are false, the clauses that forced
+// those that are needed and aren't assumed.
+ghost use Rattle.std.specs.Prelude.{◌≡◌, ◌<◌, ◌≤◌, ◌+◌, ◌∷◌, ◌++◌, ◌⊎◌, [], ℤ, pos, List, None, Some, true, length, reverse, take, OnOk};
+ghost use Rattle.std.specs.Prelude.{IfOk, IfSome, IsTrue, IsFalse, false, not, ◌&&◌, ◌||◌, slice_index_or};
 ghost use Rattle.cnf_base.specs.ProofText.{is_id};
 ghost use Rattle.lrat_rules.specs.Chain.{literals_of};
 ghost use Rattle.drat_checker.specs.Places.{Places, place_at};
-ghost use Rattle.drat_checker.specs.Reasons.{AreReasons, HasReason, Refutes};
-ghost use Rattle.drat_checker.specs.Hints.{IsConflict, Refute, RefuteSoFar, is_tautology, pending};
+ghost use Rattle.drat_checker.specs.Reasons.{AreReasons, Refutes};
+ghost use Rattle.drat_checker.specs.Hints.{HasSame, IsFirstConflict, Refute, RefuteSoFar, is_tautology, untaken};
+ghost use Rattle.drat_checker.specs.Hints.{ClashesAssumed, IsFirstClash, IsForcedAt, NoneClashes};
 
 use crate::addition::Refutation;
 use crate::database::Database;
@@ -15,86 +16,119 @@ use crate::marks::Marks;
 use crate::order::Order;
 use cnf_base::{Id, IdList, Lit, OutOfMemory};
 
-/// The number of a clause whose literals are all false or assumed, by how propagation came to a conflict; nothing where two of those that
-/// are assumed clash.
-pub fn conflict_of(trail: &FalseList, refutation: Refutation) -> Option<u32>
-    ensures conflict { (places : Places) (assumed : List ℤ) → AreReasons places assumed trail.now
-        → Refutes places trail.now assumed refutation → IfSome result (IsConflict places trail.now.literals assumed) }
-    ensures none { (places : Places) (assumed : List ℤ) → AreReasons places assumed trail.now
+/// A clause whose literals are all false or assumed, and how many literals of the trail it takes for that.
+#[derive(Clone, Copy, Debug)]
+pub struct FirstConflict {
+    pub number: u32,
+    pub count: usize,
+}
+
+/// The first conflict, by how propagation came to one; nothing where two of the literals that are assumed clash.
+pub fn conflict_of(
+    trail: &FalseList,
+    given: &Marks,
+    refutation: Refutation,
+) -> Option<FirstConflict>
+    ensures first { (places : Places) (assumed : List ℤ) → HasSame given.now assumed → AreReasons places assumed trail.now
+        → Refutes places trail.now assumed refutation → IfSome result (IsFirstConflict places trail.now.literals assumed) }
+    ensures none { (places : Places) (assumed : List ℤ) → HasSame given.now assumed → AreReasons places assumed trail.now
         → Refutes places trail.now assumed refutation → result ≡ None → is_tautology assumed ≡ true }
+    ensures within { IfSome result (λ first. first.count ≤ length trail.now.literals) }
 {
     trail.apart_law();
     trail.once_law();
     match refutation {
-        Refutation::Conflict(number) => Some(number),
-        Refutation::Clash(literal) => reason_of(trail, literal.negated()),
+        Refutation::Conflict(number) => {
+            let count = trail.len();
+            Some(FirstConflict { number, count })
+        }
+        Refutation::Clash(_literal) => first_clash(trail, given),
     }
 }
 
-// Why a literal of these is false.
-fn reason_of(trail: &FalseList, literal: Lit) -> Option<u32>
-    ensures { literals_of trail.now.literals literal ≡ true → HasReason trail.now literal result }
+// The clause that forced the first literal whose negation is assumed.
+fn first_clash(trail: &FalseList, given: &Marks) -> Option<FirstConflict>
+    ensures clash { IfSome result (IsFirstClash trail.now given.now) }
+    ensures none { result ≡ None → NoneClashes trail.now given.now ⊎ ClashesAssumed trail.now given.now }
 {
     let count = trail.len();
     for place in 0..count {
-        let own = trail.literal(place);
-        if own == literal {
-            return trail.reason(place);
+        let clash = given.contains(trail.literal(place).negated());
+        if clash {
+            return by_reason(trail.reason(place), place);
         }
     }
     None
 }
 
-/// The hints that the conflict needs, in the place of those that are there.
+fn by_reason(reason: Option<u32>, count: usize) -> Option<FirstConflict>
+    ensures some { IfSome result (λ first. (first.count ≡ count) × (reason ≡ Some first.number)) }
+    ensures none { result ≡ None → reason ≡ None }
+{
+    match reason {
+        None => None,
+        Some(number) => Some(FirstConflict { number, count }),
+    }
+}
+
+/// The hints that the conflict needs, in the place of those that are there, the last one first.
 pub fn explain(
     db: &Database,
     trail: &FalseList,
+    given: &Marks,
     needed: &mut Marks,
     found: &mut IdList,
     order: &mut Order,
-    conflict: u32,
+    first: FirstConflict,
 ) -> Result<(), OutOfMemory>
-    ensures { OnOk result (Refute db.now trail.now conflict (reverse found.new)) }
+    requires within { first.count ≤ length trail.now.literals }
+    ensures { OnOk result (Refute db.now trail.now given.now first (reverse found.new)) }
 {
-    order.find(db, trail, conflict)?;
+    order.find(db, trail, given, first.number)?;
     let whole = explain_by(
         db,
         trail,
+        given,
         needed,
         &mut order.taken,
         found,
         order.places.as_slice(),
-        conflict,
+        first,
     )?;
     if whole {
         return Ok(());
     }
-    explain_all(db, trail, needed, found, conflict)
+    explain_all(db, trail, given, needed, found, first)
 }
 
 // The same by some places. The answer is whether they are all that are needed, each behind those that it needs.
 fn explain_by(
     db: &Database,
     trail: &FalseList,
+    given: &Marks,
     needed: &mut Marks,
     taken: &mut Marks,
     found: &mut IdList,
     places: &[usize],
-    conflict: u32,
+    first: FirstConflict,
 ) -> Result<bool, OutOfMemory>
-    ensures { IfOk result (λ whole. IsTrue whole → Refute db.now trail.now conflict (reverse found.new)) }
+    requires within { first.count ≤ length trail.now.literals }
+    ensures { IfOk result (λ whole. IsTrue whole → Refute db.now trail.now given.now first (reverse found.new)) }
 {
     needed.clear();
     taken.clear();
     found.clear();
-    note(db, needed, found, conflict)?;
+    note(db, needed, found, first.number)?;
     for place in places {
-        let fits = take_at(db, trail, needed, taken, found, *place)?;
+        if first.count <= *place {
+            return Ok(false);
+        }
+        let fits = take_at(db, trail, given, needed, taken, found, *place)?;
         if !fits {
             return Ok(false);
         }
     }
-    let whole = none_left(trail, taken, needed.as_slice());
+    let whole = none_left(trail, given, taken, needed.as_slice());
     Ok(whole)
 }
 
@@ -102,33 +136,50 @@ fn explain_by(
 fn take_at(
     db: &Database,
     trail: &FalseList,
+    given: &Marks,
     needed: &mut Marks,
     taken: &mut Marks,
     found: &mut IdList,
     place: usize,
 ) -> Result<bool, OutOfMemory>
-    ensures { IfOk result (λ fits. IsTrue fits → (conflict : ℕ)
-        → RefuteSoFar db.now trail.now conflict (length trail.now.literals) (pending needed.old taken.old) found.old
-        → RefuteSoFar db.now trail.now conflict (length trail.now.literals) (pending needed.new taken.new) found.new) }
+    requires within { place < length trail.now.literals }
+    ensures { IfOk result (λ fits. IsTrue fits → (first : FirstConflict) → place < first.count
+        → RefuteSoFar db.now trail.now given.now first (untaken first trail.now taken.old) (literals_of needed.old) found.old
+        → RefuteSoFar db.now trail.now given.now first (untaken first trail.now taken.new) (literals_of needed.new) found.new) }
 {
     trail.apart_law();
     trail.once_law();
-    let count = trail.len();
-    if count <= place {
-        return Ok(false);
+    let literal = trail.literal(place);
+    let again = taken.contains(literal);
+    if again {
+        return Ok(true);
     }
-    taken.mark(trail.literal(place))?;
-    match trail.reason(place) {
+    taken.mark(literal)?;
+    match forced_by(trail, given, place) {
         None => Ok(true),
         Some(number) => {
-            let again = needs_taken(db, taken, number);
-            if again {
+            let needs = needs_taken(db, taken, number);
+            if needs {
                 return Ok(false);
             }
             note(db, needed, found, number)?;
             Ok(true)
         }
     }
+}
+
+// The clause that forced the literal at a place, unless it is assumed.
+fn forced_by(trail: &FalseList, given: &Marks, place: usize) -> Option<u32>
+    requires within { place < length trail.now.literals }
+    ensures forced { IfSome result (IsForcedAt trail.now given.now place) }
+    ensures none { result ≡ None → (places : Places) (assumed : List ℤ) → HasSame given.now assumed → AreReasons places assumed trail.now
+        → literals_of assumed (slice_index_or trail.now.literals place (pos 0)) ≡ true }
+{
+    let is_given = given.contains(trail.literal(place));
+    if is_given {
+        return None;
+    }
+    trail.reason(place)
 }
 
 // Whether a literal of the clause was taken.
@@ -154,13 +205,13 @@ fn holds_one(taken: &Marks, clause: &[Lit]) -> bool
     false
 }
 
-// Whether each of these literals that is false was taken.
-fn none_left(trail: &FalseList, taken: &Marks, needed: &[Lit]) -> bool
+// Whether each of these literals that is false was taken, or is assumed.
+fn none_left(trail: &FalseList, given: &Marks, taken: &Marks, needed: &[Lit]) -> bool
     ensures { IsTrue result → (x : ℤ) → literals_of needed.now x ≡ true → literals_of trail.now.literals x ≡ true
-        → literals_of taken.now x ≡ true }
+        → (literals_of taken.now x || literals_of given.now x) ≡ true }
 {
     for literal in needed {
-        let left = is_left(trail, taken, *literal);
+        let left = is_left(trail, given, taken, *literal);
         if left {
             return false;
         }
@@ -168,29 +219,32 @@ fn none_left(trail: &FalseList, taken: &Marks, needed: &[Lit]) -> bool
     true
 }
 
-fn is_left(trail: &FalseList, taken: &Marks, literal: Lit) -> bool
-    ensures { result ≡ (literals_of trail.now.literals literal && not (literals_of taken.now literal)) }
+fn is_left(trail: &FalseList, given: &Marks, taken: &Marks, literal: Lit) -> bool
+    ensures { result
+        ≡ (literals_of trail.now.literals literal && not (literals_of taken.now literal) && not (literals_of given.now literal)) }
 {
-    trail.contains(literal) && !taken.contains(literal)
+    trail.contains(literal) && !taken.contains(literal) && !given.contains(literal)
 }
 
 // The hints that the conflict needs, found by going back over all places.
 fn explain_all(
     db: &Database,
     trail: &FalseList,
+    given: &Marks,
     needed: &mut Marks,
     found: &mut IdList,
-    conflict: u32,
+    first: FirstConflict,
 ) -> Result<(), OutOfMemory>
-    ensures { OnOk result (Refute db.now trail.now conflict (reverse found.new)) }
+    requires within { first.count ≤ length trail.now.literals }
+    ensures { OnOk result (Refute db.now trail.now given.now first (reverse found.new)) }
 {
     needed.clear();
     found.clear();
-    note(db, needed, found, conflict)?;
-    let mut place = trail.len();
+    note(db, needed, found, first.number)?;
+    let mut place = first.count;
     'places: while place > 0 {
         place -= 1;
-        take_back(db, trail, needed, found, place)?;
+        take_back(db, trail, given, needed, found, place)?;
     }
     Ok(())
 }
@@ -199,14 +253,15 @@ fn explain_all(
 fn take_back(
     db: &Database,
     trail: &FalseList,
+    given: &Marks,
     needed: &mut Marks,
     found: &mut IdList,
     place: usize,
 ) -> Result<(), OutOfMemory>
     requires within { place < length trail.now.literals }
-    requires reasons { place < length trail.now.reasons }
-    ensures { OnOk result ((conflict : ℕ) → RefuteSoFar db.now trail.now conflict (place + 1) (literals_of needed.old) found.old
-        → RefuteSoFar db.now trail.now conflict place (literals_of needed.new) found.new) }
+    ensures { OnOk result ((first : FirstConflict) → place < first.count
+        → RefuteSoFar db.now trail.now given.now first (literals_of (take (place + 1) trail.now.literals)) (literals_of needed.old) found.old
+        → RefuteSoFar db.now trail.now given.now first (literals_of (take place trail.now.literals)) (literals_of needed.new) found.new) }
 {
     trail.apart_law();
     trail.once_law();
@@ -214,7 +269,7 @@ fn take_back(
     if !is_needed {
         return Ok(());
     }
-    match trail.reason(place) {
+    match forced_by(trail, given, place) {
         None => Ok(()),
         Some(number) => {
             note(db, needed, found, number)?;

@@ -1,5 +1,5 @@
 // What an addition's line in an LRAT proof has behind its clause: hints that refute the clause, or a group of hints for each candidate.
-ghost use Rattle.std.specs.Prelude.{◌≡◌, ◌++◌, ◌∷◌, [], ℕ, ℤ, List, Some, true, false, OnOk, IfOk, IsTrue, IsFalse};
+ghost use Rattle.std.specs.Prelude.{◌≡◌, ◌++◌, ◌∷◌, [], ℕ, ℤ, List, Some, true, false, OnOk, IfOk, IsTrue};
 ghost use Rattle.std.specs.List.{list_all};
 ghost use Rattle.cnf_base.specs.declared.step.Step.TheVariants.{Add};
 ghost use Rattle.cnf_base.specs.Truth.{is_literal_of};
@@ -9,7 +9,7 @@ ghost use Rattle.lrat_rules.specs.Chain.{literals_of};
 ghost use Rattle.drat_rules.specs.Addition.{others_of};
 ghost use Rattle.drat_checker.specs.Places.{Places, place_at};
 ghost use Rattle.drat_checker.specs.Reasons.{AreReasons, Refutes};
-ghost use Rattle.drat_checker.specs.Hints.{is_tautology};
+ghost use Rattle.drat_checker.specs.Hints.{HasSame, is_tautology};
 ghost use Rattle.drat_checker.specs.Lines.{AreBlocked, Explain, FitOneMore, IsGoodLine, IsPlaceBlocked};
 
 use crate::addition::{Refutation, holds_negated};
@@ -17,7 +17,7 @@ use crate::blocked::clashes;
 use crate::database::Database;
 use crate::false_list::FalseList;
 use crate::hints::{conflict_of, explain, id_of, push_turned};
-use crate::marks::{Marks, is_tautology};
+use crate::marks::{Marks, is_tautology, mark_both, mark_clause};
 use crate::order::Order;
 use cnf_base::{Group, GroupList, Id, IdList, Lit, LitList, OutOfMemory, Step};
 use std::alloc::Global;
@@ -30,6 +30,7 @@ pub struct LineHints {
     is_wanted: bool,
     pub hints: IdList,
     pub groups: GroupList,
+    given: Marks,
     needed: Marks,
     found: IdList,
     order: Order,
@@ -47,6 +48,7 @@ impl LineHints {
             is_wanted,
             hints: IdList::new(alloc),
             groups: GroupList::new(alloc),
+            given: Marks::new(alloc),
             needed: Marks::new(alloc),
             found: IdList::new(alloc),
             order: Order::new(alloc),
@@ -95,18 +97,21 @@ impl LineHints {
         &mut self,
         db: &Database,
         trail: &FalseList,
+        clause: &[Lit],
         refutation: Refutation,
     ) -> Result<(), OutOfMemory>
         ensures wanted { self.new.is_wanted ≡ self.old.is_wanted }
-        ensures explain { OnOk result (IsTrue self.old.is_wanted → Explain db.now trail.now refutation self.new.hints) }
+        ensures explain { OnOk result (IsTrue self.old.is_wanted → Explain db.now trail.now clause.now refutation self.new.hints) }
         ensures groups { self.new.groups ≡ self.old.groups }
     {
         if !self.is_wanted {
             return Ok(());
         }
+        mark_clause(&mut self.given, clause)?;
         explain_into(
             db,
             trail,
+            &self.given,
             &mut self.needed,
             &mut self.found,
             &mut self.order,
@@ -115,7 +120,8 @@ impl LineHints {
         )
     }
 
-    /// The group of a candidate, by how propagation from both came to a conflict. A tautology is no clause of the LRAT proof.
+    /// The group of a candidate, by how propagation from both came to a conflict. A tautology is no clause of the LRAT proof, and a
+    /// candidate that is blocked needs no hints.
     pub fn add_candidate(
         &mut self,
         db: &Database,
@@ -138,12 +144,15 @@ impl LineHints {
         if !self.is_wanted {
             return Ok(());
         }
+        let is_blocked = clashes(pivot, clause, other);
+        if is_blocked {
+            return self.add_bare(number, other);
+        }
         let tautology = is_tautology(&mut self.needed, other)?;
         if tautology {
             return Ok(());
         }
-        let is_blocked = clashes(pivot, clause, other);
-        let hints = self.group_hints(db, trail, refutation, is_blocked)?;
+        let hints = self.group_hints(db, trail, clause, pivot, other, refutation)?;
         let id = id_of(number);
         self.groups.push(Group { id, hints })?;
         Ok(())
@@ -224,27 +233,27 @@ impl LineHints {
         Ok(())
     }
 
-    // The hints of a candidate's group: none where it is blocked.
+    // The hints of a group: they refute the clause together with the candidate's other literals.
     fn group_hints(
         &mut self,
         db: &Database,
         trail: &FalseList,
+        clause: &[Lit],
+        pivot: Lit,
+        other: &[Lit],
         refutation: Refutation,
-        is_blocked: bool,
     ) -> Result<IdList, OutOfMemory>
         ensures wanted { self.new.is_wanted ≡ self.old.is_wanted }
         ensures hints { self.new.hints ≡ self.old.hints }
         ensures groups { self.new.groups ≡ self.old.groups }
-        ensures explain { IfOk result (λ hints. IsFalse is_blocked → Explain db.now trail.now refutation hints) }
-        ensures bare { IfOk result (λ hints. IsTrue is_blocked → hints ≡ []) }
+        ensures explain { IfOk result (λ hints. Explain db.now trail.now (clause.now ++ others_of pivot other.now) refutation hints) }
     {
         let mut hints = IdList::new(self.alloc);
-        if is_blocked {
-            return Ok(hints);
-        }
+        mark_both(&mut self.given, clause, pivot, other)?;
         explain_into(
             db,
             trail,
+            &self.given,
             &mut self.needed,
             &mut self.found,
             &mut self.order,
@@ -272,19 +281,20 @@ fn copied(alloc: Global, clause: &[Lit]) -> Result<LitList, OutOfMemory>
 fn explain_into(
     db: &Database,
     trail: &FalseList,
+    given: &Marks,
     needed: &mut Marks,
     found: &mut IdList,
     order: &mut Order,
     refutation: Refutation,
     hints: &mut IdList,
 ) -> Result<(), OutOfMemory>
-    ensures { OnOk result (Explain db.now trail.now refutation hints.new) }
+    ensures { OnOk result ((assumed : List ℤ) → HasSame given.now assumed → Explain db.now trail.now assumed refutation hints.new) }
 {
     hints.clear();
-    match conflict_of(trail, refutation) {
+    match conflict_of(trail, given, refutation) {
         None => Ok(()),
-        Some(number) => {
-            explain(db, trail, needed, found, order, number)?;
+        Some(first) => {
+            explain(db, trail, given, needed, found, order, first)?;
             push_turned(found.as_slice(), hints)?;
             Ok(())
         }

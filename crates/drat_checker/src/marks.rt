@@ -1,8 +1,9 @@
 // Literals that are marked, each once, with a flag for each: one is tested in one step, and clearing is work for these alone.
-ghost use Rattle.std.specs.Prelude.{◌≡◌, [], ℤ, true, OnOk, OnErr, IfOk};
+ghost use Rattle.std.specs.Prelude.{◌≡◌, ◌++◌, ◌||◌, [], ℤ, true, OnOk, OnErr, IfOk};
 ghost use Rattle.lrat_rules.specs.Chain.{literals_of};
 ghost use Rattle.lrat_rules.specs.Trail.{with_last};
-ghost use Rattle.drat_checker.specs.Hints.{is_tautology};
+ghost use Rattle.drat_rules.specs.Addition.{others_of};
+ghost use Rattle.drat_checker.specs.Hints.{HasSame, is_tautology};
 
 use crate::false_list::clear_all;
 use crate::flags::Flags;
@@ -70,6 +71,7 @@ impl Marks {
     pub fn mark_all(&mut self, clause: &[Lit]) -> Result<(), OutOfMemory>
         ensures kept { (x : ℤ) → literals_of self.old x ≡ true → literals_of self.new x ≡ true }
         ensures marked { OnOk result ((x : ℤ) → literals_of clause.now x ≡ true → literals_of self.new x ≡ true) }
+        ensures sets { OnOk result ((x : ℤ) → literals_of self.new x ≡ (literals_of self.old x || literals_of clause.now x)) }
     {
         for literal in clause {
             self.mark(*literal)?;
@@ -106,4 +108,32 @@ pub fn is_tautology(marks: &mut Marks, clause: &[Lit]) -> Result<bool, OutOfMemo
         marks.mark(*literal)?;
     }
     Ok(false)
+}
+
+/// The literals of a clause alone are marked.
+pub fn mark_clause(marks: &mut Marks, clause: &[Lit]) -> Result<(), OutOfMemory>
+    ensures { OnOk result (HasSame marks.new clause.now) }
+{
+    marks.clear();
+    marks.mark_all(clause)
+}
+
+/// The same with those of a candidate, but for the pivot's negation.
+pub fn mark_both(
+    marks: &mut Marks,
+    clause: &[Lit],
+    pivot: Lit,
+    other: &[Lit],
+) -> Result<(), OutOfMemory>
+    ensures { OnOk result (HasSame marks.new (clause.now ++ others_of pivot other.now)) }
+{
+    mark_clause(marks, clause)?;
+    let negated = pivot.negated();
+    for literal in other {
+        if *literal == negated {
+            continue;
+        }
+        marks.mark(*literal)?;
+    }
+    Ok(())
 }

@@ -8,7 +8,7 @@ ghost use Rattle.drat_checker.specs.Places.{IsFirst, IsNone, place_at, standing}
 ghost use Rattle.drat_checker.specs.Hints.{is_tautology};
 ghost use Rattle.drat_checker.specs.Lines.{IsGoodLine};
 
-use crate::addition::{Refutation, addition_fault};
+use crate::addition::{addition_fault, refutation_by};
 use crate::blocked::is_blocked;
 use crate::database::Database;
 use crate::false_list::FalseList;
@@ -101,7 +101,8 @@ impl NumberedJudge {
         self.roots = Roots::Lost;
         let clash = settle(&self.db, &mut self.kept, &mut self.trail, roots)?;
         if let Some(number) = clash {
-            line.note_refutation(&self.db, &self.trail, Refutation::Conflict(number))?;
+            let refutation = refutation_by(&self.trail, clause, number);
+            line.note_refutation(&self.db, &self.trail, clause, refutation)?;
             self.roots = Roots::Clash(number);
             return Ok(None);
         }

@@ -30,31 +30,37 @@ impl Order {
         }
     }
 
-    /// Finds the places of what a conflict needs, the last one first.
+    /// Finds the places of what a conflict needs and isn't assumed, the last one first.
     pub fn find(
         &mut self,
         db: &Database,
         trail: &FalseList,
+        given: &Marks,
         conflict: u32,
     ) -> Result<(), OutOfMemory> {
         see_last(&mut self.seen, trail)?;
         self.places.clear();
         self.queued.clear();
-        self.enter(db, trail, conflict)?;
-        self.follow_all(db, trail)?;
+        self.enter(db, trail, given, conflict)?;
+        self.follow_all(db, trail, given)?;
         self.places
             .sort_unstable_by_key(|place| usize::MAX - *place);
         Ok(())
     }
 
     // Each place needs the literals of the clause that forced its own.
-    fn follow_all(&mut self, db: &Database, trail: &FalseList) -> Result<(), OutOfMemory> {
+    fn follow_all(
+        &mut self,
+        db: &Database,
+        trail: &FalseList,
+        given: &Marks,
+    ) -> Result<(), OutOfMemory> {
         for next in 0..trail.len() {
             if self.places.len() <= next {
                 return Ok(());
             }
             let place = self.places[next];
-            self.follow(db, trail, place)?;
+            self.follow(db, trail, given, place)?;
         }
         Ok(())
     }
@@ -63,6 +69,7 @@ impl Order {
         &mut self,
         db: &Database,
         trail: &FalseList,
+        given: &Marks,
         place: usize,
     ) -> Result<(), OutOfMemory> {
         if trail.len() <= place {
@@ -70,27 +77,43 @@ impl Order {
         }
         match trail.reason(place) {
             None => Ok(()),
-            Some(number) => self.enter(db, trail, number),
+            Some(number) => self.enter(db, trail, given, number),
         }
     }
 
     // The places of a clause's literals.
-    fn enter(&mut self, db: &Database, trail: &FalseList, number: u32) -> Result<(), OutOfMemory> {
+    fn enter(
+        &mut self,
+        db: &Database,
+        trail: &FalseList,
+        given: &Marks,
+        number: u32,
+    ) -> Result<(), OutOfMemory> {
         match db.clause(number) {
             None => Ok(()),
-            Some(clause) => self.enter_all(trail, clause),
+            Some(clause) => self.enter_all(trail, given, clause),
         }
     }
 
-    fn enter_all(&mut self, trail: &FalseList, clause: &[Lit]) -> Result<(), OutOfMemory> {
+    fn enter_all(
+        &mut self,
+        trail: &FalseList,
+        given: &Marks,
+        clause: &[Lit],
+    ) -> Result<(), OutOfMemory> {
         for literal in clause {
-            self.enter_literal(trail, *literal)?;
+            self.enter_literal(trail, given, *literal)?;
         }
         Ok(())
     }
 
-    fn enter_literal(&mut self, trail: &FalseList, literal: Lit) -> Result<(), OutOfMemory> {
-        if self.queued.contains(literal) || !trail.contains(literal) {
+    fn enter_literal(
+        &mut self,
+        trail: &FalseList,
+        given: &Marks,
+        literal: Lit,
+    ) -> Result<(), OutOfMemory> {
+        if self.queued.contains(literal) || given.contains(literal) || !trail.contains(literal) {
             return Ok(());
         }
         self.queued.mark(literal)?;

@@ -1,37 +1,11 @@
 -- Hints and groups cut to the numbers that a check took are what the addition needs.
-use Rattle.std.proofs.Common.{◌≡◌, ℕ, zero, suc, ◌+◌, ◌<◌, ◌≤◌, true, false, ℤ, List, [], ◌∷◌, ◌++◌, length, take, get_or, Some, None, refl, sym, ap}
-use Rattle.std.proofs.Common.{◌∙◌, arith}
+use Rattle.std.proofs.Common.{◌≡◌, ℕ, true, false, ℤ, List, [], ◌∷◌, take, Some, refl, ap}
 use Rattle.std.specs.Prelude.{map}
 use Rattle.cnf_base.specs.declared.list.Group.{Group}
 use Rattle.lrat_rules.specs.State.{Live, clause_at}
 use Rattle.lrat_rules.specs.Chain.{FalseSet, literals_of, chain, Outcome, Open, Closed, Bad}
 use Rattle.lrat_rules.specs.Addition.{is_blocked_by, with_candidate}
 use Rattle.lrat_checker.specs.Cuts.{used, group_use, cut_group, cut_groups, cut_of, group_uses, uses_of, groups_by, cut_by}
-
--- one group more
-pub groups_by-more : (groups : List Group) (counts : List ℕ) (i : ℕ) (group d : Group) (count e : ℕ) → i < length groups → i < length counts
-    → group ≡ get_or groups i d → count ≡ get_or counts i e
-    → groups_by (take (suc i) groups) counts
-    ≡ groups_by (take i groups) counts ++ record { id = group.id; hints = take count group.hints } ∷ []
-groups_by-more [] counts i group d count e short within is of = absurd (omega (arith, short))
-groups_by-more (first ∷ groups) [] i group d count e short within is of = absurd (omega (arith, within))
-groups_by-more (first ∷ groups) (number ∷ counts) zero group d count e short within is of =
-    sym (λ j. record { id = (is j).id; hints = take (of j) (is j).hints } ∷ [])
-groups_by-more (first ∷ groups) (number ∷ counts) (suc i) group d count e short within is of =
-    ap (λ (l : List Group). record { id = first.id; hints = take number first.hints } ∷ l)
-    (groups_by-more groups counts i group d count e (omega (arith, short)) (omega (arith, within)) is of)
-
--- where the groups or the counts end, so do both
-pub groups_by-end : (groups : List Group) (counts : List ℕ) (n : ℕ) → (n < length groups → length counts ≤ n)
-    → groups_by (take n groups) counts ≡ groups_by groups counts
-groups_by-end [] counts zero ends = refl
-groups_by-end [] counts (suc n) ends = refl
-groups_by-end (group ∷ groups) [] zero ends = refl
-groups_by-end (group ∷ groups) [] (suc n) ends = refl
-groups_by-end (group ∷ groups) (count ∷ counts) zero ends = absurd (omega (arith, ends (omega arith)))
-groups_by-end (group ∷ groups) (count ∷ counts) (suc n) ends =
-    ap (λ (l : List Group). record { id = group.id; hints = take count group.hints } ∷ l)
-    (groups_by-end groups counts n (λ short. omega (arith, ends (omega (arith, short)))))
 
 module _ (live : Live) where
   pub groups_by-uses : (n : FalseSet) (pivot : ℤ) (groups : List Group) → groups_by groups (map (group_use live n pivot) groups)

@@ -11,8 +11,12 @@ use Rattle.lrat_rules.specs.declared.outcome.Effect.TheVariants.{Conflict, Unit 
 use Rattle.lrat_rules.specs.State.{State, Live, clause_at}
 use Rattle.lrat_rules.specs.Chain.{FalseSet, literals_of, with_literal, effect, chain, Outcome, Open, Closed, Bad}
 use Rattle.lrat_rules.specs.Addition.{is_blocked_by, with_candidate}
-use Rattle.lrat_checker.specs.declared.cut.Cut.{Cut}
-use Rattle.lrat_checker.specs.declared.cut.Uses.{Uses}
+use Rattle.lrat_checker.specs.declared.uses.Uses.{Uses}
+
+-- the hints and the groups that an addition needs
+pub record Cut : Type 0 where
+  pub pos : List ℕ
+  pub groups : List Group
 
 -- how many hints are taken from one on, by its effect: no more behind a conflict or a bad hint
 abbrev pub used_by_effect : FalseSet → (FalseSet → ℕ) → Effect → ℕ
@@ -55,11 +59,6 @@ cut_of live clause hints groups = record {
   pos = take (used live (literals_of clause) hints) hints;
   groups = cut_groups live clause groups (chain live (literals_of clause) hints);
 }
-
--- the same for a step; a deletion has no hints
-abbrev pub cut_of_step : State → Step → Cut
-cut_of_step state (Add id clause hints groups) = cut_of state.live clause hints groups
-cut_of_step state (Delete id ids) = record { pos = []; groups = [] }
 
 -- the same in numbers: of how many hints, and of each group that is needed, of how many of its hints
 abbrev pub group_uses : Live → List ℤ → List Group → Outcome → List ℕ

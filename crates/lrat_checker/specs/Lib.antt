@@ -1,3 +1,5 @@
+pub mod Stamps
+pub mod Stamped
 pub mod Walk
 pub mod Clauses
 pub mod Counts

@@ -2,20 +2,19 @@
 // or its first literal, the pivot, has a refutation for each candidate. (LRAT: RUP and RAT steps.)
 ghost use Rattle.std.specs.Prelude.{◌≡◌, ◌<◌, not, [], None, IfOk, IfNone, OnOk, OnErr, IsTrue};
 ghost use Rattle.cnf_base.specs.ProofText.{is_empty};
-ghost use Rattle.lrat_rules.specs.Chain.{chain as chain_of, literals_of};
 ghost use Rattle.lrat_rules.specs.Addition.{fault, fault_after_hints};
-ghost use Rattle.lrat_rules.specs.FalseLiterals.{set_of, before_of};
+ghost use Rattle.lrat_checker.specs.Stamped.{set_of, before_of};
 ghost use Rattle.lrat_checker.specs.Ends.{outcome_at};
 ghost use Rattle.lrat_checker.specs.Cuts.{group_uses, uses_of};
 ghost use Rattle.lrat_checker.specs.Memory.{judging_keeps};
 
-use crate::cut::Uses;
+use crate::chain::Chain;
 use crate::live::IndexedClauses;
 use crate::propagation::{HintsEnd, run_hints};
-use crate::resolvents::{groups_fault, resolvents_fault};
+use crate::resolvents::resolvents_fault;
+use crate::uses::Uses;
 use cnf_base::{Group, Id, Lit, OutOfMemory};
-use lrat_rules::{Chain, Reason};
-use std::alloc::Global;
+use lrat_rules::Reason;
 
 /// Why the addition of this clause under this number isn't good; where it is, which hints its check took.
 pub fn addition_fault(
@@ -41,27 +40,6 @@ pub fn addition_fault(
     let (end, used) = run_hints(live, chain, hints)?;
     uses.restart(used);
     fault_after_hints(live, chain, clause, groups, end, uses)
-}
-
-/// Which hints the check of a good addition takes.
-pub fn addition_uses(
-    alloc: Global,
-    live: &IndexedClauses,
-    clause: &[Lit],
-    hints: &[Id],
-    groups: &[Group],
-    uses: &mut Uses,
-) -> Result<(), OutOfMemory>
-    requires { fault_after_hints live.now clause.now groups.now (chain_of live.now (literals_of clause.now) hints.now) ≡ None }
-    ensures { OnOk result (uses.new ≡ uses_of live.now clause.now hints.now groups.now) }
-{
-    let mut chain = Chain::start(alloc, clause)?;
-    let (end, used) = run_hints(live, &mut chain, hints)?;
-    uses.restart(used);
-    if let (HintsEnd::NoConflict, [pivot, ..]) = (end, clause) {
-        groups_fault(live, &mut chain, *pivot, groups, uses)?;
-    }
-    Ok(())
 }
 
 // After the addition's own hints.

@@ -4,12 +4,12 @@ ghost use Rattle.std.specs.List.{list_any, list_all};
 ghost use Rattle.std.specs.Option.{option_copied};
 ghost use Rattle.lrat_rules.specs.State.{clause_at};
 ghost use Rattle.lrat_rules.specs.Addition.{is_candidate, holds_negated};
-ghost use Rattle.lrat_rules.specs.FalseLiterals.{set_of, before_of};
+ghost use Rattle.lrat_checker.specs.Stamped.{set_of, before_of};
 ghost use Rattle.lrat_checker.specs.Walk.{settles, settles_at, has_group, IsCountOfNamed};
 
+use crate::chain::Chain;
 use crate::clauses::Clauses;
 use cnf_base::{Group, Id, Lit};
-use lrat_rules::Chain;
 
 /// How many candidates the groups name, counting those whose numbers are greater than all before, so none twice.
 pub fn named_candidates(clauses: &Clauses, pivot: Lit, groups: &[Group]) -> usize

@@ -5,17 +5,17 @@ ghost use Rattle.std.specs.FinMap as map;
 ghost use Rattle.std.specs.Option.{option_copied};
 ghost use Rattle.cnf_base.specs.declared.step.Step.TheVariants.{Add};
 ghost use Rattle.lrat_rules.specs.State.{start, clause_at, with_clause, numbered_from};
-ghost use Rattle.lrat_rules.specs.Chain.{chain, literals_of};
-ghost use Rattle.lrat_rules.specs.Addition.{fault, fault_after_hints};
+ghost use Rattle.lrat_rules.specs.Addition.{fault};
 ghost use Rattle.lrat_rules.specs.Run.{step_fault, after_step};
-ghost use Rattle.lrat_checker.specs.Cuts.{cut_of, cut_of_step, uses_of, uses_of_step};
+ghost use Rattle.lrat_checker.specs.Cuts.{uses_of, uses_of_step};
 ghost use Rattle.lrat_checker.specs.Memory.{may_want_memory};
 
-use crate::addition::{addition_fault, addition_uses};
-use crate::cut::{Cut, Uses};
+use crate::addition::addition_fault;
+use crate::chain::Chain;
 use crate::live::IndexedClauses;
-use cnf_base::{Cnf, Group, GroupList, Id, IdList, Lit, OutOfMemory, Step};
-use lrat_rules::{Chain, Reason};
+use crate::uses::Uses;
+use cnf_base::{Cnf, Group, Id, Lit, OutOfMemory, Step};
+use lrat_rules::Reason;
 use std::alloc::Global;
 use std::marker::Model;
 
@@ -43,7 +43,7 @@ impl Judge {
     pub fn open(alloc: Global, formula: &Cnf) -> Result<Judge, OutOfMemory>
         ensures { IfOk result (λ judge. judge ≡ start formula.now.clauses) }
     {
-        let chain = Chain::start(alloc, &[])?;
+        let chain = Chain::new(alloc);
         let live = numbered(alloc, formula)?;
         let top = Id(formula.len() as u64);
         Ok(Judge {
@@ -99,31 +99,6 @@ impl Judge {
         }
     }
 
-    /// What a step that is good now needs: of an addition the hints that its check takes, of a deletion none.
-    pub fn needs(&self, step: &Step) -> Result<Cut, OutOfMemory>
-        requires good { step_fault self.now step.now ≡ None }
-        ensures { IfOk result (λ cut. cut ≡ cut_of_step self.now step.now) }
-    {
-        match step {
-            Step::Add {
-                lits,
-                pos,
-                groups,
-                ..
-            } => addition_needs(
-                self.alloc,
-                &self.live,
-                lits.as_slice(),
-                pos.as_slice(),
-                groups.as_slice(),
-            ),
-            Step::Delete { .. } => Ok(Cut {
-                pos: IdList::new(self.alloc),
-                groups: GroupList::new(self.alloc),
-            }),
-        }
-    }
-
     /// The clause of this number, where it is live.
     pub fn clause(&self, id: Id) -> Option<&[Lit]>
         ensures { option_copied result ≡ clause_at self.now.live id }
@@ -171,22 +146,6 @@ impl Judge {
         self.top = id;
         Ok(None)
     }
-}
-
-// What an addition that is good, but maybe for its number, needs.
-fn addition_needs(
-    alloc: Global,
-    live: &IndexedClauses,
-    clause: &[Lit],
-    hints: &[Id],
-    groups: &[Group],
-) -> Result<Cut, OutOfMemory>
-    requires good { fault_after_hints live.now clause.now groups.now (chain live.now (literals_of clause.now) hints.now) ≡ None }
-    ensures { IfOk result (λ cut. cut ≡ cut_of live.now clause.now hints.now groups.now) }
-{
-    let mut uses = Uses::new(alloc);
-    addition_uses(alloc, live, clause, hints, groups, &mut uses)?;
-    Cut::by(alloc, &uses, hints, groups)
 }
 
 // The clauses of a formula under 1, 2, ..

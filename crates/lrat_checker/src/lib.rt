@@ -6,11 +6,11 @@
 
 mod addition;
 mod candidates;
+mod chain;
 mod chunk;
 mod clause;
 mod clauses;
 mod counts;
-mod cut;
 mod holders;
 mod judge;
 mod laws;
@@ -19,11 +19,13 @@ mod numbers;
 mod propagation;
 mod resolvents;
 mod slot;
+mod stamps;
 mod text;
+mod uses;
 mod verdict;
 
-pub use cut::{Cut, Uses};
 pub use judge::Judge;
 pub use laws::{check_law, cut_law};
 pub use text::{answer_to, check, or_adds_empty, verdict_at_end};
+pub use uses::Uses;
 pub use verdict::{CheckError, Verdict};

@@ -3,14 +3,15 @@
 ghost use Rattle.std.specs.Prelude.{◌≡◌, ◌++◌, map, None, IfOk, IfNone, OnOk};
 ghost use Rattle.lrat_rules.specs.Chain.{chain as chain_of};
 ghost use Rattle.lrat_rules.specs.Addition.{with_candidate, outcome_fault, group_fault, groups_fault, resolvents_fault};
-ghost use Rattle.lrat_rules.specs.FalseLiterals.{set_of, before_of};
+ghost use Rattle.lrat_checker.specs.Stamped.{set_of, before_of};
 ghost use Rattle.lrat_checker.specs.Cuts.{used, group_use};
 
-use crate::cut::Uses;
+use crate::chain::Chain;
 use crate::live::IndexedClauses;
 use crate::propagation::{HintsEnd, run_hints};
+use crate::uses::Uses;
 use cnf_base::{Group, Id, Lit, OutOfMemory};
-use lrat_rules::{Chain, Reason};
+use lrat_rules::Reason;
 
 /// The first fault of the groups in turn, or else that a candidate is neither blocked nor named by a group. Where there is none,
 /// it is told how many hints of each group were taken.

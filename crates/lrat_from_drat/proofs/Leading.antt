@@ -4,7 +4,7 @@ use Rattle.std.proofs.Common.{◌≡◌, ℕ, ◌+◌, Bool, true, false, ◌||�
 use Rattle.std.proofs.Common.{sym, ◌∙◌, ap, append_assoc, arith, inl, inr}
 use Rattle.std.specs.Prelude.{Result, IsTrue}
 use Rattle.std.specs.List.{list_any}
-use Rattle.std.proofs.lemmas.Bool.{and_from, or_cases, or_left, or_right}
+use Rattle.std.proofs.lemmas.Bool.{and_from, and_parts, or_cases, or_left, or_right}
 use Rattle.std.proofs.lemmas.List.{append-nil}
 use Rattle.std.proofs.lemmas.List.Folds.{list_all-append, list_any-append}
 use Rattle.std.proofs.lemmas.Grind.{flat_map-append}
@@ -18,9 +18,10 @@ use Rattle.lrat_text.specs.declared.reader.ReaderStatus.TheVariants.{Reading}
 use Rattle.lrat_text.specs.LineReader.{ReaderOf, GaveStep, given, steps_ahead, so_far}
 use Rattle.lrat_text.specs.LineWants.{wants_ahead}
 use Rattle.lrat_rules.specs.State.{State}
-use Rattle.lrat_rules.specs.Run.{run, step_adds_empty}
+use Rattle.lrat_rules.specs.Run.{Reached, after_step, run, step_adds_empty}
 use Rattle.lrat_rules.specs.Derivation.{lines_from, text_of}
-use Rattle.lrat_rules.proofs.MoreLines.{run-append}
+use Rattle.lrat_rules.proofs.MoreLines.{run-append, run_on}
+use Rattle.lrat_rules.proofs.SoundSteps.{same_reached}
 use Rattle.lrat_from_drat.proofs.Followed.{leads-none}
 use Rattle.drat_text.specs.declared.step.DratStep.{DratStep}
 use Rattle.drat_text.specs.Draft.{DratDraft, drat_form}
@@ -33,7 +34,7 @@ use Rattle.drat_checker.specs.Memory.{drat_reading_may_want_memory}
 use Rattle.drat_checker.specs.Places.{Places, standing}
 use Rattle.drat_checker.proofs.Turns.{at_good_step, good_so_far}
 use Rattle.drat_checker.proofs.Wanted.{behind_wants}
-use Rattle.lrat_from_drat.specs.Following.{Follows, Leads}
+use Rattle.lrat_from_drat.specs.Following.{Follows, Leads, are_strict, is_strict_step}
 use Rattle.lrat_from_drat.specs.Lrat.{bare, lrat_of, lrat_of_step}
 use Rattle.lrat_from_drat.specs.Writing.{Writes}
 use Rattle.lrat_from_drat.specs.Conversion.{ReadsStep}
@@ -47,10 +48,19 @@ lines_from-append line (x ∷ xs) ys =
     ap (λ (ls : List Line). record { line = line; step = Some x } ∷ ls) (lines_from-append (line + 1) xs ys
     ∙ ap (λ (n : ℕ). lines_from (line + 1) xs ++ lines_from n ys) same)
 
+strict-append : (a b : State) (line : ℕ) (xs ys : List Step) → run a (lines_from line xs) ≡ Reached b → are_strict a xs ≡ true
+    → are_strict b ys ≡ true → are_strict a (xs ++ ys) ≡ true
+strict-append a b line [] ys runs f g = ap (λ s. are_strict s ys) (same_reached a b runs) ∙ g
+strict-append a b line (x ∷ xs) ys runs f g =
+    let parts = and_parts (is_strict_step a x) (are_strict (after_step a x) xs) f in
+    and_from _ _ parts.0
+    (strict-append (after_step a x) b (line + 1) xs ys (run_on a b line x (lines_from (line + 1) xs) runs) parts.1 g)
+
 pub leads-then : {a b c : State} {xs ys : List Step} → Leads a b xs → Leads b c ys → Leads a c (xs ++ ys)
 leads-then {a} {b} {c} {xs} {ys} f g = record {
   reached = λ line. ap (run a) (lines_from-append line xs ys)
       ∙ run-append a b (lines_from line xs) (lines_from (line + length xs) ys) (f.reached line) ∙ g.reached (line + length xs);
+  strict = strict-append a b 1 xs ys (f.reached 1) f.strict g.strict;
   printable = list_all-append is_printable xs ys ∙ and_from _ _ f.printable g.printable;
 }
 

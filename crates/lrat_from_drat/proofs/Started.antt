@@ -97,7 +97,7 @@ module _ (law : ClausesLaw) (above : AboveLaw) (zero_law : ZeroLaw) (clauses : L
   begun-line tells old new last written range at some w = record {
     then = record { live = without_clauses (start clauses).live ids; top = length clauses };
     steps = Delete last ids ∷ [];
-    leads = leads-one (start clauses) (Delete last ids) refl (and_from _ _ range dropped.range);
+    leads = leads-one (start clauses) (Delete last ids) refl refl (and_from _ _ range dropped.range);
     follows = follows-begun;
     alike = begins-so last (length clauses) ids at some ∙ ap (beginning_by (length clauses)) all;
     lines = one-line (Delete last ids) w;

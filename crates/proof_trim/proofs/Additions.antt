@@ -13,8 +13,7 @@ use Rattle.lrat_rules.specs.declared.outcome.Reason.TheVariants.{NoConflict, Can
 use Rattle.lrat_rules.specs.State.{Live, clause_at}
 use Rattle.lrat_rules.specs.Chain.{FalseSet, literals_of, chain, Outcome, Open, Closed, Bad}
 use Rattle.lrat_rules.specs.Addition.{first_of_faults, groups_fault, is_settled, resolvents_fault, fault_after_hints}
-use Rattle.lrat_checker.specs.declared.cut.Cut.{Cut}
-use Rattle.lrat_checker.specs.Cuts.{cut_group, cut_groups, cut_of}
+use Rattle.lrat_checker.specs.Cuts.{Cut, cut_group, cut_groups, cut_of}
 use Rattle.proof_trim.specs.Trimmed.{group_names}
 use Rattle.proof_trim.proofs.Chains.{has_id, Agree, chain_agrees, used_agrees, is_fine, taken, chain_taken, taken_again, taken_live}
 use Rattle.proof_trim.proofs.Groups.{AgreeOn, groups_fault-cut, groups-cut_again, groups-live, settled-cut}

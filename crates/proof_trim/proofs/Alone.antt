@@ -18,8 +18,7 @@ use Rattle.lrat_rules.specs.Addition.{fault, fault_after_hints}
 use Rattle.lrat_rules.specs.Derivation.{lines_from}
 use Rattle.lrat_rules.specs.Run.{Judged, Reached, run, judge_step, step_fault, after_step, step_adds_empty}
 use Rattle.lrat_rules.specs.Soundness.{LiveHasNoZero, SatisfiesUpToPivot, make_true, lines_have_no_zero, step_has_no_zero}
-use Rattle.lrat_checker.specs.declared.cut.Cut.{Cut}
-use Rattle.lrat_checker.specs.Cuts.{cut_of}
+use Rattle.lrat_checker.specs.Cuts.{Cut, cut_of}
 use Rattle.proof_trim.specs.Trimmed.{cut_step, names}
 use Rattle.proof_trim.specs.Core.{are_naming, clauses_at, core_of, core_start, others}
 use Rattle.proof_trim.proofs.Chains.{has_id}

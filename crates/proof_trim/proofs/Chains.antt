@@ -99,29 +99,6 @@ chain_taken live n (hint ∷ hints) fine =
           ∙ chain_taken live m hints (sym (ap is_fine led) ∙ fine) ∙ sym led
     ]
 
-not_open : {A : Type 0} (end : FalseSet) → Closed ≡ Open end → A
-not_open end e = cc
-
--- Where they reach no conflict, all are taken.
-pub used_open : (live : Live) (n : FalseSet) (hints : List ℕ) (end : FalseSet) → chain live n hints ≡ Open end
-    → used live n hints ≡ length hints
-used_open live n [] end open_end = refl
-used_open live n (hint ∷ hints) end open_end =
-    elim (first_of_fine live n hint hints (ap is_fine open_end)) [
-      | conflicts clause is does ↦
-          not_open end (sym (leads live n hint hints clause Conflict is does) ∙ open_end)
-      | forces clause literal is does ↦
-          let m : FalseSet = with_literal (neg_ℤ literal) n in
-          used_effect live n hint hints clause (Forced literal) is does
-          ∙ ap suc (used_open live m hints end (sym (leads live n hint hints clause (Forced literal) is does) ∙ open_end))
-    ]
-
-pub taken_open : (live : Live) (n : FalseSet) (hints : List ℕ) (end : FalseSet) → chain live n hints ≡ Open end
-    → taken live n hints ≡ hints
-taken_open live n hints end open_end =
-    let all : used live n hints ≡ length hints = used_open live n hints end open_end in
-    take_all (used live n hints) hints (omega (arith, all))
-
 -- They are cut no more.
 pub used_again : (live : Live) (n : FalseSet) (hints : List ℕ) → is_fine (chain live n hints) ≡ true
     → used live n (taken live n hints) ≡ used live n hints

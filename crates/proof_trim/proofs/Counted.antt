@@ -9,7 +9,7 @@ use Rattle.lrat_rules.specs.declared.outcome.Reason.TheVariants.{IdNotGreater}
 use Rattle.lrat_rules.specs.State.{State, Live}
 use Rattle.lrat_rules.specs.Chain.{literals_of, chain}
 use Rattle.lrat_rules.specs.Addition.{fault, fault_after_hints}
-use Rattle.lrat_checker.specs.declared.cut.Uses.{Uses}
+use Rattle.lrat_checker.specs.declared.uses.Uses.{Uses}
 use Rattle.lrat_checker.specs.Cuts.{cut_by, cut_of, uses_of}
 use Rattle.proof_trim.specs.Trimmed.{cut_addition, cut_step}
 use Rattle.proof_trim.specs.Answer.{cut_addition_by}

@@ -18,8 +18,7 @@ use Rattle.lrat_rules.specs.Run.{Reached, run, judge_step, step_fault, after_ste
 use Rattle.lrat_checker.specs.declared.verdict.Verdict.{Verdict}
 use Rattle.lrat_checker.specs.declared.verdict.Verdict.TheVariants.{Verified}
 use Rattle.lrat_checker.specs.TextVerdict.{judged, steps_verdict}
-use Rattle.lrat_checker.specs.declared.cut.Cut.{Cut}
-use Rattle.lrat_checker.specs.Cuts.{cut_of}
+use Rattle.lrat_checker.specs.Cuts.{Cut, cut_of}
 use Rattle.proof_trim.specs.Trimmed.{live_ids, cut_addition, cut_step, none_if, cut_steps, needed, kept, deletion_of, is_there}
 use Rattle.proof_trim.specs.Trimmed.{trimmed_steps}
 use Rattle.proof_trim.proofs.Chains.{has_id}

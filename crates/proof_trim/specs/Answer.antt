@@ -5,7 +5,7 @@ use Rattle.cnf_base.specs.declared.step.Step.TheVariants.{Add, Delete}
 use Rattle.lrat_rules.specs.State.{State, start}
 use Rattle.lrat_text.specs.Steps.{steps}
 use Rattle.cnf_base.specs.Limits.{max_bytes}
-use Rattle.lrat_checker.specs.declared.cut.Uses.{Uses}
+use Rattle.lrat_checker.specs.declared.uses.Uses.{Uses}
 use Rattle.lrat_checker.specs.Cuts.{cut_by}
 use Rattle.lrat_checker.specs.declared.verdict.Verdict.{Verdict}
 use Rattle.lrat_checker.specs.declared.verdict.Verdict.TheVariants.{Verified, Refused}

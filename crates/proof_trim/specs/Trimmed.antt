@@ -15,8 +15,7 @@ use Rattle.lrat_text.specs.Steps.{Steps, no_more, overlong, no_step, next_step, 
 use Rattle.lrat_rules.specs.State.{State, Live, clause_at, start}
 use Rattle.lrat_rules.specs.Run.{after_step, step_adds_empty}
 use Rattle.lrat_rules.specs.Derivation.{text_of}
-use Rattle.lrat_checker.specs.declared.cut.Cut.{Cut}
-use Rattle.lrat_checker.specs.Cuts.{cut_of}
+use Rattle.lrat_checker.specs.Cuts.{Cut, cut_of}
 
 -- the number of a clause, where there is one
 abbrev pub id_if_live : ℕ → Option (List ℤ) → List ℕ → List ℕ

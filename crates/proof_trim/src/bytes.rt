@@ -44,6 +44,7 @@ impl Chunk {
     }
 
     // A number of at most four digits, where there is room for it.
+    #[inline(always)]
     fn put(&mut self, number: u64) -> bool
         requires { number < 2 ^ 28 }
         ensures put { IsTrue result → (rest : List ℕ) → numbers (reverse self.new ++ rest) ≡ number ∷ numbers (reverse self.old ++ rest) }
@@ -56,6 +57,7 @@ impl Chunk {
         true
     }
 
+    #[inline(always)]
     fn take(&mut self) -> Taken
         ensures { (rest : List ℕ) → numbers (reverse self.old ++ rest) ≡ behind_taken result (reverse self.new ++ rest) }
     {
@@ -108,6 +110,7 @@ impl ByteStack {
     }
 
     /// The bytes of a number, where it is short and the last chunk has room for it.
+    #[inline(always)]
     pub fn put(&mut self, number: u64) -> bool
         ensures put { IsTrue result → numbers self.new ≡ number ∷ numbers self.old }
         ensures same { IsFalse result → self.new ≡ self.old }
@@ -119,6 +122,7 @@ impl ByteStack {
     }
 
     /// Takes the bytes of a number off the last chunk, as far as it has them.
+    #[inline(always)]
     pub fn take(&mut self) -> Taken
         ensures { numbers self.old ≡ behind_taken result self.new }
     {
@@ -143,6 +147,7 @@ impl ByteStack {
 }
 
 // The same with the chunks apart.
+#[inline(always)]
 fn put_last(full: &Vec<Chunk>, last: &mut Chunk, number: u64) -> bool
     requires { number < 2 ^ 28 }
     ensures put { IsTrue result → numbers (stacked full.now.items last.new) ≡ number ∷ numbers (stacked full.now.items last.old) }
@@ -151,6 +156,7 @@ fn put_last(full: &Vec<Chunk>, last: &mut Chunk, number: u64) -> bool
     last.put(number)
 }
 
+#[inline(always)]
 fn take_last(full: &Vec<Chunk>, last: &mut Chunk) -> Taken
     ensures { numbers (stacked full.now.items last.old) ≡ behind_taken result (stacked full.now.items last.new) }
 {

@@ -33,13 +33,14 @@ impl CutProof {
     }
 }
 
-/// Judges a step, and where it is good takes it, counts it, and keeps it cut unless the end was before it.
+/// Judges a step, and where it is good takes it, counts it, and keeps it cut unless the end was before it. The list is for the numbers of
+/// a deletion: its memory is used again.
 pub fn take_step(
-    alloc: Global,
     judge: &mut Judge,
     step: &Step,
     ended: bool,
     uses: &mut Uses,
+    live: &mut IdList,
     cut: &mut CutProof,
 ) -> Result<Option<Reason>, OutOfMemory>
     requires counted { cut.old.total ≤ judge.old.top }
@@ -51,7 +52,7 @@ pub fn take_step(
     if ended {
         count_step(judge, step, cut)
     } else {
-        cut_step(alloc, judge, step, uses, cut)
+        cut_step(judge, step, uses, live, cut)
     }
 }
 
@@ -78,10 +79,10 @@ fn count_step(
 
 // Up to the end.
 fn cut_step(
-    alloc: Global,
     judge: &mut Judge,
     step: &Step,
     uses: &mut Uses,
+    live: &mut IdList,
     cut: &mut CutProof,
 ) -> Result<Option<Reason>, OutOfMemory>
     requires counted { cut.old.total ≤ judge.old.top }
@@ -101,8 +102,8 @@ fn cut_step(
             Ok(None)
         }
         Step::Delete { id, ids } => {
-            let ids = take_live(alloc, judge, ids.as_slice())?;
-            push_deletion(&mut cut.steps, *id, ids.as_slice())?;
+            take_live(judge, ids.as_slice(), live)?;
+            push_deletion(&mut cut.steps, *id, live.as_slice())?;
             Ok(None)
         }
     }
@@ -116,17 +117,17 @@ fn count(total: &mut u64, number: u64)
     *total += 1;
 }
 
-// Takes out the clauses of these numbers, each at its turn, and answers the numbers that were live then. So a number that is
-// named twice is answered once.
-fn take_live(alloc: Global, judge: &mut Judge, ids: &[Id]) -> Result<IdList, OutOfMemory>
-    ensures live { IfOk result (λ list. list ≡ live_ids judge.old.live ids.now) }
+// Takes out the clauses of these numbers, each at its turn, and lists the numbers that were live then. So a number that is named twice is
+// listed once.
+fn take_live(judge: &mut Judge, ids: &[Id], list: &mut IdList) -> Result<(), OutOfMemory>
+    ensures live { OnOk result (list.new ≡ live_ids judge.old.live ids.now) }
     ensures taken { OnOk result (judge.new ≡ record judge.old { live = without_clauses judge.old.live ids.now }) }
 {
-    let mut list = IdList::new(alloc);
+    list.clear();
     for id in ids {
-        take_one(judge, *id, &mut list)?;
+        take_one(judge, *id, list)?;
     }
-    Ok(list)
+    Ok(())
 }
 
 // The same of one number.

@@ -54,6 +54,7 @@ pub fn take_digits(bytes: &mut Vec<u8>) -> Taken
 }
 
 /// One digit more.
+#[inline(always)]
 pub fn with_digit(number: u64, digit: u8) -> u64
     ensures { result ≡ with_digit number digit }
 {

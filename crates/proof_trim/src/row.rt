@@ -35,6 +35,7 @@ impl Row {
     }
 
     /// One more number.
+    #[inline(always)]
     pub fn push(&mut self, number: u64) -> Result<(), OutOfMemory>
         ensures { OnOk result (self.new ≡ number ∷ self.old) }
     {
@@ -45,6 +46,7 @@ impl Row {
     }
 
     /// Takes the last number.
+    #[inline(always)]
     pub fn pop(&mut self) -> Option<u64>
         ensures some { IfSome result (λ number. self.old ≡ number ∷ self.new) }
         ensures none { IfNone result (self.old ≡ []) }

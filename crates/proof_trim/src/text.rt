@@ -93,12 +93,13 @@ fn cut_text<S: Source>(
         ids: IdList::new(alloc),
     };
     let mut uses = Uses::new(alloc);
+    let mut live = IdList::new(alloc);
     cut_proof(
-        alloc,
         &mut judge,
         &mut reader,
         &mut step,
         &mut uses,
+        &mut live,
         cut,
         source,
     )
@@ -106,11 +107,11 @@ fn cut_text<S: Source>(
 
 // Judges the steps that the reader still gives, each in the same place, and cuts those up to the end.
 fn cut_proof<S: Source>(
-    alloc: Global,
     judge: &mut Judge,
     reader: &mut StepReader,
     step: &mut Step,
     uses: &mut Uses,
+    live: &mut IdList,
     cut: &mut CutProof,
     source: &mut S,
 ) -> Result<Verdict, CheckError>
@@ -133,7 +134,7 @@ fn cut_proof<S: Source>(
     let mut has_empty = false;
     'steps: loop {
         match reader.next_into(source, step) {
-            Ok(Some(line)) => match take_step(alloc, judge, step, has_empty, uses, cut)? {
+            Ok(Some(line)) => match take_step(judge, step, has_empty, uses, live, cut)? {
                 Some(reason) => return Ok(Verdict::Refused { line, reason }),
                 None => has_empty = or_adds_empty(has_empty, step),
             },

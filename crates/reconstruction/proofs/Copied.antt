@@ -1,5 +1,5 @@
 -- Copies of nodes: as the table grows, once nodes were given back, and with one more.
-use Rattle.std.proofs.Common.{◌≡◌, ◌⊎◌, ◌∙◌, ◌+◌, ◌<◌, ◌≤◌, ℕ, zero, suc, Contains, Bool, true, false, List, [], ◌∷◌, ◌++◌, length, reverse, None, Some, is_some, refl, sym}
+use Rattle.std.proofs.Common.{◌≡◌, ◌⊎◌, ◌∙◌, ◌+◌, ◌<◌, ◌≤◌, ℕ, zero, suc, Contains, Bool, true, false, List, [], ◌∷◌, ◌++◌, length, reverse, Some, is_some, refl, sym}
 use Rattle.std.proofs.Common.{ap, subst, arith, inl, inr, eq-eqb, ne_eqb}
 use Rattle.std.specs.Prelude.{◌==◌, ◌^◌, nat_lt, slice_index_or, slice_set, if◌then◌else◌}
 use Rattle.std.proofs.lemmas.Bool.{cases_Bool, cases_eq, cases_lt, ltb-true, lt-ltb}
@@ -126,12 +126,6 @@ left_of growth graph reduced cells one two forgets before keeps are = record {
     had_copy True has = refl
     had_copy (Inner key) has = ap (nat_lt 0) (sym (of_left graph one two forgets (Inner key) has).same) ∙ has
 
-pub still_left : (graph : Graph) (one two : List ℕ) → Forgets graph one two → (node : Node) → is_node graph node ≡ true
-    → copy_of two node ≡ copy_of one node
-still_left graph one two forgets False stands = refl
-still_left graph one two forgets True stands = refl
-still_left graph one two forgets (Inner key) stands = forgets key.index ∙ ap (λ t. if t then slice_index_or one key.index 0 else 0) stands
-
 pub sound_left : (graph : Graph) (cells : List Cell) (one two : List ℕ) → Forgets graph one two → length two ≡ length one → AreSound cells one
     → AreSound cells two
 sound_left graph cells one two forgets long sound = record {
@@ -181,12 +175,6 @@ older cells ordered cell there =
 only : (one cell : Cell) → Contains (one ∷ []) cell → one ≡ cell
 only one cell (zero, small, at) = at
 only one cell (suc place, small, at) = absurd (omega (arith, small))
-
-pub none_free : AreFree []
-none_free = record {
-  high = λ cell there. absurd (omega (arith, there.1));
-  low = λ cell there. absurd (omega (arith, there.1));
-}
 
 -- one node copied
 module _ (cofactors : Cofactors) (graph : Graph) (reduced : IsReduced graph) (ordered : IsOrder graph.order)
@@ -364,36 +352,6 @@ pub keeps_behind : (one two three : List ℕ) → ((key : ℕ) → slice_index_o
     → KeepsCopies one three
 keeps_behind one two three same keeps node has = keeps node (has_same one two same node ∙ has) ∙ of_same one two same node
 
--- forgotten key by key
-module _ (graph : Graph) (old : List ℕ) (key : ℕ) (some : key < length old) where
-  abbrev pub ForgetsBelow : List ℕ → ℕ → Type 0
-  ForgetsBelow two end = (k : ℕ) → k < end → slice_index_or two k 0 ≡ (if is_node graph (inner k) then slice_index_or old k 0 else 0)
-
-  abbrev pub StaysFrom : List ℕ → ℕ → Type 0
-  StaysFrom two end = (k : ℕ) → end ≤ k → slice_index_or two k 0 ≡ slice_index_or old k 0
-
-  -- the next one is of a node that stands
-  pub stands_next : (two : List ℕ) → ForgetsBelow two key → StaysFrom two key → is_node graph (inner key) ≡ true → ForgetsBelow two (key + 1)
-  stands_next two below from stands k less = elim (cases_eq k key) [
-    | inl same ↦
-        from k (omega (arith, same))
-        ∙ sym (ap (λ t. if t then slice_index_or old k 0 else 0) (ap (λ n. is_node graph (inner n)) same ∙ stands))
-    | inr differ ↦ below k (omega (arith, less, differ))
-  ]
-
-  -- or of none
-  pub gone_next : (two : List ℕ) → length two ≡ length old → ForgetsBelow two key → is_node graph (inner key) ≡ false
-      → ForgetsBelow (slice_set two key 0) (key + 1)
-  gone_next two long below gone k less = elim (cases_eq k key) [
-    | inl same ↦
-        ap (λ n. slice_index_or (slice_set two key 0) n 0) same ∙ get_or-set_same two key 0 0 (omega (arith, some, long))
-        ∙ sym (ap (λ t. if t then slice_index_or old k 0 else 0) (ap (λ n. is_node graph (inner n)) same ∙ gone))
-    | inr differ ↦ get_or-set_other two key k 0 0 differ ∙ below k (omega (arith, less, differ))
-  ]
-
-  pub rest_next : (two : List ℕ) → StaysFrom two key → StaysFrom (slice_set two key 0) (key + 1)
-  rest_next two from k late = get_or-set_other two key k 0 0 (λ same. omega (arith, same, late)) ∙ from k (omega (arith, late))
-
 -- behind the last place nothing stands
 pub forgets_all : (graph : Graph) (old new : List ℕ) (end : ℕ) → length new ≡ length old → length old ≤ end
     → ((k : ℕ) → k < end → slice_index_or new k 0 ≡ (if is_node graph (inner k) then slice_index_or old k 0 else 0)) → Forgets graph old new
@@ -408,6 +366,3 @@ forgets_all graph old new end long behind below k = elim (cases_lt k end) [
     both : (t : Bool) (n : ℕ) → (if t then n else n) ≡ n
     both true n = refl
     both false n = refl
-
-pub is_gone : (graph : Graph) (key : ℕ) → branch_at graph key ≡ None → is_node graph (inner key) ≡ false
-is_gone graph key none = ap is_some none

@@ -53,9 +53,6 @@ pub say_the_same : (before cells : List Cell) (stored : List Entry) → AreWithi
     → SayTheSame before cells stored
 say_the_same before cells stored within has entry there a = value_kept before cells has a entry.key (within entry there)
 
-pub same_cells : (cells : List Cell) (stored : List Entry) → SayTheSame cells cells stored
-same_cells cells stored entry there a = refl
-
 -- entries of copies behind it
 pub stack_stored : (cells : List Cell) (stored after : List Entry) (copies : List ℕ) (recent : List Kept) → IsStack cells stored copies
     → after ≡ stored ++ map (entry_of copies) recent → IsStack cells after copies

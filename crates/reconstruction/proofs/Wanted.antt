@@ -1,18 +1,16 @@
 -- The nodes that are to be copied: gathered by their keys, and then sorted by level.
-use Rattle.std.proofs.Common.{◌≡◌, ◌∙◌, ◌+◌, ◌<◌, ◌≤◌, ℕ, Bool, true, false, not, ◌&&◌, List, [], ◌∷◌, ◌++◌, Option, None, Some, Result, Ok, Err, Contains}
+use Rattle.std.proofs.Common.{◌≡◌, ◌+◌, ◌<◌, ◌≤◌, ℕ, Bool, true, false, not, ◌&&◌, List, [], ◌∷◌, ◌++◌, Option, None, Some, Result, Ok, Err, Contains}
 use Rattle.std.proofs.Common.{is_some, length, refl, sym, ap, subst, arith, inl, inr}
 use Rattle.std.specs.Prelude.{IsPermutation, OnOk}
 use Rattle.std.specs.List.Sorted.{IsNonDecreasingBy}
-use Rattle.std.proofs.lemmas.Bool.{and_parts, cases_Bool, cases_eq}
+use Rattle.std.proofs.lemmas.Bool.{and_parts, cases_eq}
 use Rattle.std.proofs.lemmas.List.Elements.{Contains-append_left, Contains-push, Contains-push_cases}
 use Rattle.std.proofs.lemmas.List.Sorted.{Contains-permutation, IsPermutation-sym}
 use Rattle.node_table.specs.declared.node.Node.{Node}
-use Rattle.node_table.specs.declared.node.Node.TheVariants.{False, True, Inner}
 use Rattle.node_table.specs.declared.node.Branch.{Branch}
 use Rattle.node_table.specs.Diagram.{Graph, branch_at, is_node, level_of}
-use Rattle.node_table.specs.Laws.{Reachability}
 use Rattle.node_table.specs.Made.{inner}
-use Rattle.node_table.specs.Marks.{AreMarks, AreReached, is_marked}
+use Rattle.node_table.specs.Marks.{AreMarks, is_marked}
 use Rattle.reconstruction.specs.declared.copying.Uncopied.{Uncopied}
 use Rattle.reconstruction.specs.Copies.{has_copy}
 use Rattle.reconstruction.specs.Copying.{AreAllMarked, AreMarked, AreUncopied, IsKnown}
@@ -46,28 +44,7 @@ not_true false is = refl
 
 module _ (graph : Graph) (marks : List Bool) (copies : List ℕ) (uncopied : List Uncopied) (key : ℕ)
     (before : AreMarkedBelow graph marks copies uncopied key) where
-  -- the next key is passed over
-  pub passed : (is_marked marks (inner key) && not (has_copy copies (inner key))) ≡ false → AreMarkedBelow graph marks copies uncopied (key + 1)
-  passed unwanted = record {
-    are = before.are;
-    bare = before.bare;
-    all = λ other less marked. elim (cases_eq other key) [
-      | inl same ↦ inl (has other same marked)
-      | inr differ ↦ before.all other (omega (arith, less, differ)) marked
-    ];
-  }
-    where
-      has : (other : ℕ) → other ≡ key → is_marked marks (inner other) ≡ true → has_copy copies (inner other) ≡ true
-      has other same marked = elim (cases_Bool (has_copy copies (inner other))) [
-        | inl is ↦ is
-        | inr none ↦
-            let wanted : (is_marked marks (inner key) && not (has_copy copies (inner key))) ≡ true =
-            ap (λ n. is_marked marks (inner n) && not (has_copy copies (inner n))) (sym same)
-            ∙ (λ i. marked i && not (none i)) in
-            absurd (let e : false ≡ true = sym unwanted ∙ wanted in cc)
-      ]
-
-  -- or taken
+  -- the next key is taken
   pub taken : (level : ℕ) → level ≡ level_of graph (inner key) → (is_marked marks (inner key) && not (has_copy copies (inner key))) ≡ true
       → AreMarkedBelow graph marks copies (uncopied ++ record { level = level; key = key } ∷ []) (key + 1)
   taken level is wanted =
@@ -102,19 +79,6 @@ branch_of_node (Some branch) stands = (branch, refl)
 pub stored_at : (graph : Graph) (key : ℕ) → is_node graph (inner key) ≡ true → (branch : Branch) × (branch_at graph key ≡ Some branch)
 stored_at graph key stands = branch_of_node (branch_at graph key) stands
 
--- behind the last key
-pub all_below : (graph : Graph) (marks : List Bool) (copies : List ℕ) (uncopied : List Uncopied) (end place : ℕ) → AreMarks graph marks
-    → ((key : ℕ) (branch : Branch) → branch_at graph key ≡ Some branch → key < end) → end ≤ place
-    → AreMarkedBelow graph marks copies uncopied place → AreAllMarked graph marks copies uncopied
-all_below graph marks copies uncopied end place are keys behind below = record { are = below.are; bare = below.bare; all = all }
-  where
-    all : (node : Node) → is_marked marks node ≡ true → IsKnown copies uncopied node
-    all False marked = inl refl
-    all True marked = inl refl
-    all (Inner key) marked =
-        let it = stored_at graph key.index (are.stand key.index marked) in
-        below.all key.index (omega (arith, keys key.index it.0 it.1, behind)) marked
-
 -- sorted
 module _ (graph : Graph) (marks : List Bool) (copies : List ℕ) (before after : List Uncopied) (are : AreMarks graph marks)
     (all : AreAllMarked graph marks copies before) (moved : IsPermutation before after)
@@ -142,14 +106,6 @@ module _ (graph : Graph) (marks : List Bool) (copies : List ℕ) (before after :
     high = λ entry branch there at. known_still branch.high (are.high entry.key branch (all.are.marked entry (was entry there)) at);
     low = λ entry branch there at. known_still branch.low (are.low entry.key branch (all.are.marked entry (was entry there)) at);
   }
-
--- the roots are marked
-pub root_marked : Reachability → (graph : Graph) (marks : List Bool) (roots : List Node) → AreReached graph roots marks → (node : Node)
-    → Contains roots node → is_node graph node ≡ true → is_marked marks node ≡ true
-root_marked reach graph marks roots reached False there stands = refl
-root_marked reach graph marks roots reached True there stands = refl
-root_marked reach graph marks roots reached (Inner key) there stands =
-    (reached key.index).1 (stands, record { root = Inner key; is_root = there; reaches = reach.itself graph (Inner key) })
 
 -- each has a place
 pub has_place : (graph : Graph) (copies places : List ℕ) (uncopied : List Uncopied) (end : ℕ) → AreUncopied graph copies uncopied

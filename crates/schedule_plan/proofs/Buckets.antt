@@ -12,10 +12,10 @@ use Rattle.std.proofs.lemmas.List.Sums.{prefix_len-le-length, passes_at_first, f
 use Rattle.cnf_base.specs.Formula.{Formula}
 use Rattle.cnf_base.specs.Order.{IsOrder}
 use Rattle.schedule_plan.specs.Plan.{Term, input, both, some_value, term_has, clause_has, clause_of_number}
-use Rattle.schedule_plan.specs.Bucket.{first_place, all_inputs, belonging, result_of, results, items}
+use Rattle.schedule_plan.specs.Bucket.{first_place, all_inputs, result_of, results, items}
 use Rattle.schedule_plan.proofs.Terms.{times, counted, IsClosed, same_number, counted-append, counted-result_of, counted_split}
 use Rattle.schedule_plan.proofs.Terms.{counted_none, counted_once, times_contained, times_filtered, is_number, variable_of_input}
-use Rattle.schedule_plan.proofs.Terms.{result_all, filter_all, inputs_all, closed_result, result_there, some_term, no_terms}
+use Rattle.schedule_plan.proofs.Terms.{result_all, filter_all, inputs_all, closed_result, result_there, some_term}
 use Rattle.schedule_plan.proofs.Terms.{input_contained, times_itself}
 
 -- the clauses, and the results of the buckets before a place
@@ -34,28 +34,6 @@ holds_at formula order place i = clause_has (slice_index_or order place 0) (clau
 abbrev pub IsResult : Formula → List ℕ → ℕ → Term → Type 0
 IsResult formula order place term = result_of (slice_index_or order place 0) (items formula order place) ≡ term ∷ []
 
--- the results of the first buckets that belong to the bucket of a place
-abbrev pub results_at : Formula → List ℕ → ℕ → ℕ → List Term
-results_at formula order place zero = []
-results_at formula order place (suc k) =
-    results_at formula order place k ++ belonging formula order place (result_of (slice_index_or order k 0) (items formula order k))
-
-results_at-belonging : (formula : Formula) (order : List ℕ) (place k : ℕ) → results_at formula order place k
-    ≡ belonging formula order place (results formula order k)
-results_at-belonging formula order place zero = refl
-results_at-belonging formula order place (suc k) =
-    let next = result_of (slice_index_or order k 0) (items formula order k) in
-    ap (λ front. front ++ belonging formula order place next) (results_at-belonging formula order place k)
-    ∙ sym (filter-append (λ term. first_place formula order term == place) (results formula order k) next)
-
-pub items_split : (formula : Formula) (order : List ℕ) (place : ℕ)
-    → items formula order place ≡ belonging formula order place (all_inputs (length formula.clauses))
-    ++ results_at formula order place place
-items_split formula order place =
-    filter-append (λ term. first_place formula order term == place) (all_inputs (length formula.clauses)) (results formula order place)
-    ∙ ap (λ rest. belonging formula order place (all_inputs (length formula.clauses))
-    ++ rest) (sym (results_at-belonging formula order place place))
-
 -- a result has the inputs of its bucket's items
 pub result_times : (formula : Formula) (order : List ℕ) (place : ℕ) (term : Term) (i : ℕ) → IsResult formula order place term
     → times i term ≡ counted i (items formula order place)
@@ -66,11 +44,6 @@ result_times formula order place term i made_here =
 pub result_of_held : (formula : Formula) (order : List ℕ) (place i : ℕ) → 0 < counted i (items formula order place)
     → (term : Term) × IsResult formula order place term
 result_of_held formula order place i held = result_there i (slice_index_or order place 0) (items formula order place) held
-
-pub result_unique : (formula : Formula) (order : List ℕ) (place : ℕ) (one other : Term) → IsResult formula order place one
-    → IsResult formula order place other
-    → one ≡ other
-result_unique formula order place one other made_one made_other = ap (λ terms. slice_index_or terms 0 one) (sym made_one ∙ made_other)
 
 -- what holds of all terms and of the next result holds of all terms at the next place
 made_all : (P : Term → Type 0) (formula : Formula) (order : List ℕ) (place : ℕ) → All P (made formula order place)
@@ -271,13 +244,6 @@ made_keep formula order sound (suc place) =
     (both_keep formula order place) (some_value_keeps formula order sound place) (items formula order place)
     (All-filter (λ term. first_place formula order term == place) (KeepsFrom formula order place) (made formula order place) here))
 
-pub kept_variables : (formula : Formula) (order : List ℕ) → IsOrder order → (place : ℕ) (term : Term)
-    → Contains (made formula order place) term
-    → (i j : ℕ) → place ≤ j → j < length order → 0 < times i term → holds_at formula order j i ≡ true
-    → term_has formula (slice_index_or order j 0) term ≡ true
-kept_variables formula order sound place term here = All-contains (KeepsFrom formula order place) (made formula order place) term
-    (made_keep formula order sound place) here
-
 -- all clauses that hold a bucket's variable are in its items
 pub items_closed : (formula : Formula) (order : List ℕ) → IsOrder order → (place i : ℕ) → place < length order → 0 < i → i
     ≤ length formula.clauses
@@ -334,13 +300,6 @@ pub held_of_items : (formula : Formula) (order : List ℕ) → (place : ℕ) (te
 held_of_items formula order place term small made_here =
     let item = some_term (slice_index_or order place 0) (items formula order place) term made_here in
     held_of_item formula order place item.0 small item.1
-
-pub no_items : (formula : Formula) (order : List ℕ) → (place : ℕ) → place < length order
-    → ((i : ℕ) → 0 < i → i ≤ length formula.clauses → holds_at formula order place i ≡ false) → items formula order place ≡ []
-no_items formula order place small none =
-    no_terms (items formula order place) (λ item here.
-    let held = held_of_item formula order place item small here in
-    both_ways _ (none held.0 held.1 held.2) held.3)
 
 pub none_held : (formula : Formula) (order : List ℕ) → IsOrder order → (place i : ℕ) → place < length order → items formula order place ≡ []
     → 0 < i → i ≤ length formula.clauses → holds_at formula order place i ≡ false
@@ -448,15 +407,6 @@ meets formula order earlier place one other i before small made_one made_other i
         result_times formula order place other j made_other,
       )),
     )
-
--- A result's first variable is the first one, behind the bucket's own, of the clauses inside.
-pub meets_variable : (formula : Formula) (order : List ℕ) → IsOrder order → (place : ℕ) (term : Term) (i j : ℕ)
-    → IsResult formula order place term
-    → place < j → j < length order → 0 < times i term → holds_at formula order j i ≡ true → first_place formula order term ≤ j
-meets_variable formula order sound place term i j made_here late small inside held =
-    first_upto formula order j term
-    (kept_variables formula order sound (suc place) term (result_made formula order place (suc place) term
-    (omega arith) made_here) i j late small inside held)
 
 -- quantified variables are closed inside all terms
 pub terms_closed : (formula : Formula) (order : List ℕ) → IsOrder order → length order ≡ formula.vars → (place : ℕ) → place ≤ length order

@@ -332,13 +332,3 @@ climbed_all s buckets above facts all done item within =
             | inr outer ↦ old.0 ∙ facts.unheld item within outer
           ]
     ] refl
-
-pub climbed_none : (s : Items) (above : List (Option ℕ)) → length s.fresh ≡ count s → length above ≡ count s
-    → ((item : ℕ) → above_at above item ≡ None)
-    → IsClimbed s 0 s.fresh above
-climbed_none s above fresh_count above_count none = record {
-  buckets_count = fresh_count;
-  above_count = above_count;
-  none = λ item within free. (refl, λ place clause seen lower has. omega (arith, seen.1));
-  some = λ item up within points. absurd (none-some up (sym (none item) ∙ points));
-}

@@ -1,6 +1,7 @@
 -- Where the reading of a schedule ends.
 use Rattle.std.proofs.Common.{◌≡◌, ℕ, true, false, List, [], Option, Result, Err, sym, ◌∙◌, ap, subst, arith}
 use Rattle.std.specs.Prelude.{nat_lt, if◌then◌else◌}
+use Rattle.std.specs.Result.{IsErrAnd}
 use Rattle.std.proofs.lemmas.Bool.Decides.{nat_tests}
 use Rattle.cnf_base.specs.Formula.{Formula, IsFormula}
 use Rattle.cnf_base.specs.Text.{Word}
@@ -15,6 +16,7 @@ use Rattle.schedule_plan.specs.ScheduleText.{ScheduleText, overlong, max_bytes, 
 use Rattle.schedule_plan.specs.ScheduleState.{Answers, Goes, DraftLine, no_draft, drafted, draft_taken}
 use Rattle.schedule_plan.proofs.OrderJudged.{failed_status}
 use Rattle.schedule_plan.proofs.Drafted.{drafted_same}
+use Rattle.schedule_plan.proofs.TakesError.{error_is}
 
 -- a whole text, by the line that is kept
 pub whole : (formula : Formula) → IsFormula formula → (bytes : List ℕ) (text : ScheduleText)
@@ -45,3 +47,7 @@ undecided_at formula old new bytes draft done sound last gives =
           ∙ ap (λ b. if b then behind (draft_taken formula draft done) draft.line (λ later. overlong) else overlong)
           (none_below draft.line),
     )
+
+-- want of memory is no failed read
+pub no_fault : {T : Type 0} (r : Result T PlanError) → IsErrAnd r (λ f. f ≡ OutOfMemory) → r ≡ Err ReadFault → ⊥
+no_fault r wanted failed = let memory : r ≡ Err OutOfMemory = error_is r OutOfMemory wanted in cc

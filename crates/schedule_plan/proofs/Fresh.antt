@@ -16,21 +16,10 @@ pub record IsFreshAfter (clauses variables : ℕ) (occurrences : List Occurrence
       → ((slice_index buckets (clauses + place) ≡ variables) × ((k : ℕ) × (k < n) × (place_at occurrences k ≡ place)))
       ⊎ ((slice_index buckets (clauses + place) ≡ suc variables) × ((k : ℕ) → k < n → place_at occurrences k ≢ place))
 
-pub fresh_first : (clauses variables : ℕ) (occurrences : List Occurrence) (buckets : List ℕ)
-    → length buckets ≡ clauses + variables
-    → ((item : ℕ) → item < clauses → slice_index buckets item ≡ variables)
-    → ((place : ℕ) → place < variables → slice_index buckets (clauses + place) ≡ suc variables)
-    → IsFreshAfter clauses variables occurrences 0 buckets
-fresh_first clauses variables occurrences buckets count low high = record {
-  count = count;
-  clauses_are = low;
-  results = λ place small. inr (high place small, λ k none. absurd (omega (arith, none)));
-}
-
-pub fresh_more : (clauses variables : ℕ) (occurrences : List Occurrence) (n : ℕ) (buckets : List ℕ) → place_at occurrences n < variables
+fresh_behind : (clauses variables : ℕ) (occurrences : List Occurrence) (n : ℕ) (buckets : List ℕ) → place_at occurrences n < variables
     → IsFreshAfter clauses variables occurrences n buckets
     → IsFreshAfter clauses variables occurrences (n + 1) (set buckets (clauses + place_at occurrences n) variables)
-fresh_more clauses variables occurrences n buckets inside before =
+fresh_behind clauses variables occurrences n buckets inside before =
     let at = place_at occurrences n in
     let other : (item : ℕ) → item ≢ clauses + at → slice_index (set buckets (clauses + at) variables) item ≡ slice_index buckets item =
     λ item differ. get_or-set_other buckets (clauses + at) item variables 0 differ in
@@ -58,6 +47,13 @@ fresh_more clauses variables occurrences n buckets inside before =
             ]
       ];
     }
+
+-- one more occurrence
+pub fresh_more : (clauses variables : ℕ) (occurrences : List Occurrence) (n : ℕ) (buckets : List ℕ) (place value : ℕ)
+    → place ≡ clauses + place_at occurrences n → value ≡ variables → place_at occurrences n < variables
+    → IsFreshAfter clauses variables occurrences n buckets → IsFreshAfter clauses variables occurrences (n + 1) (set buckets place value)
+fresh_more clauses variables occurrences n buckets place value place_is value_is inside before =
+    rw (place_is, value_is) (fresh_behind clauses variables occurrences n buckets inside before)
 
 pub fresh_last : (formula : Formula) (order : List ℕ) (occurrences : List Occurrence) (buckets : List ℕ)
     → AreOccurrences formula order occurrences

@@ -13,6 +13,7 @@ use Rattle.text_scan.specs.declared.scanner.ScanError.{ScanError}
 use Rattle.text_scan.specs.declared.scanner.ScanError.TheVariants.{ReadFault as ScanFault, TooLong as ScanTooLong}
 use Rattle.schedule_plan.specs.declared.order_error.OrderError.{OrderError}
 use Rattle.schedule_plan.specs.declared.order_error.OrderError.TheVariants.{Refused, ReadFault, TooLong, OutOfMemory}
+use Rattle.schedule_plan.specs.declared.order_error.OrderKind.{OrderKind}
 use Rattle.schedule_plan.specs.OrderReader.{Answers, Takes, Passes, pass_none, pass_one, answer_of, error_of}
 use Rattle.schedule_plan.specs.OrderText.{OrderText, order, refusal, overlong, offence_of, with_read, text_end, order_of}
 
@@ -107,3 +108,29 @@ fault_so_far r ScanTooLong old new bytes vars before r_is failed sound last give
 pub undecided_behind : {a b c : Channel} {P Q : List ℕ → List ℕ → Type 0} (text rest : List ℕ → OrderText) → Decides a b P → Decides b c Q
     → ((more : List ℕ) → text (gained a b ++ more) ≡ rest more) → rest (gained b c) ≡ overlong → text (gained a c) ≡ overlong
 undecided_behind {b = b} {c = c} text rest first second front last = ap text (gained-then first second) ∙ front (gained b c) ∙ last
+
+-- which answers stand for a failed read, and which for want of memory
+pub fault_of_scan : (e : ScanError) → error_of e ≡ ReadFault → e ≡ ScanFault
+fault_of_scan ScanFault is = refl
+fault_of_scan ScanTooLong is = cc
+
+pub scan_wants_none : (e : ScanError) → error_of e ≡ OutOfMemory → ⊥
+scan_wants_none ScanFault is = cc
+scan_wants_none ScanTooLong is = cc
+
+pub taken_no_fault : (e : OrderError) (offence : Option OrderKind) (line : ℕ) (with new : List ℕ)
+    → Takes {T = Unit {0}} (Err e) offence line with new → e ≡ ReadFault → ⊥
+taken_no_fault (Refused kind at) offence line with new takes is = cc
+taken_no_fault ReadFault offence line with new takes is = absurd takes
+taken_no_fault TooLong offence line with new takes is = absurd takes
+taken_no_fault OutOfMemory offence line with new takes is = cc
+
+pub answer_no_fault : (text : OrderText) → answer_of text ≡ Err ReadFault → ⊥
+answer_no_fault (order variables) is = cc
+answer_no_fault (refusal kind line) is = cc
+answer_no_fault overlong is = cc
+
+pub answer_wants_none : (text : OrderText) → answer_of text ≡ Err OutOfMemory → ⊥
+answer_wants_none (order variables) is = cc
+answer_wants_none (refusal kind line) is = cc
+answer_wants_none overlong is = cc

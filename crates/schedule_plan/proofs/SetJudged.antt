@@ -91,13 +91,6 @@ module _ (formula : Formula) (judge : ScheduleJudge) (stage : Stage) (start : �
       → fault_of_move formula stage (ExistsAll xs) ≡ (if list_any (is_used judge.uses.items start) xs then Some VariableInUse else None)
   all_fault xs inside = ap (fault_of_all formula stage xs) on.is ∙ tested xs inside
 
-  pub range_fault : (xs : List ℕ) → list_any (is_out_of_range formula) xs ≡ true
-      → fault_of_move formula stage (ExistsAll xs) ≡ Some VariableRange
-  range_fault xs outside =
-      ap (fault_of_all formula stage xs) on.is
-      ∙ ap (λ b. if b then Some VariableRange else if list_any (is_in_use formula on.rest stage.pushed) xs then Some VariableInUse else None)
-      outside
-
 no_term : (stack : List Term) → length stack ≡ 0 → stack ≡ []
 no_term [] none = refl
 no_term (top ∷ rest) none = absurd (omega (arith, none))

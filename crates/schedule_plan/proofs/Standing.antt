@@ -1,16 +1,10 @@
 -- What the next move does, where the moves so far are possible.
-use Rattle.std.proofs.Common.{◌≡◌, ℕ, ◌<◌, ◌≤◌, true, false, ◌&&◌, List, [], ◌∷◌, ◌++◌, length, None, Some, Result, Ok, Err, refl, ap, ◌∙◌}
-use Rattle.std.proofs.Common.{arith}
-use Rattle.std.specs.Prelude.{nat_lt, nat_le}
+use Rattle.std.proofs.Common.{◌≡◌, List, [], ◌∷◌, ◌++◌, None, Some, Result, Ok, Err, ap, ◌∙◌}
 use Rattle.std.specs.Option.{option_and_then}
-use Rattle.std.proofs.lemmas.Bool.{and_from, lt-ltb, le-leb}
-use Rattle.std.proofs.lemmas.Bool.Decides.{nat_tests}
 use Rattle.cnf_base.specs.Formula.{Formula}
 use Rattle.schedule_plan.specs.declared.plan.Move.{Move}
-use Rattle.schedule_plan.specs.declared.plan.Move.TheVariants.{Push}
 use Rattle.schedule_plan.specs.declared.schedule.error.PlanKind.{PlanKind}
-use Rattle.schedule_plan.specs.declared.schedule.error.PlanKind.TheVariants.{ClauseRange, ClauseTwice}
-use Rattle.schedule_plan.specs.Plan.{Stage, no_stage, is_pushed, after_move, after_moves}
+use Rattle.schedule_plan.specs.Plan.{Stage, no_stage, after_move, after_moves}
 use Rattle.schedule_plan.specs.ScheduleText.{fault_of_move, fault_behind, unless, taken}
 use Rattle.schedule_plan.proofs.Admissible.{append}
 
@@ -65,24 +59,3 @@ taken_refused formula done move more kind first =
       | None ↦ λ e. absurd (ok_err e)
       | Some other ↦ λ e. e
     ] first
-
--- The faults, test by test.
-pub range_fault : (formula : Formula) (stage : Stage) (i : ℕ) → (0 < i → length formula.clauses < i) → fault_of_move formula stage (Push i)
-    ≡ Some ClauseRange
-range_fault formula stage i out = grind (arith, nat_tests, out)
-
-pub twice_fault : (formula : Formula) (stage : Stage) (i : ℕ) → 0 < i → i ≤ length formula.clauses → is_pushed stage.pushed i ≡ true
-    → fault_of_move formula stage (Push i) ≡ Some ClauseTwice
-twice_fault formula stage i positive small was =
-    let within : (nat_lt 0 i && nat_le i (length formula.clauses))
-    ≡ true = and_from (nat_lt 0 i) (nat_le i (length formula.clauses)) (lt-ltb 0 i positive)
-    (le-leb i (length formula.clauses) small) in
-    rw (within, was) refl
-
-pub push_free : (formula : Formula) (stage : Stage) (i : ℕ) → 0 < i → i ≤ length formula.clauses → is_pushed stage.pushed i ≡ false
-    → fault_of_move formula stage (Push i) ≡ None
-push_free formula stage i positive small new =
-    let within : (nat_lt 0 i && nat_le i (length formula.clauses))
-    ≡ true = and_from (nat_lt 0 i) (nat_le i (length formula.clauses)) (lt-ltb 0 i positive)
-    (le-leb i (length formula.clauses) small) in
-    rw (within, new) refl

@@ -3,8 +3,8 @@ use Rattle.std.proofs.Common.{◌≡◌, ℕ, zero, suc, ◌+◌, ◌<◌, ◌�
 use Rattle.std.proofs.Common.{Contains, refl, sym, ap, subst, ◌∙◌, inl, inr, arith, eq-eqb, ne_eqb, le-leb}
 use Rattle.std.specs.Prelude.{nat_le}
 use Rattle.std.proofs.lemmas.Bool.{cases_eq, cases_order, cases_Bool, or_cases, and_parts, lt-leb}
-use Rattle.std.proofs.lemmas.List.Elements.{All-nil, All-cons, All-head, All-tail, All-append, Contains-append_left, Contains-append_right}
-use Rattle.std.proofs.lemmas.List.Elements.{Contains-append_cases, Contains-push}
+use Rattle.std.proofs.lemmas.List.Elements.{All-nil, All-cons, All-head, All-tail, All-append, Contains-append_left}
+use Rattle.std.proofs.lemmas.List.Elements.{Contains-push}
 use Rattle.cnf_base.specs.Formula.{Formula}
 use Rattle.schedule_plan.specs.Plan.{Term, input, both, some_value, term_has, clause_has, clause_of_number}
 use Rattle.schedule_plan.specs.Bucket.{all_inputs, conjunction, result_of}
@@ -18,12 +18,6 @@ times i (some_value x term) = times i term
 abbrev pub counted : ℕ → List Term → ℕ
 counted i [] = 0
 counted i (term ∷ terms) = times i term + counted i terms
-
--- the numbers of the clauses inside a term, from left to right
-abbrev pub term_inputs : Term → List ℕ
-term_inputs (input i) = i ∷ []
-term_inputs (both one other) = term_inputs one ++ term_inputs other
-term_inputs (some_value x term) = term_inputs term
 
 -- Each quantified variable inside is one of the formula's and all clauses that hold it are below, and each number is a
 -- clause's.
@@ -47,25 +41,6 @@ same_number i j held =
       | inl same ↦ same
       | inr differ ↦ absurd (omega (arith, held, never i j differ))
     ]
-
-pub times_of_inputs : (term : Term) (i : ℕ) → Contains (term_inputs term) i → 0 < times i term
-times_of_inputs (input j) i (zero, small, at) = omega (arith, once i j (sym at))
-times_of_inputs (input j) i (suc k, small, at) = absurd (omega (arith, small))
-times_of_inputs (both one other) i held =
-    elim (Contains-append_cases (term_inputs one) (term_inputs other) i held) [
-      | inl left ↦ omega (arith, times_of_inputs one i left)
-      | inr right ↦ omega (arith, times_of_inputs other i right)
-    ]
-times_of_inputs (some_value x term) i held = times_of_inputs term i held
-
-pub inputs_of_times : (term : Term) (i : ℕ) → 0 < times i term → Contains (term_inputs term) i
-inputs_of_times (input j) i held = (0, omega arith, sym (same_number i j held))
-inputs_of_times (both one other) i held =
-    elim (cases_eq (times i one) 0) [
-      | inl none ↦ Contains-append_right (term_inputs one) (term_inputs other) i (inputs_of_times other i (omega (arith, held, none)))
-      | inr some ↦ Contains-append_left (term_inputs one) (term_inputs other) i (inputs_of_times one i (omega (arith, some)))
-    ]
-inputs_of_times (some_value x term) i held = inputs_of_times term i held
 
 pub counted-append : (i : ℕ) (some more : List Term) → counted i (some ++ more) ≡ counted i some + counted i more
 counted-append i [] more = omega arith

@@ -53,29 +53,33 @@ again change twice false u = refl
 
 -- one more literal
 pub changed_more : (change : Use → Use) → ((u : Use) → change (change u) ≡ change u)
-    → (clause : List ℤ) (k : ℕ) (d : ℤ) (old now : List Use) → k < length clause
-    → nat_abs (slice_index_or clause k d) < length now → ((x : ℕ) → use_at now x ≡ changed change (take k clause) old x)
-    → (x : ℕ) → use_at (set now (nat_abs (slice_index_or clause k d)) (change (use_at now (nat_abs (slice_index_or clause k d))))) x
-    ≡ changed change (take (k + 1) clause) old x
-changed_more change twice clause k d old now small within before x =
-    let literal = slice_index_or clause k d in
-    let v = nat_abs literal in
+    → (clause : List ℤ) (k : ℕ) (literal : ℤ) (v : ℕ) (value : Use) (old now : List Use) → k < length clause
+    → literal ≡ slice_index_or clause k literal → v ≡ nat_abs literal → v < length now → value ≡ change (use_at now v)
+    → ((x : ℕ) → use_at now x ≡ changed change (take k clause) old x)
+    → (x : ℕ) → use_at (set now v value) x ≡ changed change (take (k + 1) clause) old x
+changed_more change twice clause k literal v value old now small is v_is within value_is before x =
+    let number : nat_abs (slice_index_or clause k literal) ≡ v = ap nat_abs (sym is) ∙ sym v_is in
     let had = clause_has x (take k clause) in
-    let has : clause_has x (take (k + 1) clause) ≡ (had || list_any (λ l. nat_abs l == x) (literal ∷ [])) =
-    ap (clause_has x) (take_more clause k d small) ∙ list_any-append (λ l. nat_abs l == x) (take k clause) (literal ∷ []) in
+    let has : clause_has x (take (k + 1) clause) ≡ (had || list_any (λ l. nat_abs l == x) (slice_index_or clause k literal ∷ [])) =
+    ap (clause_has x) (take_more clause k literal small)
+    ∙ list_any-append (λ l. nat_abs l == x) (take k clause) (slice_index_or clause k literal ∷ []) in
     elim (cases_eq v x) [
       | inl same ↦
-          let one : list_any (λ l. nat_abs l == x) (literal ∷ []) ≡ true = ap (λ b. b || false) (eq-eqb v x same) in
-          let all : (had || list_any (λ l. nat_abs l == x) (literal ∷ [])) ≡ true = ap (λ b. had || b) one ∙ or_true had in
-          let here : use_at (set now v (change (use_at now v))) x ≡ change (use_at now x) =
-          ap (λ y. use_at (set now v (change (use_at now v))) y) (sym same) ∙ get_or-set_same now v (change (use_at now v)) no_use within
+          let one : list_any (λ l. nat_abs l == x) (slice_index_or clause k literal ∷ []) ≡ true =
+          ap (λ (n : ℕ). (n == x) || false) number ∙ ap (λ b. b || false) (eq-eqb v x same) in
+          let all : (had || list_any (λ l. nat_abs l == x) (slice_index_or clause k literal ∷ [])) ≡ true =
+          ap (λ b. had || b) one ∙ or_true had in
+          let here : use_at (set now v value) x ≡ change (use_at now x) =
+          ap (λ y. use_at (set now v value) y) (sym same) ∙ get_or-set_same now v value no_use within ∙ value_is
           ∙ ap (λ y. change (use_at now y)) same in
           here ∙ ap change (before x) ∙ again change twice had (use_at old x)
           ∙ sym (ap (λ b. if b then change (use_at old x) else use_at old x) (has ∙ all))
       | inr differ ↦
-          let one : list_any (λ l. nat_abs l == x) (literal ∷ []) ≡ false = ap (λ b. b || false) (ne_eqb v x differ) in
-          let all : (had || list_any (λ l. nat_abs l == x) (literal ∷ [])) ≡ had = ap (λ b. had || b) one ∙ or_false had in
-          get_or-set_other now v x (change (use_at now v)) no_use (λ same. differ (sym same)) ∙ before x
+          let one : list_any (λ l. nat_abs l == x) (slice_index_or clause k literal ∷ []) ≡ false =
+          ap (λ (n : ℕ). (n == x) || false) number ∙ ap (λ b. b || false) (ne_eqb v x differ) in
+          let all : (had || list_any (λ l. nat_abs l == x) (slice_index_or clause k literal ∷ [])) ≡ had =
+          ap (λ b. had || b) one ∙ or_false had in
+          get_or-set_other now v x value no_use (λ same. differ (sym same)) ∙ before x
           ∙ sym (ap (λ b. if b then change (use_at old x) else use_at old x) (has ∙ all))
     ]
 
@@ -89,28 +93,28 @@ counted_small mark true u few =
 counted_small mark false u few = omega (arith, few)
 
 -- one more variable of a set
-pub quantified_more : (xs : List ℕ) (k d : ℕ) (old now : List Use) → k < length xs → slice_index_or xs k d < length now
-    → ((x : ℕ) → use_at now x ≡ use_behind (take k xs) old x)
-    → (x : ℕ) → use_at (set now (slice_index_or xs k d) (when_quantified (use_at now (slice_index_or xs k d)))) x
-    ≡ use_behind (take (k + 1) xs) old x
-quantified_more xs k d old now small within before x =
-    let v = slice_index_or xs k d in
+pub quantified_more : (xs : List ℕ) (k d v : ℕ) (value : Use) (old now : List Use) → k < length xs → v ≡ slice_index_or xs k d
+    → v < length now → value ≡ when_quantified (use_at now v) → ((x : ℕ) → use_at now x ≡ use_behind (take k xs) old x)
+    → (x : ℕ) → use_at (set now v value) x ≡ use_behind (take (k + 1) xs) old x
+quantified_more xs k d v value old now small is within value_is before x =
     let had = is_among (take k xs) x in
-    let has : is_among (take (k + 1) xs) x ≡ (had || list_any (λ y. x == y) (v ∷ [])) =
-    ap (λ (l : List ℕ). is_among l x) (take_more xs k d small) ∙ list_any-append (λ y. x == y) (take k xs) (v ∷ []) in
+    let has : is_among (take (k + 1) xs) x ≡ (had || list_any (λ y. x == y) (slice_index_or xs k d ∷ [])) =
+    ap (λ (l : List ℕ). is_among l x) (take_more xs k d small)
+    ∙ list_any-append (λ y. x == y) (take k xs) (slice_index_or xs k d ∷ []) in
     elim (cases_eq x v) [
       | inl same ↦
-          let one : list_any (λ y. x == y) (v ∷ []) ≡ true = ap (λ b. b || false) (eq-eqb x v same) in
-          let all : (had || list_any (λ y. x == y) (v ∷ [])) ≡ true = ap (λ b. had || b) one ∙ or_true had in
-          let here : use_at (set now v (when_quantified (use_at now v))) x ≡ when_quantified (use_at now x) =
-          ap (λ y. use_at (set now v (when_quantified (use_at now v))) y) same
-          ∙ get_or-set_same now v (when_quantified (use_at now v)) no_use within
+          let one : list_any (λ y. x == y) (slice_index_or xs k d ∷ []) ≡ true =
+          ap (λ (n : ℕ). (x == n) || false) (sym is) ∙ ap (λ b. b || false) (eq-eqb x v same) in
+          let all : (had || list_any (λ y. x == y) (slice_index_or xs k d ∷ [])) ≡ true = ap (λ b. had || b) one ∙ or_true had in
+          let here : use_at (set now v value) x ≡ when_quantified (use_at now x) =
+          ap (λ y. use_at (set now v value) y) same ∙ get_or-set_same now v value no_use within ∙ value_is
           ∙ ap (λ y. when_quantified (use_at now y)) (sym same) in
           here ∙ ap when_quantified (before x) ∙ again when_quantified (λ u. refl) had (use_at old x)
           ∙ sym (ap (λ b. if b then when_quantified (use_at old x) else use_at old x) (has ∙ all))
       | inr differ ↦
-          let one : list_any (λ y. x == y) (v ∷ []) ≡ false = ap (λ b. b || false) (ne_eqb x v differ) in
-          let all : (had || list_any (λ y. x == y) (v ∷ [])) ≡ had = ap (λ b. had || b) one ∙ or_false had in
-          get_or-set_other now v x (when_quantified (use_at now v)) no_use differ ∙ before x
+          let one : list_any (λ y. x == y) (slice_index_or xs k d ∷ []) ≡ false =
+          ap (λ (n : ℕ). (x == n) || false) (sym is) ∙ ap (λ b. b || false) (ne_eqb x v differ) in
+          let all : (had || list_any (λ y. x == y) (slice_index_or xs k d ∷ [])) ≡ had = ap (λ b. had || b) one ∙ or_false had in
+          get_or-set_other now v x value no_use differ ∙ before x
           ∙ sym (ap (λ b. if b then when_quantified (use_at old x) else use_at old x) (has ∙ all))
     ]

@@ -7,19 +7,15 @@ use text_scan::ScanError;
 use thiserror::Error;
 
 /// What is wrong with the text of an order. The number of a kind is its place in this list.
-#[derive(Clone, Copy, Debug, PartialEq, Eq, Error)]
+#[derive(Clone, Copy, Debug, PartialEq, Eq)]
 pub enum OrderKind {
     /// A token is no plain number.
-    #[error("BadNumber")]
     BadNumber = 1,
     /// A number is no variable.
-    #[error("Range")]
     Range = 2,
     /// A variable stands before already.
-    #[error("Repeated")]
     Repeated = 3,
     /// The text ends before the last variable.
-    #[error("Missing")]
     Missing = 4,
 }
 
@@ -35,7 +31,7 @@ impl OrderKind {
 #[derive(Clone, Copy, Debug, PartialEq, Eq, Error)]
 pub enum OrderError {
     /// What is wrong, and the line.
-    #[error("line {1}: {0}")]
+    #[error("line {1}: {0:?}")]
     Refused(OrderKind, u64),
     #[error("a read failed")]
     ReadFault,

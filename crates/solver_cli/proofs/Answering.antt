@@ -257,10 +257,3 @@ pub order_text : {tells : Bool} {task : ToOrder} {problem : Formula} {order : Li
     → CameToArrange tells (streams_of old) (streams_of new) files task status
 order_text old taken created new takes beside_taken ordered opens done creates puts beside ends =
     arranged old taken new takes beside_taken ordered (both_calls creates beside) (written opens done puts ends)
-
--- no file but the text's was changed
-pub files_made : {old created new : Role → Channel} {before created_files new_files : Files}
-    → Kept Made (created Made).name old created before created_files → Kept Made (created Made).name created new created_files new_files
-    → (new Made).name ≡ (created Made).name
-    → FilesBut (new Made).name before new_files
-files_made creates puts same file own = puts.files file (λ e. own (same ∙ e)) ∙ creates.files file (λ e. own (same ∙ e))

@@ -1,10 +1,9 @@
 -- Lines of comment, one behind another, and what is told by them.
 use Rattle.std.proofs.Common.{◌≡◌, ℕ, Bool, true, false, List, [], ◌∷◌, ◌++◌, refl, sym, ap, ◌∙◌, subst, Ok, Err, IsTrue, arith}
 use Rattle.std.proofs.Common.{append_assoc, append-nil, true≢false}
-use Rattle.std.specs.Prelude.{Result, Option, Some, is_ok, ⊤, ◌==◌, if◌then◌else◌}
+use Rattle.std.specs.Prelude.{Result, is_ok, ⊤, ◌==◌, if◌then◌else◌}
 use Rattle.host_io.specs.Channel.{Channel}
 use Rattle.host_io.specs.declared.source.Failed.{Failed}
-use Rattle.command_line.specs.Command.{Command, is_told, progress_asked}
 use Rattle.drat_proof.specs.TwoRoles.{added}
 use Rattle.solver_cli.specs.Comments.{Place, AtStart, BehindC, Within, Wrong, behind as place_behind, behind_all, is_start, is_within}
 use Rattle.solver_cli.specs.Comments.{is_right}
@@ -145,11 +144,6 @@ untold true {tells = tells} {old = old} same = (
 )
 untold false same = (false, notes_silent same)
 
-pub unnoted : (asked : Bool) {tells : Bool} {old new : Channel} → new ≡ old → Notes asked asked tells old new
-unnoted true {tells = tells} {old = old} same =
-    notes_told (subst (λ (c : Channel). Comments true tells old c) (sym same) (none_told tells old))
-unnoted false same = notes_silent same
-
 -- notes, told of channels that are the same
 pub told_between : {asked after tells : Bool} {start old new end : Channel} → old ≡ start → end ≡ new → Notes asked after tells old new
     → IsTold asked tells start end
@@ -170,12 +164,6 @@ notes_then {asked = false} {mid = mid} {tells = tells} {a = a} {b = b} {c = c} p
 pub told_name : {asked tells : Bool} {old new : Channel} → IsTold asked tells old new → new.name ≡ old.name
 told_name {asked = true} told = (told.1.told refl).name
 told_name {asked = false} told = ap (λ (c : Channel). c.name) (told.1.silent refl).0
-
--- by the command that the words give
-pub told_as : {words : Option Command} {asked : Command} {tells : Bool} {old new : Channel} → words ≡ Some asked
-    → IsTold (is_told asked) tells old new → IsTold (progress_asked words) tells old new
-told_as {tells = tells} {old = old} {new = new} given told = subst (λ (w : Option Command). IsTold (progress_asked w) tells old new)
-    (sym given) told
 
 -- notes from channels that are the same, and further ones
 pub noted_then : {asked mid tells : Bool} {start old new end : Channel} → old ≡ start → Notes asked mid tells old new

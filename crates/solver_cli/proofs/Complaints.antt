@@ -1,5 +1,5 @@
 -- What was written of a complaint.
-use Rattle.std.proofs.Common.{◌≡◌, ℕ, Bool, List, [], ◌++◌, length, take, drop, refl, sym, ap₂, ◌∙◌, append_assoc, subst, Ok, Err, arith}
+use Rattle.std.proofs.Common.{◌≡◌, ℕ, Bool, List, [], ◌++◌, length, take, drop, refl, sym, ap₂, ◌∙◌, append_assoc, Ok, Err, arith}
 use Rattle.std.specs.Prelude.{Result, IsTrue, codes, decimal}
 use Rattle.std.proofs.lemmas.List.{append-nil, take-append-drop}
 use Rattle.host_io.specs.declared.role.Role.{Role}
@@ -48,12 +48,9 @@ parts start digits last kind = simp append_assoc
 abbrev pub kind_part : List ℕ → List ℕ
 kind_part kind = codes ": " ++ kind ++ codes "\n"
 
--- writing the three parts writes the line
-pub refused : {T : Type 0} {tells : Bool} {old new : Channel} {result : Result T Failed} (role : Role) (line : ℕ) (kind start rest : List ℕ)
-    → WritesAll tells old new (start ++ (decimal line ++ rest)) result
-    → start ≡ codes "error: " ++ role_word role ++ codes " line " → rest ≡ kind_part kind
-    → WritesAll tells old new (refused_line role line kind) result
-refused {tells = tells} {old = old} {new = new} {result = result} role line kind start rest writes is_start is_rest =
-    subst (λ (text : List ℕ). WritesAll tells old new text result)
-    (ap₂ (λ (a b : List ℕ). a ++ (decimal line ++ b)) is_start is_rest
-    ∙ sym (parts (codes "error: " ++ role_word role ++ codes " line ") (decimal line) (codes ": ") kind)) writes
+-- the line is made of the three parts
+pub refused : (role : Role) (line : ℕ) (kind start rest : List ℕ) → start ≡ codes "error: " ++ role_word role ++ codes " line "
+    → rest ≡ kind_part kind → refused_line role line kind ≡ start ++ (decimal line ++ rest)
+refused role line kind start rest is_start is_rest =
+    parts (codes "error: " ++ role_word role ++ codes " line ") (decimal line) (codes ": ") kind
+    ∙ sym (ap₂ (λ (a b : List ℕ). a ++ (decimal line ++ b)) is_start is_rest)

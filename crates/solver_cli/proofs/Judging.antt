@@ -21,6 +21,18 @@ abbrev pub Wanted : ProofFormat → List (List ℤ) → Channel → Channel → 
 Wanted format clauses old new = (new ≡ old)
     ⊎ Decides old new (λ bytes more. IsTrue (may_want_memory_in format clauses (length more) bytes))
 
+-- what a check tells of the text, by its format
+pub record SaysInFormat (format : ProofFormat) (tells : Bool) (clauses : List (List ℤ)) (old new : Channel)
+    (result : Result Verdict CheckError) : Type 0 where
+  pub decides : IsTrue tells → Decides old new (λ bytes more. Answers result (verdict_in format clauses bytes))
+  pub undecided : IsTrue tells → result ≡ Err ReadFault → so_far_in format clauses (gained old new) ≡ None
+  pub memory : IsTrue tells → result ≡ Err OutOfMemory → Wanted format clauses old new
+
+pub in_format : {format own : ProofFormat} {tells : Bool} {clauses : List (List ℤ)} {old new : Channel} {result : Result Verdict CheckError}
+    → format ≡ own → SaysInFormat own tells clauses old new result → SaysInFormat format tells clauses old new result
+in_format {tells = tells} {clauses = clauses} {old = old} {new = new} {result = result} is judges =
+    subst (λ (f : ProofFormat). SaysInFormat f tells clauses old new result) (sym is) judges
+
 pub wanted_by : (format : ProofFormat) (clauses : List (List ℤ)) (old new : Channel) → Wanted format clauses old new
     → WantsProof format clauses old.left (gained old new)
 wanted_by format clauses old new (inl same) = inl (ap (gained old) same ∙ gained-none old)

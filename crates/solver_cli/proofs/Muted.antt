@@ -32,11 +32,6 @@ pub muted_but : {role : Role} {own : Option (List ℕ)} {old new : Role → Chan
     → KeptButTwo role Err own old new files after → Kept role own (muted old) (muted new) files after
 muted_but {role = role} kept = record { others = muted_two role kept.others; files = kept.files }
 
--- a call that told nothing
-pub kept_but : {role : Role} {own : Option (List ℕ)} {old new : Role → Channel} {files after : Files} → Kept role own old new files after
-    → KeptButTwo role Err own old new files after
-kept_but kept = record { others = λ other apart _. kept.others other apart; files = kept.files }
-
 -- the inputs are those of the host
 pub of_muted : {old new : Role → Channel} → LeavesInputs (muted old) (muted new) → LeavesInputs old new
 of_muted p = record { cnf = p.cnf; order = p.order; buckets = p.buckets; schedule = p.schedule; judged = p.judged; cubes = p.cubes; made = p.made }

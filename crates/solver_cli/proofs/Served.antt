@@ -13,7 +13,7 @@ use Rattle.cnf_base.specs.Order.{natural}
 use Rattle.command_line.specs.declared.plan.PlanName.{PlanName}
 use Rattle.solver_cli.specs.Answer.{moves_of_plan}
 use Rattle.solver_cli.specs.declared.basis.Basis.{Basis}
-use Rattle.solver_cli.specs.Phases.{Finds, Makes, MakesByBuckets, Schedules, TakesOrder, HasOrder, HasBuckets, HasPlan}
+use Rattle.solver_cli.specs.Phases.{Makes, Schedules, TakesOrder, HasOrder, HasBuckets, HasPlan}
 use Rattle.solver_cli.specs.Phases.{as_some, basis_of, moves_in}
 use Rattle.solver_cli.proofs.Reading.{ok_err, same_error}
 use Rattle.solver_cli.specs.Run.{schedule_file}
@@ -105,19 +105,6 @@ no_buckets is same = record { none = λ _. (is, same); named = λ file e. absurd
   apart : {file : List ℕ} → ◌≡◌ {A = Option (List ℕ)} None (Some file) → ⊥
   apart e = cc
 
-pub buckets_had : {tells : Bool} {old new : Channel} {files : Files} {vars : ℕ} {result : Result (Option (List ℕ)) OrderError}
-    {file : List ℕ} (read : Result (List ℕ) OrderError) → TakesOrder vars tells old new files file read → result ≡ as_some read
-    → HasBuckets vars (Some file) tells old new files result
-buckets_had {tells = tells} {old = old} {new = new} {files = files} {vars = vars} read takes is = record {
-  none = λ e. absurd (apart e);
-  named = λ other e. (read, subst (λ (f : List ℕ). TakesOrder vars tells old new files f read) (inner e) takes, is);
-} where
-  apart : {file : List ℕ} → ◌≡◌ {A = Option (List ℕ)} (Some file) None → ⊥
-  apart e = cc
-
-  inner : {a b : List ℕ} → ◌≡◌ {A = Option (List ℕ)} (Some a) (Some b) → a ≡ b
-  inner e = cc
-
 pub named_had : {tells : Bool} {old new : Channel} {files : Files} {problem : Formula} {given : List ℕ} {buckets : Option (List ℕ)}
     {result : Result Basis PlanError} {name : PlanName}
     → Makes (basis_of given (moves_of_plan name problem given)) PlanMemory old new result
@@ -161,38 +148,3 @@ schedule_had {tells = tells} {old = old} {new = new} {files = files} {problem = 
 
   inner : {a b : List ℕ} → ByFile a ≡ ByFile b → a ≡ b
   inner e = cc
-
-pub bucketed_had : {tells : Bool} {old new : Channel} {files : Files} {problem : Formula} {given : List ℕ} {buckets : Option (List ℕ)}
-    {result : Result Basis PlanError} {file : List ℕ} → MakesByBuckets problem given buckets old new result
-    → HasPlan problem given buckets (ByBuckets file) tells old new files result
-bucketed_had made = record {
-  named = λ name e. absurd (no_name e);
-  scheduled = λ file e. absurd (no_file e);
-  bucketed = λ file e. made;
-  found = λ e. absurd (not_found e);
-} where
-  no_name : {name : PlanName} {file : List ℕ} → ByBuckets file ≡ ByName name → ⊥
-  no_name e = cc
-
-  no_file : {file other : List ℕ} → ByBuckets file ≡ ByFile other → ⊥
-  no_file e = cc
-
-  not_found : {file : List ℕ} → ByBuckets file ≡ Found → ⊥
-  not_found e = cc
-
-pub found_had : {tells : Bool} {old new : Channel} {files : Files} {problem : Formula} {given : List ℕ} {buckets : Option (List ℕ)}
-    {result : Result Basis PlanError} → Finds problem old new result → HasPlan problem given buckets Found tells old new files result
-found_had finds = record {
-  named = λ name e. absurd (no_name e);
-  scheduled = λ file e. absurd (no_file e);
-  bucketed = λ file e. absurd (no_buckets e);
-  found = λ _. finds;
-} where
-  no_name : {name : PlanName} → Found ≡ ByName name → ⊥
-  no_name e = cc
-
-  no_file : {file : List ℕ} → Found ≡ ByFile file → ⊥
-  no_file e = cc
-
-  no_buckets : {file : List ℕ} → Found ≡ ByBuckets file → ⊥
-  no_buckets e = cc

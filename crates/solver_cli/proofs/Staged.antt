@@ -6,7 +6,7 @@ use Rattle.host_io.specs.declared.role.Role.{Role}
 use Rattle.host_io.specs.declared.role.Role.TheVariants.{Cnf, Order, Buckets, Schedule, ProofIn, Cubes, ProofOut, Made, Out}
 use Rattle.host_io.specs.declared.source.Failed.{Failed}
 use Rattle.host_io.specs.Channel.{Channel}
-use Rattle.host_io.specs.Files.{Files, FilesBut, Opens, Kept, same_role}
+use Rattle.host_io.specs.Files.{Files, FilesBut, Kept, same_role}
 use Rattle.dimacs_reader.specs.declared.mode.Mode.{Mode}
 use Rattle.dimacs_reader.specs.declared.error.CnfError.{CnfError}
 use Rattle.schedule_plan.specs.declared.plan.Move.{Move}
@@ -28,10 +28,6 @@ pub still_taken : (mode : Mode) {tells : Bool} {old new now : Channel} {files : 
     → TakesFormula mode tells old now files file result
 still_taken mode {tells = tells} {old = old} {files = files} {file = file} {result = result} same takes =
     subst (λ (c : Channel). TakesFormula mode tells old c files file result) (sym same) takes
-
-pub opened_from : {start old new : Channel} {file : List ℕ} {answer : Result ⊤ Failed} → old ≡ start → Opens old new file answer
-    → Opens start new file answer
-opened_from {new = new} {file = file} {answer = answer} same opens = subst (λ (c : Channel). Opens c new file answer) same opens
 
 pub still_written : {parity tells : Bool} {old new now : Channel} {problem : Formula} {order : List ℕ} {moves : List Move} {limits : Limits}
     {result : Result Ending RunError} → now ≡ new

@@ -135,11 +135,6 @@ trimmed {task = task} {problem = problem} {lines = lines} {core = core} {kept = 
 none_some : {name : List ℕ} → ◌≡◌ {A = Option (List ℕ)} None (Some name) → ⊥
 none_some e = cc
 
--- no file but those of the trimmed proof and its core was changed
-pub files_untrimmed : {one other : Option (List ℕ)} {old taken new : Role → Channel} {before files after : Files}
-    → Kept Cnf None old taken before files → Kept ProofIn None taken new files after → FilesBeside one other before after
-files_untrimmed beside_taken beside file one other = beside.files file none_some ∙ beside_taken.files file none_some
-
 pub files_rejected : {one other : Option (List ℕ)} {old taken judged new : Role → Channel} {before files after last : Files}
     → (old Out).name ≡ None → Kept Cnf None old taken before files → Kept ProofIn None taken judged files after
     → Kept Out (judged Out).name judged new after last → FilesBeside one other before last
@@ -147,12 +142,6 @@ files_rejected {judged = judged} unnamed beside_taken beside shows file one othe
     shows.files file (λ e. none_some (sym out_none ∙ e)) ∙ beside.files file none_some ∙ beside_taken.files file none_some where
       out_none : (judged Out).name ≡ None
       out_none = ap (λ (c : Channel). c.name) (beside.others Out refl ∙ beside_taken.others Out refl) ∙ unnamed
-
-pub files_trimmed : {one other : Option (List ℕ)} {old taken judged new : Role → Channel} {before files after last : Files}
-    → Kept Cnf None old taken before files → Kept ProofIn None taken judged files after
-    → KeptButThree one other judged new after last → FilesBeside one other before last
-files_trimmed beside_taken beside kept file one other =
-    kept.files file one other ∙ beside.files file none_some ∙ beside_taken.files file none_some
 
 -- a role was left alone
 pub still : {old taken judged : Role → Channel} {before files after : Files} → Kept Cnf None old taken before files

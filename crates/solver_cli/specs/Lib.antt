@@ -1,5 +1,7 @@
 pub mod ErrorText
+pub mod ErrorLine
 pub mod ExitCode
+pub mod Ended
 pub mod Answer
 pub mod MadeText
 pub mod Replies

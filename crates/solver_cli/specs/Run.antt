@@ -68,13 +68,9 @@ OutputFailed run = (role : Role) × (IsCreated role ⊎ (role ≡ Out)) × HasFa
 abbrev pub IsUnharmed : Run → Type 0
 IsUnharmed run = (InputFailed run → ⊥) × (OutputFailed run → ⊥)
 
--- the words give a command; they give `solve`; they give `make`; they give `drat` or `lrat`; they give `trim`;
--- they give `ask`
+-- the words give a command; they give `make`; they give `drat` or `lrat`; they give `trim`; they give `ask`
 abbrev pub GivesCommand : Run → Type 0
 GivesCommand run = (asked : Command) × (command run.words ≡ Some asked)
-
-abbrev pub GivesSolve : Run → Type 0
-GivesSolve run = (task : ToSolve) × (command run.words ≡ Some (Solve task))
 
 abbrev pub GivesMake : Run → Type 0
 GivesMake run = (task : ToMake) × (command run.words ≡ Some (Make task))

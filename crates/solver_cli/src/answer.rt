@@ -6,7 +6,7 @@ use crate::status::{Status, Why};
 use term_runner::Outcome;
 
 /// How large a board is that was decided: squares a side, variables and clauses.
-#[derive(Clone, Copy, Debug, PartialEq, Eq)]
+#[derive(Clone, Copy)]
 pub struct Shape {
     pub size: u32,
     pub vars: u32,

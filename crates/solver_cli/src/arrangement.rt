@@ -1,5 +1,5 @@
 // An order of a formula's variables by one of the methods, and its text in the file that was created for it.
-ghost use Rattle.std.specs.Prelude.{◌≡◌, ◌≢◌, None, IfOk};
+ghost use Rattle.std.specs.Prelude.{◌≡◌, ◌≢◌, None, IfOk, length};
 ghost use Rattle.host_io.specs.declared.role.Role.TheVariants.{Made};
 ghost use Rattle.host_io.specs.Files.{Kept};
 ghost use Rattle.solver_cli.specs.Answer.{IsOrderOf};
@@ -19,14 +19,20 @@ pub fn order_by(alloc: Global, formula: &Cnf, method: OrderMethod) -> Result<Ord
     ensures { IfOk result (λ order. IsOrderOf formula.now.vars order) }
 {
     let graph = Hypergraph::of(alloc, formula)?;
-    let order = match method {
-        OrderMethod::Degree => by_degree(alloc, &graph),
-        OrderMethod::Cardinality => by_cardinality(alloc, &graph),
-        OrderMethod::Levels => by_levels(alloc, &graph),
-        OrderMethod::Profile => by_profile(alloc, &graph),
-    }?;
+    let order = order_of(alloc, &graph, method)?;
     let _variables = order.as_slice();
     Ok(order)
+}
+
+fn order_of(alloc: Global, graph: &Hypergraph, method: OrderMethod) -> Result<Order, OutOfMemory>
+    ensures { IfOk result (λ order. length order ≡ graph.now.vars) }
+{
+    match method {
+        OrderMethod::Degree => by_degree(alloc, graph),
+        OrderMethod::Cardinality => by_cardinality(alloc, graph),
+        OrderMethod::Levels => by_levels(alloc, graph),
+        OrderMethod::Profile => by_profile(alloc, graph),
+    }
 }
 
 /// Writes the text of an order in the role that was created for it, and flushes it.

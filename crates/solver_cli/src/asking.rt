@@ -14,7 +14,7 @@ use crate::formula::take_formula;
 use crate::job::Job;
 use crate::order::take_order;
 use crate::replies::{put_replies, status_of_replies};
-use crate::status::Status;
+use crate::status::{Status, ended_by};
 use cnf_base::Cnf;
 use command_line::AskTask;
 use cube_queries::{Outcome, ask_into};
@@ -82,10 +82,8 @@ fn answer_cubes<H: Host>(
         Ok(found) => found,
         Err(error) => return Status::from(error),
     };
-    match put_replies(host, &found, job.limits) {
-        Ok(()) => status_of_replies(&found),
-        Err(_) => Status::WriteFault,
-    }
+    let printed = put_replies(host, &found, job.limits);
+    ended_by(status_of_replies(&found), printed)
 }
 
 // Answers the cubes and writes the proof in the role that was created for it.

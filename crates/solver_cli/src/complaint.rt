@@ -3,7 +3,8 @@ ghost use Rattle.std.specs.Prelude.{◌≡◌, ◌++◌, codes, decimal};
 ghost use Rattle.host_io.specs.declared.role.Role.TheVariants.{Err as ErrRole};
 ghost use Rattle.host_io.specs.Channel.{WritesAll};
 ghost use Rattle.host_io.specs.Files.{Kept};
-ghost use Rattle.solver_cli.specs.ErrorText.{cube_kind_name, kind_name, order_kind_name, plan_kind_name, role_word, error_text};
+ghost use Rattle.solver_cli.specs.ErrorText.{cube_kind_name, error_text, kind_name, order_kind_name, plan_kind_name, role_word};
+ghost use Rattle.solver_cli.specs.ErrorLine.{line_text};
 ghost use Rattle.solver_cli.specs.Phases.{Complains};
 
 use crate::status::Status;
@@ -30,6 +31,25 @@ fn write_status<S: Sink>(sink: &mut S, status: Status) -> Result<(), Failed>
     ensures writes { WritesAll S.tells (S.channel sink.old) (S.channel sink.new) (error_text status) result }
     ensures beside { S.beside sink.new ≡ S.beside sink.old }
 {
+    let line = line_of(status);
+    match line.number {
+        Some(number) => write_refused(sink, line.head, number, line.kind),
+        None => write_all(sink, line.head.as_bytes()),
+    }
+}
+
+// A line: what stands before a number, and where there is one, this number and what stands behind it.
+#[derive(Clone, Copy)]
+struct Line {
+    head: &'static str,
+    number: Option<u64>,
+    kind: &'static str,
+}
+
+// The status's line, which is empty for an answer, a text that was made and help.
+fn line_of(status: Status) -> Line
+    ensures { error_text status ≡ line_text result.head.now result.number result.kind.now }
+{
     match status {
         Status::Sat
         | Status::Unsat
@@ -38,31 +58,43 @@ fn write_status<S: Sink>(sink: &mut S, status: Status) -> Result<(), Failed>
         | Status::Verified
         | Status::NotVerified(..)
         | Status::Done
-        | Status::Help => Ok(()),
-        Status::Usage => write_all(sink, b"error: bad usage\n"),
-        Status::CnfRefused(kind, line) => {
-            write_refused(sink, "error: cnf line ", line, cnf_kind(kind))
-        }
-        Status::OrderRefused(kind, line) => {
-            write_refused(sink, "error: order line ", line, order_kind(kind))
-        }
+        | Status::Help => plain(""),
+        Status::Usage => plain("error: bad usage\n"),
+        Status::CnfRefused(kind, line) => refused("error: cnf line ", line, cnf_kind(kind)),
+        Status::OrderRefused(kind, line) => refused("error: order line ", line, order_kind(kind)),
         Status::BucketsRefused(kind, line) => {
-            write_refused(sink, "error: buckets line ", line, order_kind(kind))
+            refused("error: buckets line ", line, order_kind(kind))
         }
-        Status::PlanRefused(kind, line) => {
-            write_refused(sink, "error: schedule line ", line, plan_kind(kind))
-        }
-        Status::CubeRefused(kind, line) => {
-            write_refused(sink, "error: cubes line ", line, cube_kind(kind))
-        }
-        Status::TooLong(role) => write_all(sink, too_long(role).as_bytes()),
-        Status::ReadFault => write_all(sink, b"error: read failed\n"),
-        Status::WriteFault => write_all(sink, b"error: write failed\n"),
-        Status::OutOfMemory => write_all(sink, b"error: out of memory\n"),
+        Status::PlanRefused(kind, line) => refused("error: schedule line ", line, plan_kind(kind)),
+        Status::CubeRefused(kind, line) => refused("error: cubes line ", line, cube_kind(kind)),
+        Status::TooLong(role) => plain(too_long(role)),
+        Status::ReadFault => plain("error: read failed\n"),
+        Status::WriteFault => plain("error: write failed\n"),
+        Status::OutOfMemory => plain("error: out of memory\n"),
+    }
+}
+
+fn plain(head: &'static str) -> Line
+    ensures { line_text result.head.now result.number result.kind.now ≡ head.entry.now }
+{
+    Line {
+        head,
+        number: None,
+        kind: "",
     }
 }
 
 // Which text is wrong, in which line, and how.
+fn refused(head: &'static str, line: u64, kind: &'static str) -> Line
+    ensures { line_text result.head.now result.number result.kind.now ≡ head.entry.now ++ (decimal line ++ kind.entry.now) }
+{
+    Line {
+        head,
+        number: Some(line),
+        kind,
+    }
+}
+
 fn write_refused<S: Sink>(sink: &mut S, text: &str, line: u64, kind: &str) -> Result<(), Failed>
     ensures writes { WritesAll S.tells (S.channel sink.old) (S.channel sink.new) (text.now ++ (decimal line ++ kind.now)) result }
     ensures beside { S.beside sink.new ≡ S.beside sink.old }

@@ -36,7 +36,7 @@ use crate::order::{take_buckets, take_order};
 use crate::output::{put_answer, put_text};
 use crate::plan::{buckets_name, take_plan};
 use crate::proof::prove;
-use crate::status::{Status, buckets_status};
+use crate::status::{Status, buckets_status, ended_by};
 use crate::trimming::{put_core, put_proof, trim_proof};
 use crate::verdict::{put_trimmed, put_verdict, verdict_status};
 use cnf_base::Cnf;
@@ -199,10 +199,8 @@ fn answer<H: Host>(
         Ok(ending) => ending,
         Err(error) => return Status::from(error),
     };
-    match put_answer(host, &ending, job.limits, job.shape) {
-        Ok(()) => status_of(&ending.outcome),
-        Err(_) => Status::WriteFault,
-    }
+    let printed = put_answer(host, &ending, job.limits, job.shape);
+    ended_by(status_of(&ending.outcome), printed)
 }
 
 // Makes the board, and writes the text of it that is asked for to the file that is named.
@@ -220,10 +218,8 @@ fn make<H: Host>(alloc: Global, asked: &MakeTask<'_>, host: &mut H) -> Status
     if host.create(HostRole::Made, asked.file).is_err() {
         return Status::WriteFault;
     }
-    match put_part(host, &board, asked.size, asked.part) {
-        Ok(()) => Status::Done,
-        Err(_) => Status::WriteFault,
-    }
+    let written = put_part(host, &board, asked.size, asked.part);
+    ended_by(Status::Done, written)
 }
 
 // Reads the formula, makes an order of its variables, and writes its text to the file that is named.
@@ -245,10 +241,8 @@ fn arrange<H: Host>(alloc: Global, asked: &OrderTask<'_>, host: &mut H) -> Statu
     if host.create(HostRole::Made, asked.out).is_err() {
         return Status::WriteFault;
     }
-    match put_order(host, &order) {
-        Ok(()) => Status::Done,
-        Err(_) => Status::WriteFault,
-    }
+    let written = put_order(host, &order);
+    ended_by(Status::Done, written)
 }
 
 // Reads the formula, judges the proof over it by the rules of its format and prints the verdict.
@@ -274,10 +268,8 @@ fn check<H: Host>(alloc: Global, asked: &CheckTask<'_>, host: &mut H) -> Status
         Ok(verdict) => verdict,
         Err(error) => return Status::from(error),
     };
-    match put_verdict(host, verdict) {
-        Ok(()) => verdict_status(verdict),
-        Err(_) => Status::WriteFault,
-    }
+    let printed = put_verdict(host, verdict);
+    ended_by(verdict_status(verdict), printed)
 }
 
 // Reads the formula, judges the proof over it, writes it in the other format and prints the verdict.
@@ -303,10 +295,8 @@ fn convert<H: Host>(alloc: Global, asked: &ConvertTask<'_>, host: &mut H) -> Sta
         Ok(verdict) => verdict,
         Err(error) => return Status::from(error),
     };
-    match put_verdict(host, verdict) {
-        Ok(()) => verdict_status(verdict),
-        Err(_) => Status::WriteFault,
-    }
+    let printed = put_verdict(host, verdict);
+    ended_by(verdict_status(verdict), printed)
 }
 
 // Reads the formula, judges the proof over it, and writes what the refutation needs of a verified one, and its core, where a file is named
@@ -361,10 +351,8 @@ fn keep<H: Host>(
     if put_core(host, asked.core, core).is_err() {
         return Status::WriteFault;
     }
-    match put_trimmed(host, kept, total) {
-        Ok(()) => Status::Verified,
-        Err(_) => Status::WriteFault,
-    }
+    let printed = put_trimmed(host, kept, total);
+    ended_by(Status::Verified, printed)
 }
 
 // Prints the verdict.

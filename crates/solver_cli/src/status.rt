@@ -1,11 +1,12 @@
 // How the program ends.
 ghost use Rattle.std.specs.Prelude.{◌≡◌};
+ghost use Rattle.solver_cli.specs.Ended.{ended_by};
 ghost use Rattle.solver_cli.specs.ExitCode.{exit_code, status_of_buckets};
 
 use cube_text::{CubeError, CubeKind};
 use dimacs_reader::{CnfError, CnfKind};
 use drat_proof::ConvertError;
-use host_io::Role;
+use host_io::{Failed, Role};
 use lrat_checker::CheckError;
 use lrat_rules::Reason;
 use schedule_plan::{OrderError, OrderKind, PlanError, PlanKind};
@@ -13,7 +14,7 @@ use std::io::ErrorKind;
 use term_runner::RunError;
 
 /// Why a formula was left undecided, or cubes unanswered.
-#[derive(Clone, Copy, Debug, PartialEq, Eq)]
+#[derive(Clone, Copy, Debug)]
 pub enum Why {
     /// The diagrams reached the greatest number of nodes.
     NodeLimit,
@@ -22,7 +23,7 @@ pub enum Why {
 }
 
 /// How the program ends.
-#[derive(Clone, Copy, Debug, PartialEq, Eq)]
+#[derive(Clone, Copy, Debug)]
 pub enum Status {
     /// The formula has a satisfying assignment, which was printed.
     Sat,
@@ -87,6 +88,16 @@ impl Status {
             Status::OutOfMemory => 5,
             Status::Usage => 6,
         }
+    }
+}
+
+/// How a run ends that had to write a text yet: so, or by a write fault.
+pub(crate) fn ended_by(so: Status, written: Result<(), Failed>) -> Status
+    ensures { result ≡ ended_by so written }
+{
+    match written {
+        Ok(()) => so,
+        Err(_) => Status::WriteFault,
     }
 }
 

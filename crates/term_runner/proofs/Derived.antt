@@ -1,171 +1,275 @@
--- A runner behind a call that adds one clause and retires it, or is refused.
-use Rattle.std.proofs.Common.{◌≡◌, ◌≢◌, ◌⊎◌, ◌∙◌, ◌+◌, ◌++◌, ℕ, ℤ, List, [], ◌∷◌, Contains, None, Some, Result, Ok, Err}
-use Rattle.std.proofs.Common.{cond, eq-eqb, refl, sym, ap, subst, arith, inl, inr, zero, suc}
-use Rattle.std.specs.Cmp.{unsigned_tied}
-use Rattle.std.specs.FinMap as finmap
-use Rattle.std.proofs.lemmas.Cmp.{nat_cmp_total}
+-- A runner behind a call that adds one clause, and retires or keeps it, or that is refused.
+use Rattle.std.proofs.Common.{◌≡◌, ◌≢◌, ◌∙◌, ◌<◌, ◌+◌, ◌++◌, ℕ, zero, suc, true, false, ℤ, List, [], ◌∷◌, map, Contains}
+use Rattle.std.proofs.Common.{None, Some, Result, Ok, Err, refl, sym, ap, subst, arith, inl, inr}
+use Rattle.std.specs.Option.{option_to_list}
+use Rattle.std.proofs.lemmas.List.{append-nil, append_assoc, map-append}
 use Rattle.std.proofs.lemmas.List.Elements.{Contains-append_left, Contains-append_right, Contains-append_cases}
 use Rattle.clause_ledger.specs.Book.{with_next}
+use Rattle.cnf_base.specs.Cube.{cube_holds, forbidding}
+use Rattle.cnf_base.specs.Truth.{Assignment}
+use Rattle.lrat_rules.specs.Conservative.{IsAddedBy}
 use Rattle.lrat_rules.specs.State.{State, clause_at}
 use Rattle.node_table.specs.declared.error.TableError.{TableError}
-use Rattle.node_table.specs.declared.error.TableError.TheVariants.{NodeLimit, WriteFault}
-use Rattle.node_table.specs.HandedOn.{same_error}
+use Rattle.node_table.specs.declared.error.TableError.TheVariants.{NodeLimit, OutOfMemory, WriteFault}
+use Rattle.node_table.specs.declared.node.Justification.TheVariants.{Clause, Trivial}
+use Rattle.node_table.specs.declared.node.Node.TheVariants.{False, True}
+use Rattle.node_table.specs.Diagram.{Graph, levels}
+use Rattle.node_table.specs.HandedOn.{no_error, same_error}
 use Rattle.node_table.specs.Laws.{Growth, StepByStep}
-use Rattle.node_table.specs.Progress.{Continues, Steps}
-use Rattle.node_table.specs.Table.{AddsNoEmpty, AddsNone, Extends, IsSame, TableState, defining_clauses}
+use Rattle.node_table.specs.Progress.{Continues, Steps, StepsOrRefutes}
+use Rattle.node_table.specs.Table.{AddsNoEmpty, AddsNone, Extends, IsAddedTo, IsSame, TableState, defining_clauses}
+use Rattle.node_table.specs.Tied.{IsUpTo}
 use Rattle.operations.specs.Entries.{Entry, Fits, Fitting}
+use Rattle.term_runner.specs.declared.held.HeldTerm.{HeldTerm}
 use Rattle.term_runner.specs.declared.runner.Runner.{Runner}
 use Rattle.term_runner.specs.Caches.{all_entries}
-use Rattle.term_runner.specs.Derived.{Derives}
-use Rattle.term_runner.specs.Held.{HasUnits}
-use Rattle.term_runner.specs.Runner.{IsRunner, owners, refusals_of}
+use Rattle.term_runner.specs.Derived.{Derives, Refuses}
+use Rattle.term_runner.specs.Finds.{IsProved}
+use Rattle.term_runner.specs.Held.{HasUnits, RetiresBut}
+use Rattle.term_runner.specs.Runner.{IsGood, IsRefusal, IsRunner, holds_in, owners, refusal_of, refusals_of}
 use Rattle.term_runner.proofs.Given.{proved_kept}
-use Rattle.term_runner.proofs.Giving.{none_added, units_behind}
+use Rattle.term_runner.proofs.Giving.{new_gives, none_added, units_behind}
 use Rattle.term_runner.proofs.Leaving.{origin_left, went_on}
-use Rattle.term_runner.proofs.OwnUnits.{within_top}
+use Rattle.term_runner.proofs.NoEmpty.{further_empty, same_empty}
+use Rattle.term_runner.proofs.Owners.{units_back, units_less}
+use Rattle.term_runner.proofs.OwnUnits.{no_clause, same_clause}
+use Rattle.term_runner.proofs.Proved.{added_alone, added_stands}
 use Rattle.term_runner.proofs.Refusals.{refusal_kept}
-use Rattle.term_runner.proofs.Stacks.{over_after}
-use Rattle.term_runner.proofs.WithinLimits.{within_after}
+use Rattle.term_runner.proofs.Replaced.{none_retired, units_replaced}
+use Rattle.term_runner.proofs.Resting.{empty_of}
+use Rattle.term_runner.proofs.SameTerms.{terms_stay}
 
 abbrev with_table : {S : Type 0} → Runner S → TableState S → Runner S
 with_table old table = record old { terms = record old.terms { table = table } }
 
-module _ {S : Type 0} (growth : Growth) (old : Runner S) (runner : IsRunner old) (new : TableState S)
-    (continues : Continues old.terms.table new) (extends : Extends old.terms.table new) (no_empty : AddsNoEmpty old.terms.table new)
-    (fits : Fits new (all_entries old.terms.caches))
-    (units : HasUnits new (all_entries old.terms.caches) (owners old ++ refusals_of old)) where
-  -- only the table changed, and no clause was lost
-  pub runner_over : IsRunner (with_table old new)
-  runner_over =
-      let over = runner.over in
-      record {
-        over = over_after old.formula.now old.terms.table new (all_entries old.terms.caches) (all_entries old.terms.caches) over
-            continues.sound extends fits;
-        within = within_after old.formula.now old.limits old.terms.table old.terms.caches (all_entries old.terms.caches) over runner.within
-            new old.terms.caches continues refl;
-        proved = λ one among. proved_kept growth old.terms.table new over.sound extends one (runner.proved one among);
-        units = units;
-        refusals = λ id there. refusal_kept old.terms.table.graph new.graph old.terms.table.book.state.live new.book.state.live
-            extends.nodes.order extends.clauses id (runner.refusals id there);
-        no_trail = runner.no_trail;
-        kept = runner.kept;
-        refuted = runner.refuted;
-        unrefuted = λ no id above empty. runner.unrefuted no id (omega (arith, above, extends.inputs)) (no_empty.each id empty);
-      }
+-- a term of a runner that refuted nothing isn't False
+pub not_false : {S : Type 0} (runner : Runner S) → IsRunner runner → (held : HeldTerm) → IsGood runner held → runner.refuted ≡ false
+    → held.node ≢ False
+not_false runner is held good clean same = elim good [
+  | inl true_one ↦ absurd (let e : True ≡ False = sym (ap (λ (h : HeldTerm). h.node) true_one) ∙ same in cc)
+  | inr out ↦
+      let empty = empty_of runner (owners runner) is held
+      (Contains-append_left runner.terms.out.items (option_to_list runner.kept) held out) same in
+      is.unrefuted clean empty.id empty.above empty.empty
+]
 
-module _ {S : Type 0} (growth : Growth) (laws : StepByStep S) (fitting : Fitting S) (clause : List ℤ) (old : Runner S)
-    (runner : IsRunner old) where
+-- the only one of a list
+only_one : (x y : ℕ) → Contains (x ∷ []) y → x ≡ y
+only_one x y (zero, small, at) = at
+only_one x y (suc k, small, at) = absurd (omega (arith, small))
+
+module _ {S : Type 0} (growth : Growth) (laws : StepByStep S) (fitting : Fitting S) (old : Runner S) (runner : IsRunner old) where
+  abbrev table : TableState S
+  table = old.terms.table
+
   abbrev entries : List Entry
   entries = all_entries old.terms.caches
 
-  -- it was refused, which changes nothing unless a write failed
-  pub derived_none : (came : TableError) (mid : TableState S) → Steps old.terms.table mid 1 (Some came)
-      → mid.graph ≡ old.terms.table.graph → mid.retired ≡ old.terms.table.retired → came ≢ NodeLimit
-      → (came ≢ WriteFault → IsSame old.terms.table mid) → (r : Result ℕ TableError) → r ≡ Err came
-      → Derives clause old (with_table old mid) r
-  derived_none came mid steps nodes retired unmet same r is =
-      subst (λ (r : Result ℕ TableError). Derives clause old (with_table old mid) r) (sym is) (record {
-        stands = tt;
-        runner = λ whole. still (λ torn. whole (ap Err torn));
-        same = refl;
-        goes_on = record {
-          nodes = nodes;
-          keeps = steps.extends.clauses;
-          top = let few = steps.adds in omega (arith, few, ap defining_clauses nodes);
-          no_limit = λ limit. unmet (same_error limit);
-        };
-        origin = origin_left old.terms.table mid (Some came) steps.leaves;
-        leaves = steps.leaves;
-      })
-    where
-      still : came ≢ WriteFault → IsRunner (with_table old mid)
-      still whole =
-          let more = went_on {T = ℕ} old.terms.table mid (Err came) steps.leaves (λ torn. whole (same_error torn)) in
-          let is_same = same whole in
-          runner_over growth old runner mid more steps.extends steps.no_empty
-          (fitting.kept old.terms.table mid entries runner.over.sound more.sound steps.extends runner.over.fits
-          (λ id named gone. runner.over.fits.unretired id named (subst (λ (ids : List ℕ). Contains ids id) retired gone)))
-          (units_behind laws old.terms.table mid entries entries (owners old ++ refusals_of old) runner.over.sound more.sound steps.extends
-          runner.units (record { each = λ id gone. inl (subst (λ (ids : List ℕ). Contains ids id) retired gone) })
-          (record { each = λ entry there. inl there })
-          (none_added old.terms.table mid entries runner.over.sound retired
-          (subst (λ (t : TableState S). AddsNone old.terms.table t) (sym is_same) (λ id own. own))))
-
-  -- it was added, and retired
-  module _ (id : ℕ) (mid new : TableState S) (steps : Steps old.terms.table mid 1 None)
-      (added : (id ≡ old.terms.table.book.state.top + 1) × (mid.book.state ≡ with_next old.terms.table.book.state clause))
-      (nodes : mid.graph ≡ old.terms.table.graph) (kept : mid.retired ≡ old.terms.table.retired)
-      (retired : new ≡ record mid { retired = mid.retired ++ id ∷ [] }) (more : Steps mid new 0 None) where
-    all : Steps old.terms.table new 1 None
-    all = laws.further old.terms.table mid new 1 0 None steps more
-
-    top_is : new.book.state.top ≡ old.terms.table.book.state.top + 1
-    top_is = ap (λ (t : TableState S). t.book.state.top) retired ∙ ap (λ (s : State). s.top) added.1
-
-    retired_is : new.retired ≡ old.terms.table.retired ++ id ∷ []
-    retired_is = ap (λ (t : TableState S). t.retired) retired ∙ ap (λ (ids : List ℕ). ids ++ id ∷ []) kept
-
-    which : (other : ℕ) → Contains new.retired other → Contains old.terms.table.retired other ⊎ (id ≡ other)
-    which other gone =
-        elim (Contains-append_cases old.terms.table.retired (id ∷ []) other (subst (λ (ids : List ℕ). Contains ids other) retired_is gone)) [
-          | inl was ↦ inl was
-          | inr last ↦ inr (only last)
-        ]
-      where
-        only : Contains (id ∷ []) other → id ≡ other
-        only (zero, small, at) = at
-        only (suc k, small, at) = absurd (omega (arith, small))
-
-    fits : Fits new entries
-    fits = fitting.kept old.terms.table new entries runner.over.sound all.leaves.sound all.extends runner.over.fits
-        (λ other named gone. elim (which other gone) [
-          | inl was ↦ runner.over.fits.unretired other named was
-          | inr own ↦
-              let within = within_top old.terms.table runner.over.sound other (runner.over.fits.own other named).stands in
-              absurd (omega (arith, within, own, added.0))
-        ])
-
-    units : HasUnits new entries (owners old ++ refusals_of old)
-    units = units_behind laws old.terms.table new entries entries (owners old ++ refusals_of old) runner.over.sound all.leaves.sound
-        all.extends runner.units
-        (record {
-          each = λ other gone. elim (which other gone) [
-            | inl was ↦ inl was
-            | inr own ↦ inr (inl (omega (arith, own, added.0)))
-          ];
-        })
+  -- The call was refused, which changes nothing unless a write failed.
+  module _ (came : TableError) (mid : TableState S) (steps : StepsOrRefutes table mid 1 (Some came)) (nodes : mid.graph ≡ table.graph)
+      (unmet : came ≢ NodeLimit) (alike : came ≢ WriteFault → IsSame table mid) where
+    still : came ≢ WriteFault → (new : Runner S)
+        → new ≡ record old { terms = record old.terms { table = mid }; refusals = new.refusals }
+        → new.refusals.items ≡ old.refusals.items → IsRunner new
+    still whole new same list =
+        let more = went_on {T = ℕ} table mid (Err came) steps.leaves (λ torn. whole (same_error torn)) in
+        let retired : mid.retired ≡ table.retired = ap (λ (t : TableState S). t.retired) (alike whole) in
+        terms_stay old runner mid more steps.extends (λ no. same_empty table mid (alike whole))
+        (fitting.kept table mid entries runner.over.sound more.sound steps.extends runner.over.fits
+        (λ id named gone. runner.over.fits.unretired id named (subst (λ (ids : List ℕ). Contains ids id) retired gone)))
+        (λ held among. proved_kept growth table mid runner.over.sound steps.extends held (runner.proved held among)) new same
+        (subst (λ (ids : List ℕ). HasUnits mid entries (owners old ++ map refusal_of ids)) (sym list)
+        (units_behind laws table mid entries entries (owners old ++ refusals_of old) runner.over.sound more.sound steps.extends
+        runner.units (record { each = λ id gone. inl (subst (λ (ids : List ℕ). Contains ids id) retired gone) })
         (record { each = λ entry there. inl there })
-        (record {
-          still = λ other accounted. elim accounted [
-            | inl was ↦ inl (subst (λ (ids : List ℕ). Contains ids other) (sym retired_is)
-                (Contains-append_left old.terms.table.retired (id ∷ []) other was))
-            | inr named ↦ inr named
-          ];
-          added = λ other above own.
-              let within = within_top new all.leaves.sound other own.stands in
-              let is : id ≡ other = omega (arith, above, within, top_is, added.0) in
-              inl (subst (λ (ids : List ℕ). Contains ids other) (sym retired_is)
-              (Contains-append_right old.terms.table.retired (id ∷ []) other (zero, omega arith, is)));
-        })
+        (none_added table mid entries runner.over.sound retired
+        (subst (λ (t : TableState S). AddsNone table t) (sym (alike whole)) (λ id own. own)))))
+        (λ id there. refusal_kept table.graph mid.graph table.book.state.live mid.book.state.live steps.extends.nodes.order
+        steps.extends.clauses id (runner.refusals id (subst (λ (ids : List ℕ). Contains ids id) list there)))
 
-    stands_there : clause_at mid.book.state.live id ≡ Some clause
-    stands_there =
-        let last = old.terms.table.book.state.top + 1 in
-        ap (λ (s : State). clause_at s.live id) added.1
-        ∙ finmap.get-insert nat_cmp_total old.terms.table.book.state.live last clause id
-        ∙ ap (λ b. cond b (Some clause) (clause_at old.terms.table.book.state.live id)) (unsigned_tied id last ∙ eq-eqb id last added.0)
-
-    pub derived_one : Derives clause old (with_table old new) (Ok id)
-    derived_one = record {
-      stands = more.extends.clauses id clause stands_there;
-      runner = λ whole. runner_over growth old runner new all.leaves all.extends all.no_empty fits units;
+    pub derived_none : (clause : List ℤ) (r : Result ℕ TableError) → r ≡ Err came → Derives clause old (with_table old mid) r
+    derived_none clause r is = subst (λ (r : Result ℕ TableError). Derives clause old (with_table old mid) r) (sym is) (record {
+      stands = tt;
+      runner = λ whole. still (λ torn. whole (ap Err torn)) (with_table old mid) refl refl;
       same = refl;
       goes_on = record {
-        nodes = ap (λ (t : TableState S). t.graph) retired ∙ nodes;
-        keeps = all.extends.clauses;
-        top = omega (arith, top_is);
-        no_limit = λ is. cc;
+        nodes = nodes;
+        keeps = steps.extends.clauses;
+        top = let few = steps.adds in omega (arith, few, ap defining_clauses nodes);
+        no_limit = λ limit. unmet (same_error limit);
       };
-      origin = origin_left old.terms.table new None all.leaves;
-      leaves = all.leaves;
-    }
+      origin = origin_left table mid (Some came) steps.leaves;
+      leaves = steps.leaves;
+    })
+
+    pub refused_none : {T : Type 0} (held : HeldTerm) (cube : List ℤ) (new : Runner S)
+        → new ≡ record old { terms = record old.terms { table = mid }; refusals = new.refusals }
+        → new.refusals.items ≡ old.refusals.items → (r : Result T TableError) → r ≡ Err came → Refuses held cube old new r
+    refused_none {T} held cube new same list r is =
+        subst (λ (r : Result T TableError). Refuses held cube old new r) (sym is)
+        (subst (λ (x : Runner S). Refuses {T = T} held cube old x (Err came)) (sym same) (record {
+          forbids = tt;
+          refused = list;
+          runner = λ whole. still (λ torn. whole (ap Err torn)) (record old {
+            terms = record old.terms { table = mid };
+            refusals = new.refusals;
+          }) refl list;
+          same = refl;
+          goes_on = record {
+            nodes = nodes;
+            keeps = steps.extends.clauses;
+            top = let few = steps.adds in omega (arith, few, ap defining_clauses nodes);
+            no_limit = λ limit. unmet (same_error limit);
+          };
+          origin = origin_left table mid (Some came) steps.leaves;
+          leaves = steps.leaves;
+        }))
+
+  -- memory ran out before anything was written
+  pub refused_before : {T : Type 0} (held : HeldTerm) (cube : List ℤ) (new : Runner S)
+      → new ≡ record old { terms = record old.terms { table = table }; refusals = new.refusals }
+      → new.refusals.items ≡ old.refusals.items → (r : Result T TableError) → r ≡ Err OutOfMemory → Refuses held cube old new r
+  refused_before = refused_none OutOfMemory table
+      (laws.anyhow table table 1 (Some OutOfMemory)
+      (laws.at_most table table 0 1 (Some OutOfMemory) (omega arith) (laws.no_memory table runner.over.sound))) refl (λ is. cc) (λ whole. refl)
+
+  -- The clause was added.
+  module _ (id : ℕ) (clause : List ℤ) (mid : TableState S) (steps : StepsOrRefutes table mid 1 None)
+      (no_empty : old.refuted ≡ false → AddsNoEmpty table mid)
+      (added : (id ≡ table.book.state.top + 1) × (mid.book.state ≡ with_next table.book.state clause)) (own : IsAddedTo mid id)
+      (nodes : mid.graph ≡ table.graph) (retired : mid.retired ≡ table.retired) where
+    top_is : mid.book.state.top ≡ table.book.state.top + 1
+    top_is = ap (λ (s : State). s.top) added.1
+
+    stands : clause_at mid.book.state.live id ≡ Some clause
+    stands = added_stands table.book.state mid.book.state clause id added.0 added.1
+
+    fits : Fits mid entries
+    fits = fitting.kept table mid entries runner.over.sound steps.leaves.sound steps.extends runner.over.fits
+        (λ other named gone. runner.over.fits.unretired other named (subst (λ (ids : List ℕ). Contains ids other) retired gone))
+
+    proved : (held : HeldTerm) → Contains (owners old) held → IsProved mid.graph mid.book.state.live held
+    proved held among = proved_kept growth table mid runner.over.sound steps.extends held (runner.proved held among)
+
+    refusals_stand : (other : ℕ) → Contains old.refusals.items other → IsRefusal mid.graph mid.book.state.live other
+    refusals_stand other there = refusal_kept table.graph mid.graph table.book.state.live mid.book.state.live steps.extends.nodes.order
+        steps.extends.clauses other (runner.refusals other there)
+
+    -- it owns itself, in front of all others
+    units : HasUnits mid entries (refusal_of id ∷ (owners old ++ refusals_of old))
+    units = units_replaced laws table mid mid entries entries [] (owners old ++ refusals_of old) (refusal_of id) runner.over.sound
+        steps.leaves.sound steps.extends runner.units
+        (new_gives table mid entries (Clause id) runner.over.sound runner.over.fits steps.leaves.no_less retired
+        (added_alone table mid clause nodes steps.extends.inputs added.1 id added.0)
+        (λ other is. subst (λ (n : ℕ). (n ≡ mid.book.state.top) × (table.book.state.top < n)) (same_clause id other is) (
+          omega (arith, added.0, top_is),
+          omega (arith, added.0),
+        ))
+        (λ other is. subst (λ (n : ℕ). IsAddedTo mid n) (same_clause id other is) own))
+        (none_retired mid (Clause id))
+
+    -- it is retired at once
+    module _ (new : TableState S) (gone : new ≡ record mid { retired = mid.retired ++ id ∷ [] }) (more : Steps mid new 0 None) where
+      retired_is : new.retired ≡ mid.retired ++ id ∷ []
+      retired_is = ap (λ (t : TableState S). t.retired) gone
+
+      retires : RetiresBut mid new (Clause id) Trivial
+      retires = record {
+        same = gone ∙ ap (λ (ids : List ℕ). record mid { retired = ids }) (sym retired_is);
+        still = λ other there. subst (λ (ids : List ℕ). Contains ids other) (sym retired_is)
+            (Contains-append_left mid.retired (id ∷ []) other there);
+        only = λ other there. elim (Contains-append_cases mid.retired (id ∷ []) other
+            (subst (λ (ids : List ℕ). Contains ids other) retired_is there)) [
+              | inl was ↦ inl was
+              | inr last ↦ inr (ap Clause (only_one id other last), no_clause other)
+            ];
+        gone = λ other is. inl (subst (λ (ids : List ℕ). Contains ids other) (sym retired_is)
+            (Contains-append_right mid.retired (id ∷ []) other (zero, omega arith, same_clause id other is)));
+      }
+
+      continues : Continues table new
+      continues = laws.go_on table mid new steps.leaves more.leaves
+
+      extends : Extends table new
+      extends = laws.extend table mid new steps.extends more.extends
+
+      fits_new : Fits new entries
+      fits_new = fitting.kept mid new entries steps.leaves.sound more.leaves.sound more.extends fits
+          (λ other named there. elim (retires.only other there) [
+            | inl was ↦ fits.unretired other named was
+            | inr this ↦ units.own (refusal_of id) (zero, omega arith, refl) other this.0 (inr named)
+          ])
+
+      runner_new : IsRunner (with_table old new)
+      runner_new = terms_stay old runner new continues extends
+          (λ no. further_empty table mid new (no_empty no) more.no_empty) fits_new
+          (λ held among. proved_kept growth mid new steps.leaves.sound more.extends held (proved held among)) (with_table old new) refl
+          (units_less mid new entries (refusal_of id) (owners old ++ refusals_of old) retires units)
+          (λ other there. refusal_kept mid.graph new.graph mid.book.state.live new.book.state.live more.extends.nodes.order
+          more.extends.clauses other (refusals_stand other there))
+
+      pub derived_one : Derives clause old (with_table old new) (Ok id)
+      derived_one = record {
+        stands = more.extends.clauses id clause stands;
+        runner = λ whole. runner_new;
+        same = refl;
+        goes_on = record {
+          nodes = ap (λ (t : TableState S). t.graph) gone ∙ nodes;
+          keeps = extends.clauses;
+          top = omega (arith, ap (λ (t : TableState S). t.book.state.top) gone, top_is);
+          no_limit = no_error;
+        };
+        origin = origin_left table new None continues;
+        leaves = continues;
+      }
+
+    -- it is kept
+    module _ (held : HeldTerm) (cube : List ℤ) (is : clause ≡ forbidding cube) (up : IsUpTo (levels table.graph) (forbidding cube))
+        (none : (a : Assignment) → holds_in old held a ≡ true → cube_holds a cube ≡ true → ⊥)
+        (told : IsAddedBy mid.book.steps (forbidding cube)) (new : Runner S)
+        (same : new ≡ record old { terms = record old.terms { table = mid }; refusals = new.refusals })
+        (list : new.refusals.items ≡ old.refusals.items ++ id ∷ []) where
+      -- behind all others
+      units_new : HasUnits mid entries (owners old ++ refusals_of new)
+      units_new =
+          let all = owners old ++ refusals_of old in
+          let last : HasUnits mid entries (all ++ refusal_of id ∷ []) = units_back mid entries all [] (refusal_of id)
+          (subst (λ (rest : List HeldTerm). HasUnits mid entries (refusal_of id ∷ rest)) (sym (append-nil all)) units) in
+          subst (HasUnits mid entries)
+          (append_assoc (owners old) (refusals_of old) (refusal_of id ∷ [])
+          ∙ ap (λ (rest : List HeldTerm). owners old ++ rest) (sym (map-append refusal_of old.refusals.items (id ∷ [])))
+          ∙ ap (λ (ids : List ℕ). owners old ++ map refusal_of ids) (sym list)) last
+
+      own_refusal : IsRefusal mid.graph mid.book.state.live id
+      own_refusal = record {
+        clause = forbidding cube;
+        stands = stands ∙ ap Some is;
+        over = subst (λ (graph : Graph). IsUpTo (levels graph) (forbidding cube)) (sym nodes) up;
+      }
+
+      all_stand : (other : ℕ) → Contains new.refusals.items other → IsRefusal mid.graph mid.book.state.live other
+      all_stand other there = elim (Contains-append_cases old.refusals.items (id ∷ []) other
+          (subst (λ (ids : List ℕ). Contains ids other) list there)) [
+            | inl was ↦ refusals_stand other was
+            | inr last ↦ subst (IsRefusal mid.graph mid.book.state.live) (only_one id other last) own_refusal
+          ]
+
+      runner_kept : IsRunner new
+      runner_kept = terms_stay old runner mid steps.leaves steps.extends no_empty fits proved new same units_new all_stand
+
+      pub refused_one : {T : Type 0} (x : T) → Refuses held cube old new (Ok x)
+      refused_one {T} x =
+          subst (λ (r : Runner S). Refuses {T = T} held cube old r (Ok x)) (sym same) (record {
+            forbids = record { none = none; id = id; stands = stands ∙ ap Some is; added = told; kept = list };
+            refused = tt;
+            runner = λ whole. subst (λ (r : Runner S). IsRunner r) same runner_kept;
+            same = refl;
+            goes_on = record {
+              nodes = nodes;
+              keeps = steps.extends.clauses;
+              top = omega (arith, top_is);
+              no_limit = no_error;
+            };
+            origin = origin_left table mid None steps.leaves;
+            leaves = steps.leaves;
+          })

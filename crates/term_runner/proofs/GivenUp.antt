@@ -1,8 +1,7 @@
 -- The clause of a refused cube is retired: the runner owns it no more.
-use Rattle.std.proofs.Common.{◌≡◌, ◌∙◌, ◌++◌, ℕ, List, [], ◌∷◌, length, map, Contains, None, refl, sym, ap, subst, inl, inr, arith}
+use Rattle.std.proofs.Common.{◌≡◌, ◌∙◌, ◌++◌, ℕ, List, [], ◌∷◌, length, map, Contains, None, refl, sym, ap, subst, inl, inr}
 use Rattle.std.proofs.lemmas.List.{append-nil, append_assoc, map-append}
 use Rattle.std.proofs.lemmas.List.Elements.{Contains-append_left}
-use Rattle.lrat_rules.specs.State.{clause_at}
 use Rattle.node_table.specs.declared.node.Justification.TheVariants.{Clause, Trivial}
 use Rattle.node_table.specs.Progress.{Steps}
 use Rattle.node_table.specs.Table.{TableState, IsAddedTo}
@@ -12,11 +11,10 @@ use Rattle.term_runner.specs.declared.runner.Runner.{Runner}
 use Rattle.term_runner.specs.Caches.{all_entries}
 use Rattle.term_runner.specs.Finds.{IsProved}
 use Rattle.term_runner.specs.Held.{HasUnits, RetiresBut}
-use Rattle.term_runner.specs.Runner.{IsRefusal, IsRunner, OwnsTerms, owners, refusal_of, refusals_of}
+use Rattle.term_runner.specs.Runner.{IsRefusal, IsRunner, owners, refusal_of, refusals_of}
 use Rattle.term_runner.proofs.Owners.{among_here, units_front, units_less}
 use Rattle.term_runner.proofs.Resting.{nothing}
-use Rattle.term_runner.proofs.Stacks.{over_after}
-use Rattle.term_runner.proofs.WithinLimits.{within_after}
+use Rattle.term_runner.proofs.SameTerms.{terms_stay}
 
 module _ {S : Type 0} (old : Runner S) (runner : IsRunner old) (ids : List ℕ) (id : ℕ) (was : old.refusals.items ≡ ids ++ id ∷ []) where
   -- all that own a clause, with this one last
@@ -59,28 +57,13 @@ module _ {S : Type 0} (old : Runner S) (runner : IsRunner old) (ids : List ℕ) 
     stays_among : (other : ℕ) → Contains ids other → Contains old.refusals.items other
     stays_among other there = subst (λ (list : List ℕ). Contains list other) (sym was) (Contains-append_left ids (id ∷ []) other there)
 
-    owns_left : OwnsTerms (record old { terms = record old.terms { table = table }; refusals = new.refusals }) (owners old)
-    owns_left = record {
-      over = over_after old.formula.now old.terms.table table (all_entries old.terms.caches) (all_entries old.terms.caches) runner.over
-          more.leaves.sound more.extends fits_left;
-      within = within_after old.formula.now old.limits old.terms.table old.terms.caches (all_entries old.terms.caches) runner.over
-          runner.within
-          table old.terms.caches more.leaves refl;
-      proved = λ held among. subst (λ (t : TableState S). IsProved t.graph t.book.state.live held) (sym retires.same) (runner.proved held
-          among);
-      units = subst (λ (list : List ℕ). HasUnits table (all_entries old.terms.caches) (owners old ++ map refusal_of list)) (sym items)
-          units_left;
-      refusals = λ other there. subst (λ (t : TableState S). IsRefusal t.graph t.book.state.live other) (sym retires.same)
-          (runner.refusals other (stays_among other (subst (λ (list : List ℕ). Contains list other) items there)));
-      no_trail = runner.no_trail;
-      kept = runner.kept;
-      refuted = runner.refuted;
-      unrefuted = λ no other above empty. runner.unrefuted no other (omega (arith, above, more.extends.inputs))
-          (sym (ap (λ (t : TableState S). clause_at t.book.state.live other) retires.same) ∙ empty);
-    }
-
     pub given_up : IsRunner new
-    given_up = subst (λ (r : Runner S). IsRunner r) (sym same) owns_left
+    given_up = terms_stay old runner table more.leaves more.extends (λ no. more.no_empty) fits_left
+        (λ held among. subst (λ (t : TableState S). IsProved t.graph t.book.state.live held) (sym retires.same) (runner.proved held among))
+        new same
+        (subst (λ (list : List ℕ). HasUnits table (all_entries old.terms.caches) (owners old ++ map refusal_of list)) (sym items) units_left)
+        (λ other there. subst (λ (t : TableState S). IsRefusal t.graph t.book.state.live other) (sym retires.same)
+        (runner.refusals other (stays_among other (subst (λ (list : List ℕ). Contains list other) items there))))
 
 -- none was left, and none is
 pub none_left : {S : Type 0} (old : Runner S) → IsRunner old → (new : Runner S) → new ≡ record old { refusals = new.refusals }

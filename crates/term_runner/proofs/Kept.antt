@@ -1,15 +1,17 @@
 -- A reclamation keeps the terms that are out: their nodes are its roots.
 use Rattle.std.proofs.Common.{◌≡◌, ◌⊎◌, ◌∙◌, ◌++◌, ℕ, zero, suc, true, List, [], Contains, Option, None, Some, refl, sym, ap, subst}
-use Rattle.std.proofs.Common.{arith, inl, inr}
+use Rattle.std.proofs.Common.{Ok, Err, Result, arith, inl, inr}
+use Rattle.std.specs.Prelude.{◌≢◌, IfErr, OnOk}
 use Rattle.std.specs.Option.{option_to_list}
-use Rattle.std.specs.Prelude.{◌≢◌}
 use Rattle.std.proofs.lemmas.List.{append-nil}
 use Rattle.std.proofs.lemmas.List.Elements.{Contains-append_cases, Contains-append_left, Contains-append_right}
+use Rattle.node_table.specs.declared.error.TableError.{TableError}
+use Rattle.node_table.specs.declared.error.TableError.TheVariants.{OutOfMemory, WriteFault}
 use Rattle.node_table.specs.declared.node.Node.{Node}
 use Rattle.node_table.specs.declared.node.Node.TheVariants.{False, True}
 use Rattle.node_table.specs.Diagram.{is_node}
 use Rattle.node_table.specs.Laws.{Growth, Reachability}
-use Rattle.node_table.specs.Progress.{Continues}
+use Rattle.node_table.specs.Progress.{Continues, Leaves, error_of}
 use Rattle.node_table.specs.Table.{TableState}
 use Rattle.clause_terms.specs.Term.{IsTerm}
 use Rattle.reclaim.specs.Reclaimed.{MayReclaim, Reclaims}
@@ -93,6 +95,36 @@ module _ {S : Type 0} (runner : Runner S) (is : IsRunner runner) where
     reached_terms reach = leaves_reached growth runner.terms.table new (nodes_of runner.terms.out.items) (all_entries runner.terms.caches)
         (all_entries caches) more.sound reclaims reach roots_stood
 
+-- However a reclamation ends, unless a write failed: want of memory changes nothing.
+module _ {S : Type 0} (growth : Growth) (runner : Runner S) (is : IsRunner runner) (new : TableState S) (caches : Caches)
+    (same : sizes caches ≡ sizes runner.terms.caches) where
+  abbrev pub BothChanged : Runner S
+  BothChanged = record runner { terms = record runner.terms { table = new; caches = caches } }
+
+  unchanged : (new ≡ runner.terms.table) × (caches ≡ runner.terms.caches) → IsRunner BothChanged
+  unchanged both = subst (λ (t : TableState S). IsRunner (record runner { terms = record runner.terms { table = t; caches = caches } }))
+      (sym both.0)
+      (subst (λ (c : Caches). IsRunner (record runner { terms = record runner.terms { table = runner.terms.table; caches = c } }))
+      (sym both.1) is)
+
+  pub reclaimed_or_not : (r : Result ℕ TableError)
+      → OnOk r (Reclaims runner.terms.table new (nodes_of runner.terms.out.items) (all_entries runner.terms.caches) (all_entries caches))
+      → Leaves runner.terms.table new (error_of r)
+      → (r ≡ Err OutOfMemory → (new ≡ runner.terms.table) × (caches ≡ runner.terms.caches))
+      → IfErr r (λ e. (e ≡ OutOfMemory) ⊎ (e ≡ WriteFault)) → r ≢ Err WriteFault → IsRunner BothChanged
+  reclaimed_or_not (Ok count) reclaims leaves memory error whole = runner_reclaimed runner is growth new caches leaves same reclaims
+  reclaimed_or_not (Err e) reclaims leaves memory error whole = elim error [
+    | inl none_left ↦ unchanged (memory (ap Err none_left))
+    | inr torn ↦ absurd (whole (ap Err torn))
+  ]
+
+  pub reached_or_not : Reachability → (r : Result ℕ TableError)
+      → OnOk r (Reclaims runner.terms.table new (nodes_of runner.terms.out.items) (all_entries runner.terms.caches) (all_entries caches))
+      → Leaves runner.terms.table new (error_of r)
+      → OnOk r (LeavesReached runner.terms.table.graph new.graph (nodes_of runner.terms.out.items))
+  reached_or_not reach (Ok count) reclaims leaves = reached_terms runner is growth new caches leaves same reclaims reach
+  reached_or_not reach (Err e) reclaims leaves = tt
+
 -- a term that a call may take is proved
 pub good_proved : {S : Type 0} (runner : Runner S) → IsRunner runner → (held : HeldTerm) → IsGood runner held
     → IsProved runner.terms.table.graph runner.terms.table.book.state.live held
@@ -114,10 +146,3 @@ pub good_true : {S : Type 0} (runner : Runner S) → IsRunner runner → (held :
 good_true runner is held good same =
     let proved = good_proved runner is held good in
     λ k. record { node = same k; unit = true_unit runner.terms.table held.node held.unit same proved.unit k }
-
-pub good_out : {S : Type 0} (runner : Runner S) (held : HeldTerm) → IsGood runner held → held.node ≢ True
-    → Contains runner.terms.out.items held
-good_out runner held good some = elim good [
-  | inl true_one ↦ absurd (some (ap (λ (h : HeldTerm). h.node) true_one))
-  | inr out ↦ out
-]

@@ -57,14 +57,13 @@ pub mod Opened
 pub mod Kept
 pub mod Resting
 pub mod Refusals
+pub mod SameTerms
+pub mod Proved
+pub mod Forbidding
 pub mod GivenUp
-pub mod CubeRefuted
-pub mod CubeFound
-pub mod CubeAsked
-pub mod CubeJoined
 pub mod Grown
 pub mod WeakerFound
 pub mod Weakened
 pub mod SumOver
 pub mod Counted
-mod Derived
+pub mod Derived

@@ -1,14 +1,13 @@
 -- The units of stacked terms are neither retired nor named by an entry, from call to call, so that they stay where the
 -- retired clauses are deleted.
 use Rattle.std.proofs.Common.{◌≡◌, ◌∙◌, ◌⊎◌, ◌≤◌, ◌<◌, ◌+◌, ℕ, zero, suc, ℤ, true, false, List, [], ◌∷◌, Option, None, Some, Contains}
-use Rattle.std.proofs.Common.{Result, Ok, Err, is_some, refl, sym, ap, subst, arith, inl, inr}
-use Rattle.std.specs.Prelude.{IfOk, IsFalse}
+use Rattle.std.proofs.Common.{is_some, refl, sym, ap, subst, arith, inl, inr}
+use Rattle.std.specs.Prelude.{IsFalse}
 use Rattle.cnf_base.specs.Formula.{Formula}
 use Rattle.lrat_rules.specs.State.{Live, clause_at}
 use Rattle.hint_chain.specs.declared.atom.Atom.{Atom}
 use Rattle.hint_chain.specs.declared.atom.Atom.TheVariants.{Always, Never, Of}
 use Rattle.hint_chain.specs.Atoms.{clause_from_atoms, is_trivial}
-use Rattle.node_table.specs.declared.error.TableError.{TableError}
 use Rattle.node_table.specs.declared.node.Justification.{Justification}
 use Rattle.node_table.specs.declared.node.Justification.TheVariants.{Trivial, Clause}
 use Rattle.node_table.specs.Diagram.{Graph, levels}
@@ -85,21 +84,6 @@ module _ {S : Type 0} where
       | inr came ↦ let above = (came id by.2).0 in omega (arith, within, above)
     ]
   ]
-
-  -- a unit of the next number
-  pub given_next : (old new : TableState S) (u v : Justification) (result : Result Justification TableError)
-      → IfOk result (λ unit. (unit ≡ Clause (old.book.state.top + 1)) × (new.book.state.top ≡ old.book.state.top + 1))
-      → IfOk result (λ unit. (unit ≡ u) ⊎ ((unit ≡ v) ⊎ IsNewJustification old.book.state new.book.state unit))
-  given_next old new u v (Err e) next = tt
-  given_next old new u v (Ok unit) next = inr (inr (λ id is. let same = same_clause (old.book.state.top + 1) id (sym next.0 ∙ is) in
-      (omega (arith, same), omega (arith, same, next.1))))
-
-  pub given_one : (old new : TableState S) (u : Justification) (result : Result Justification TableError)
-      → IfOk result (λ unit. (unit ≡ Clause (old.book.state.top + 1)) × (new.book.state.top ≡ old.book.state.top + 1))
-      → IfOk result (λ unit. (unit ≡ u) ⊎ IsNewJustification old.book.state new.book.state unit)
-  given_one old new u (Err e) next = tt
-  given_one old new u (Ok unit) next = inr (λ id is. let same = same_clause (old.book.state.top + 1) id (sym next.0 ∙ is) in
-      (omega (arith, same), omega (arith, same, next.1)))
 
   -- the unit of a conjunction: an operand's, or a new one
   pub unit_own : (mid new : TableState S) (kept : List Entry) (u v unit : Justification) → IsSound mid → Fits mid kept → new.retired ≡ mid.retired

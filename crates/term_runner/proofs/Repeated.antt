@@ -1,7 +1,7 @@
 -- A unit of its own: the clause of a node alone follows from itself, where it is live, and what is new of it.
-use Rattle.std.proofs.Common.{◌≡◌, ◌⊎◌, ◌∙◌, ◌+◌, ◌<◌, ◌&&◌, ℕ, Bool, true, false, not, cond, ℤ, pos, List, [], ◌∷◌, None, Some, Result, Ok, Err}
-use Rattle.std.proofs.Common.{refl, sym, ap, subst, arith, inl, inr}
-use Rattle.std.specs.Prelude.{◌≢◌, IfOk}
+use Rattle.std.proofs.Common.{◌≡◌, ◌∙◌, ◌&&◌, ℕ, Bool, true, false, not, cond, ℤ, pos, List, [], ◌∷◌, None, Some}
+use Rattle.std.proofs.Common.{refl, sym, ap, subst}
+use Rattle.std.specs.Prelude.{◌≢◌}
 use Rattle.std.specs.Ordering.{int_eq}
 use Rattle.std.proofs.lemmas.Bool.{or_left}
 use Rattle.std.proofs.lemmas.Bool.Decides.{Decides-int_eq}
@@ -11,7 +11,6 @@ use Rattle.lrat_rules.specs.Strict.{RefutesStrictly, is_strict, is_strict_effect
 use Rattle.hint_chain.specs.declared.atom.Atom.{Atom}
 use Rattle.hint_chain.specs.declared.atom.Atom.TheVariants.{Always, Never, Of}
 use Rattle.hint_chain.specs.Atoms.{clause_from_atoms, is_trivial}
-use Rattle.node_table.specs.declared.error.TableError.{TableError}
 use Rattle.node_table.specs.declared.node.Node.{Node}
 use Rattle.node_table.specs.declared.node.Node.TheVariants.{False, True, Inner}
 use Rattle.node_table.specs.declared.node.Justification.{Justification}
@@ -20,11 +19,8 @@ use Rattle.node_table.specs.Defined.{atom_of}
 use Rattle.node_table.specs.Diagram.{Graph, IsReduced, is_node}
 use Rattle.node_table.specs.Justification.{IsJustified}
 use Rattle.node_table.specs.Laws.{Canonical}
-use Rattle.node_table.specs.Table.{TableState, IsAddedTo, IsSound}
 use Rattle.node_table.specs.Value.{value_of}
 use Rattle.operations.specs.Results.{Conjoined}
-use Rattle.term_runner.proofs.OwnUnits.{same_clause, unit_within}
-use Rattle.term_runner.proofs.Stacks.{both_ok}
 use Rattle.term_runner.proofs.Units.{inner_of, unit_given}
 
 -- the unit of a node that isn't True is a clause
@@ -74,43 +70,3 @@ module _ (canonical : Canonical) (graph : Graph) (reduced : IsReduced graph) (li
   second_open differ is = differ (canonical graph reduced w v conjoined.stands is_v (λ a. conjoined.value a
       ∙ ap (λ (node : Node). value_of graph a u && value_of graph a node) is ∙ and_false (value_of graph a u)
       ∙ sym (ap (value_of graph a) is)))
-
-module _ {S : Type 0} (old new : TableState S) (r : Result Justification TableError)
-    (next : IfOk r (λ unit. (unit ≡ Clause (old.book.state.top + 1)) × (new.book.state.top ≡ old.book.state.top + 1))) where
-  -- the unit of the next number is the last clause
-  pub last_of : IfOk r (λ unit. (id : ℕ) → unit ≡ Clause id → (id ≡ new.book.state.top) × (old.book.state.top < id))
-  last_of = go r next
-    where
-      go : (r : Result Justification TableError) → IfOk r (λ unit. (unit ≡ Clause (old.book.state.top + 1))
-          × (new.book.state.top ≡ old.book.state.top + 1))
-          → IfOk r (λ unit. (id : ℕ) → unit ≡ Clause id → (id ≡ new.book.state.top) × (old.book.state.top < id))
-      go (Err e) is = tt
-      go (Ok unit) is = λ id named.
-          let same = same_clause (old.book.state.top + 1) id (sym is.0 ∙ named) in (omega (arith, same, is.1), omega (arith, same))
-
-  -- and no operand's
-  pub added_of : IsSound old → (one other : Atom) (u v : Justification) → IsJustified old.book.state.live (one ∷ []) u
-      → IsJustified old.book.state.live (other ∷ []) v
-      → IfOk r (λ unit. (unit ≡ u) ⊎ ((unit ≡ v) ⊎ ((id : ℕ) → unit ≡ Clause id → IsAddedTo new id)))
-      → IfOk r (λ unit. (id : ℕ) → unit ≡ Clause id → IsAddedTo new id)
-  added_of sound one other u v proved_u proved_v given = both_ok r _ _ _ (λ unit last by id named.
-      elim by [
-        | inl own ↦ absurd (let within = unit_within old sound one u id proved_u (sym own ∙ named) in let above = (last id named).1 in
-            omega (arith, within, above))
-        | inr rest ↦ elim rest [
-          | inl own ↦ absurd (let within = unit_within old sound other v id proved_v (sym own ∙ named) in
-              let above = (last id named).1 in omega (arith, within, above))
-          | inr added ↦ added id named
-        ]
-      ]) last_of given
-
-  -- the same where there is one operand
-  pub added_one : IsSound old → (one : Atom) (u : Justification) → IsJustified old.book.state.live (one ∷ []) u
-      → IfOk r (λ unit. (unit ≡ u) ⊎ ((id : ℕ) → unit ≡ Clause id → IsAddedTo new id))
-      → IfOk r (λ unit. (id : ℕ) → unit ≡ Clause id → IsAddedTo new id)
-  added_one sound one u proved given = both_ok r _ _ _ (λ unit last by id named.
-      elim by [
-        | inl own ↦ absurd (let within = unit_within old sound one u id proved (sym own ∙ named) in let above = (last id named).1 in
-            omega (arith, within, above))
-        | inr added ↦ added id named
-      ]) last_of given

@@ -210,14 +210,6 @@ found_sorted graph xs before after moved are = record {
   all = λ level small own. Contains-permutation before after level moved (are.all level small own);
 }
 
--- Each once, so far.
-pub none_once : AreOnce [] []
-none_once = record {
-  was = λ n there. there;
-  there = λ n there. there;
-  rising = λ bound below. tt;
-}
-
 rising_more : (first bound : ℕ) (set : List ℕ) (n : ℕ) → AreRising first bound set → first ≤ n → ((m : ℕ) → Contains set m → m < n) → n < bound
     → AreRising first bound (set ++ n ∷ [])
 rising_more first bound [] n rising from_first less below = (from_first, (below, tt))

@@ -1,10 +1,9 @@
 -- The sum of some variables, modulo 2, is that of their levels.
 use Rattle.std.proofs.Common.{◌≡◌, ◌∙◌, ◌++◌, ◌+◌, ◌<◌, ◌||◌, ℕ, zero, suc, Bool, true, false, List, [], ◌∷◌, Contains, length, map, reverse}
-use Rattle.std.proofs.Common.{refl, sym, ap, arith, inl, inr, eq-eqb, eqb-true, ne_eqb}
+use Rattle.std.proofs.Common.{refl, sym, ap, arith, eq-eqb, eqb-true, ne_eqb}
 use Rattle.std.specs.Prelude.{slice_index_or, ◌==◌, cond}
 use Rattle.std.specs.Bool.{beq}
 use Rattle.std.specs.List.{filter}
-use Rattle.std.proofs.lemmas.Bool.{cases_Bool}
 use Rattle.std.proofs.lemmas.List.{reverse-append}
 use Rattle.cnf_base.specs.Truth.{Assignment}
 use Rattle.parity_nodes.specs.Sums.{AreRising, IsSum, exclusive_or, odd_over, sum_is}
@@ -121,12 +120,6 @@ not_among (y ∷ more) x none =
     let other : (x == y) ≡ false = ne_eqb x y (λ same. none (zero, omega arith, sym same)) in
     let rest = not_among more x (λ there. none (suc there.0, omega (arith, there.1), there.2)) in
     (λ i. other i || rest i)
-
-either_way : (x y : ℕ) → (x == y) ≡ (y == x)
-either_way x y = elim (cases_Bool (x == y)) [
-  | inl is ↦ is ∙ sym (eq-eqb y x (sym (eqb-true x y is)))
-  | inr not_is ↦ not_is ∙ sym (ne_eqb y x (λ same. let e : false ≡ true = sym not_is ∙ eq-eqb x y (sym same) in cc))
-]
 
 -- different variables, in whatever order
 pub odd_among : (order variables : List ℕ) (a : ℕ → Bool) → IsOrder order → AreVariables (length order) variables

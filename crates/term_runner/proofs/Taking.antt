@@ -1,10 +1,17 @@
 -- What a possible move needs, and what it leaves on the stack.
 use Rattle.std.proofs.Common.{◌≡◌, ℕ, ◌<◌, ◌≤◌, List, [], ◌∷◌, length, Some, refl, sym, ap, subst}
 use Rattle.cnf_base.specs.Formula.{Formula}
+use Rattle.node_table.specs.Table.{IsSound, TableState}
+use Rattle.node_table.specs.Value.{value_of}
+use Rattle.operations.specs.Entries.{Entry}
 use Rattle.schedule_plan.specs.declared.plan.Move.{Move}
 use Rattle.schedule_plan.specs.declared.plan.Move.TheVariants.{Push, And, Exists}
 use Rattle.schedule_plan.specs.Plan.{Term, input, both, Stage, after_move, after_and}
-use Rattle.schedule_plan.specs.SetMove.{move_in_order}
+use Rattle.term_runner.specs.declared.held.HeldTerm.{HeldTerm}
+use Rattle.term_runner.specs.Held.{AreHeld, HasUnits, IsHeld}
+use Rattle.term_runner.specs.Width.{HasAtMost, HoldsAtMost, IsInHand, term_function}
+use Rattle.term_runner.proofs.Pairs.{at_most_same, few_of_term}
+use Rattle.term_runner.proofs.Planned.{node_function}
 use Rattle.term_runner.proofs.Plans.{IsAfterExists, pushed_of, quantified_of}
 
 pub record IsPushed (formula : Formula) (stage next : Stage) (i : ℕ) : Type 0 where
@@ -58,18 +65,23 @@ pub exists_of : (formula : Formula) (stage next : Stage) (step : Move) (x : ℕ)
 exists_of formula stage next step x named is = quantified_of formula stage next x stage.stack
     (subst (λ (m : Move). after_move formula stage m ≡ Some next) named is)
 
--- the same of a move in the order of the variables, which is the move itself but for a set
-pub push_in : (formula : Formula) (order : List ℕ) (stage next : Stage) (step : Move) (i : ℕ) → step ≡ Push i
-    → after_move formula stage (move_in_order order step) ≡ Some next → IsPushed formula stage next i
-push_in formula order stage next step i named is =
-    push_of formula stage next (move_in_order order step) i (ap (move_in_order order) named) is
+-- the last terms, as the stack has them
+pub as_listed : {S : Type 0} (formula : Formula) (table : TableState S) (items list : List HeldTerm) (stack terms : List Term) → items ≡ list
+    → stack ≡ terms → AreHeld formula table.graph table.book.state.live items stack
+    → AreHeld formula table.graph table.book.state.live list terms
+as_listed formula table items list stack terms same is are =
+    subst (λ (l : List HeldTerm). AreHeld formula table.graph table.book.state.live l terms) same
+    (subst (λ (s : List Term). AreHeld formula table.graph table.book.state.live items s) is are)
 
-pub and_in : (formula : Formula) (order : List ℕ) (stage next : Stage) (step : Move) → step ≡ And
-    → after_move formula stage (move_in_order order step) ≡ Some next → IsConjoined stage next
-and_in formula order stage next step named is =
-    and_of formula stage next (move_in_order order step) (ap (move_in_order order) named) is
+pub own_listed : {S : Type 0} (table : TableState S) (entries : List Entry) (items list : List HeldTerm) → items ≡ list
+    → HasUnits table entries items → HasUnits table entries list
+own_listed table entries items list same has = subst (λ (l : List HeldTerm). HasUnits table entries l) same has
 
-pub exists_in : (formula : Formula) (order : List ℕ) (stage next : Stage) (step : Move) (x : ℕ) → step ≡ Exists x
-    → after_move formula stage (move_in_order order step) ≡ Some next → IsAfterExists formula stage next x stage.stack
-exists_in formula order stage next step x named is =
-    exists_of formula stage next (move_in_order order step) x (ap (move_in_order order) named) is
+-- a held term has few parts where few are in hand
+pub few_held : {S : Type 0} (formula : Formula) (table : TableState S) (stage next : Stage) (held : HeldTerm) (term : Term) → IsSound table
+    → IsHeld formula table.graph table.book.state.live held term → IsInHand stage next term → (width : ℕ)
+    → HoldsAtMost formula table.graph.order stage next width → HasAtMost (λ a. value_of table.graph a held.node) width
+few_held formula table stage next held term sound is there width most =
+    at_most_same (term_function formula table.graph.order term) (λ a. value_of table.graph a held.node)
+    (λ a. sym (node_function table.graph sound.tied.reduced sound.tied.ordered formula held.node term is.is.stands is.is.value a)) width
+    (few_of_term formula table.graph.order stage next term there width most)

@@ -12,6 +12,7 @@ pub mod Held
 pub mod Terms
 pub mod Moves
 pub mod Finds
+pub mod Proves
 pub mod Tidy
 pub mod Counting
 pub mod Examples
@@ -20,5 +21,4 @@ pub mod Unused
 pub mod Runner
 pub mod Parity
 pub mod Sets
-pub mod Asked
 pub mod Derived

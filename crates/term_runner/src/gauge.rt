@@ -3,14 +3,14 @@
 use std::cell::Cell;
 
 /// How many look-ups of a cache found a result, and how many found none.
-#[derive(Clone, Copy, Debug, PartialEq, Eq)]
+#[derive(Clone, Copy)]
 pub struct Lookups {
     pub found: u64,
     pub missed: u64,
 }
 
 /// The look-ups of each operation's cache.
-#[derive(Clone, Copy, Debug, PartialEq, Eq)]
+#[derive(Clone, Copy)]
 pub struct CacheLookups {
     pub conjunctions: Lookups,
     pub implications: Lookups,
@@ -19,7 +19,7 @@ pub struct CacheLookups {
 }
 
 /// How far a run is, and what it used so far.
-#[derive(Clone, Copy, Debug, PartialEq, Eq)]
+#[derive(Clone, Copy)]
 pub struct Reading {
     /// The moves that are done, and all.
     pub moves: usize,

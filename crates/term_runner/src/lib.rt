@@ -4,11 +4,9 @@
 //! `reconstruction` for the terms of quantified variables.
 #![tactic(auto)]
 
-mod ask;
 mod caches;
 mod capacity;
 mod counting;
-mod cube;
 mod decide;
 mod error;
 mod examples;

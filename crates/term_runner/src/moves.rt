@@ -1,12 +1,13 @@
 // One move of a plan. (Bryant, Heule: Generating Extended Resolution Proofs with a BDD-Based SAT Solver, 2021,
 // section 5.)
-ghost use Rattle.std.specs.Prelude.{◌≡◌, ◌≢◌, ◌↔◌, ◌<◌, ◌≤◌, ◌⊎◌, ◌+◌, [], Ok, Err, Some, IsTrue, false, length, reverse, take};
+ghost use Rattle.std.specs.Prelude.{◌≡◌, ◌≢◌, ◌↔◌, ◌<◌, ◌≤◌, ◌⊎◌, ◌+◌, ◌^◌, ℕ, List, [], Ok, Err, Some, IsTrue, false, length, map, reverse, take};
 ghost use Rattle.std.specs.Prelude.{vec_capacity, vec_len};
 ghost use Rattle.node_table.specs.declared.error.TableError.TheVariants.{NodeLimit};
 ghost use Rattle.node_table.specs.declared.node.Node.TheVariants.{False};
+ghost use Rattle.node_table.specs.Diagram.{variable_at};
 ghost use Rattle.node_table.specs.Table.{IsSound};
 ghost use Rattle.cnf_base.specs.Formula.{Formula};
-ghost use Rattle.schedule_plan.specs.declared.plan.Move.TheVariants.{ExistsAll};
+ghost use Rattle.schedule_plan.specs.declared.plan.Move.TheVariants.{And, Exists, ExistsAll, Push};
 ghost use Rattle.schedule_plan.specs.Plan.{Stage, after_all, after_move};
 ghost use Rattle.schedule_plan.specs.SetMove.{falling, move_in_order};
 ghost use Rattle.term_runner.specs.Held.{IsPlaced, MayGiveUp};
@@ -58,38 +59,65 @@ impl<S: Sink + Drop> Terms<S> {
             → after_move formula.now stage (move_in_order self.old.table.graph.order step.now) ≡ Some next
             → Tried formula.now stage next self.old self.new result }
     {
+        match step {
+            Move::Push(number) => self.push(formula, *number),
+            Move::And => self.conjoin(),
+            Move::Exists(variable) => self.quantify(*variable),
+            Move::ExistsAll(set) => self.quantify_all(set),
+        }
+    }
+
+    // Pushes the term of a clause.
+    fn push(&mut self, formula: &Cnf, number: u32) -> Result<bool, TableError>
+        requires { MayMove formula.now (Push number) self.old }
+        ensures { (stage next : Stage) → IsAtStage formula.now self.old stage → after_move formula.now stage (Push number) ≡ Some next
+            → Tried formula.now stage next self.old self.new result }
+    {
         entry_law::<S>();
         growth_law();
         steps_law::<S>();
         let alloc = *self.out.allocator();
-        match step {
-            Move::Push(number) => {
-                if self.out.reserve(1).is_err() {
-                    return Err(TableError::OutOfMemory);
-                }
-                let held = input(alloc, &mut self.table, formula, *number)?;
-                Ok(put(&mut self.table, &mut self.out, &[], held))
-            }
-            Move::And => {
-                let Some((u, v)) = last_two(self.out.as_slice()) else {
-                    unreachable!();
-                };
-                let held = conjunction(&mut self.table, &mut self.caches, &u, &v)?;
-                Ok(put(&mut self.table, &mut self.out, &[u, v], held))
-            }
-            Move::Exists(variable) => {
-                let Some(u) = last_term(self.out.as_slice()) else {
-                    unreachable!();
-                };
-                let Some(level) = self.table.level(*variable) else {
-                    unreachable!();
-                };
-                let held = weaken(&mut self.table, &mut self.caches, &u, level)?;
-                self.trail.push(*variable, u.node)?;
-                Ok(put(&mut self.table, &mut self.out, &[u], held))
-            }
-            Move::ExistsAll(set) => self.quantify_all(set),
+        if self.out.reserve(1).is_err() {
+            return Err(TableError::OutOfMemory);
         }
+        let held = input(alloc, &mut self.table, formula, number)?;
+        Ok(put(&mut self.table, &mut self.out, &[], held))
+    }
+
+    // Conjoins the two last terms.
+    fn conjoin(&mut self) -> Result<bool, TableError>
+        requires { (formula : Formula) × MayMove formula And self.old }
+        ensures { (formula : Formula) (stage next : Stage) → IsOpen formula self.old → IsAtStage formula self.old stage
+            → after_move formula stage And ≡ Some next → Tried formula stage next self.old self.new result }
+    {
+        entry_law::<S>();
+        growth_law();
+        steps_law::<S>();
+        let Some((u, v)) = last_two(self.out.as_slice()) else {
+            unreachable!();
+        };
+        let held = conjunction(&mut self.table, &mut self.caches, &u, &v)?;
+        Ok(put(&mut self.table, &mut self.out, &[u, v], held))
+    }
+
+    // Quantifies a variable from the last term.
+    fn quantify(&mut self, variable: u32) -> Result<bool, TableError>
+        requires { (formula : Formula) × MayMove formula (Exists variable) self.old }
+        ensures { (formula : Formula) (stage next : Stage) → IsOpen formula self.old → IsAtStage formula self.old stage
+            → after_move formula stage (Exists variable) ≡ Some next → Tried formula stage next self.old self.new result }
+    {
+        entry_law::<S>();
+        growth_law();
+        steps_law::<S>();
+        let Some(u) = last_term(self.out.as_slice()) else {
+            unreachable!();
+        };
+        let Some(level) = self.table.level(variable) else {
+            unreachable!();
+        };
+        let held = weaken(&mut self.table, &mut self.caches, &u, level)?;
+        self.trail.push(variable, u.node)?;
+        Ok(put(&mut self.table, &mut self.out, &[u], held))
     }
 
     // Quantifies the variables of a set from the last term at once.
@@ -99,8 +127,6 @@ impl<S: Sink + Drop> Terms<S> {
             → after_all formula stage (falling self.old.table.graph.order set.now) ≡ Some next
             → Tried formula stage next self.old self.new result }
     {
-        entry_law::<S>();
-        growth_law();
         steps_law::<S>();
         let alloc = *self.out.allocator();
         let levels = levels_of(alloc, &self.table, set.as_slice())?;
@@ -108,11 +134,29 @@ impl<S: Sink + Drop> Terms<S> {
         if levels.is_empty() {
             return Ok(false);
         }
+        self.quantify_levels(levels.as_slice(), variables.as_slice())
+    }
+
+    // The variables of these levels, of which there are some.
+    fn quantify_levels(&mut self, levels: &[u32], variables: &[u32]) -> Result<bool, TableError>
+        requires may { (formula : Formula) × (set : List ℕ) × MayMove formula (ExistsAll set) self.old
+            × AreSetLevels self.old.table.graph set levels.now }
+        requires some { 0 < length levels.now }
+        requires falls { variables.now ≡ map (variable_at self.old.table.graph) (reverse levels.now) }
+        requires few { length variables.now < 2 ^ 32 }
+        ensures { (formula : Formula) (stage next : Stage) (set : List ℕ) → AreSetLevels self.old.table.graph set levels.now
+            → IsOpen formula self.old → IsAtStage formula self.old stage
+            → after_all formula stage (falling self.old.table.graph.order set) ≡ Some next
+            → Tried formula stage next self.old self.new result }
+    {
+        entry_law::<S>();
+        growth_law();
+        steps_law::<S>();
         let Some(u) = last_term(self.out.as_slice()) else {
             unreachable!();
         };
-        let held = weaken_all(&mut self.table, &mut self.caches, &u, levels.as_slice())?;
-        self.trail.push_set(variables.as_slice(), u.node)?;
+        let held = weaken_all(&mut self.table, &mut self.caches, &u, levels)?;
+        self.trail.push_set(variables, u.node)?;
         Ok(put(&mut self.table, &mut self.out, &[u], held))
     }
 }

@@ -1,9 +1,14 @@
 // A runner, from its opening to the end of its proof. A plan is run in it; or terms are asked for one by one, and what was written
 // is flushed at the end. The sink may be a lent one.
-ghost use Rattle.std.specs.Prelude.{◌≡◌, ◌≤◌, [], length, IsTrue, IfOk, IfErr, OnErr, OnOk};
+ghost use Rattle.std.specs.Prelude.{◌≡◌, ◌≤◌, ◌++◌, ◌∷◌, ℕ, true, false, List, [], length, IsTrue, IfOk, IfErr, OnErr, OnOk};
 ghost use Rattle.std.specs.FinMap as map;
+ghost use Rattle.cnf_base.specs.declared.step.Step.{Step};
 ghost use Rattle.cnf_base.specs.Limits.{max_vars};
+ghost use Rattle.clause_ledger.specs.Book.{IsBook, IsTextOf, after_steps};
 ghost use Rattle.host_io.specs.Channel.{Rose};
+ghost use Rattle.lrat_rules.specs.Derivation.{IsCutProof, IsWritten};
+ghost use Rattle.lrat_rules.specs.State.{start};
+ghost use Rattle.node_table.specs.Table.{live_nodes};
 ghost use Rattle.schedule_plan.specs.Limits.{AreLimits};
 ghost use Rattle.schedule_plan.specs.Plan.{IsAdmissible};
 ghost use Rattle.term_runner.specs.Caches.{HaveSize, all_entries};
@@ -225,6 +230,22 @@ impl<'a, S: Sink + Drop> Runner<'a, S> {
         ensures { result.now ≡ self.now.terms.table.graph.order }
     {
         self.terms.table.order()
+    }
+
+    /// For the prover alone: the steps so far prove what is live, and the sink has their lines, so that what was written is a proof,
+    /// whole or cut short in its last line; and there are no more nodes than are allowed.
+    pub fn proof_law(&self)
+        ensures book { IsBook S.tells S.channel S.beside self.now.terms.table.book }
+        ensures written { (bytes : List ℕ) → IsTextOf true self.now.terms.table.book.steps bytes
+            → IsWritten self.now.terms.table.book.formula bytes self.now.terms.table.book.state }
+        ensures cut { (bytes : List ℕ) (earlier : List Step) (last : Step) → IsTextOf false self.now.terms.table.book.steps bytes
+            → self.now.terms.table.book.steps ≡ earlier ++ last ∷ []
+            → IsCutProof self.now.terms.table.book.formula bytes (after_steps (start self.now.terms.table.book.formula) earlier)
+            self.now.terms.table.book.state }
+        ensures few { live_nodes self.now.terms.table.graph ≤ self.now.terms.table.max_nodes }
+    {
+        self.terms.table.table_law();
+        self.terms.table.ledger().book_law();
     }
 }
 

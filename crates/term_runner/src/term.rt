@@ -12,6 +12,7 @@ ghost use Rattle.node_table.specs.Value.{Levels};
 ghost use Rattle.apply_and.specs.Conjunction.{conjunction_of};
 ghost use Rattle.schedule_plan.specs.Plan.{input as input_term, term_holds};
 ghost use Rattle.term_runner.specs.Caches.{sizes};
+ghost use Rattle.term_runner.specs.Parity.{always};
 ghost use Rattle.term_runner.specs.declared.held.HeldTerm.{HeldTerm as HeldValue};
 ghost use Rattle.term_runner.specs.declared.runner.Runner.{Runner as RunnerValue};
 ghost use Rattle.term_runner.specs.Runner.{Gives, IsGood, IsListed, IsRunner, Releases, holds_in, nodes_of, true_term};
@@ -81,18 +82,22 @@ impl<'a, S: Sink + Drop> Runner<'a, S> {
         self.settle(found)
     }
 
+    /// The term that always holds. It owns no clause, and takes no memory.
+    pub fn truth(&self) -> Term
+        ensures { result ≡ always }
+    {
+        let held = HeldTerm {
+            node: Node::True,
+            unit: Justification::Trivial,
+        };
+        Term { held }
+    }
+
     /// Whether a term may be taken here: it is True, or this runner gave it and it is out yet.
     pub fn has(&self, term: &Term) -> bool
         ensures { IsTrue result ↔ IsGood self.now term.now.held }
     {
         place_of(self.terms.out.as_slice(), &term.held).is_some() || is_true_term(&term.held)
-    }
-
-    /// How many terms are out.
-    pub fn terms_out(&self) -> usize
-        ensures { result ≡ length self.now.terms.out.items }
-    {
-        self.terms.out.len()
     }
 
     /// How many nodes there are.
@@ -164,12 +169,11 @@ impl<'a, S: Sink + Drop> Runner<'a, S> {
         steps_law::<S>();
         let alloc = *self.terms.out.allocator();
         let roots = roots_of(alloc, self.terms.out.as_slice(), &self.terms.trail)?;
-        let count = reclaim(
+        reclaim(
             &mut self.terms.table,
             roots.as_slice(),
             &mut self.terms.caches,
-        )?;
-        Ok(count)
+        )
     }
 
     // Finds the term of a clause, and puts it on the list.

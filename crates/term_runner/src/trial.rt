@@ -15,7 +15,7 @@ use schedule_plan::{Limits, Order, Plan};
 use std::alloc::Global;
 
 /// How a trial ended.
-#[derive(Clone, Copy, Debug, PartialEq, Eq)]
+#[derive(Clone, Copy, Debug)]
 pub enum TrialEnd {
     /// The formula is decided.
     Decided,
@@ -26,7 +26,7 @@ pub enum TrialEnd {
 }
 
 /// How far a trial came.
-#[derive(Clone, Copy, Debug, PartialEq, Eq)]
+#[derive(Clone, Copy)]
 pub struct Trial {
     pub end: TrialEnd,
     /// The greatest clause number that was given; that of the formula's last clause where none was.

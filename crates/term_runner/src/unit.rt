@@ -1,32 +1,33 @@
 // The unit of a conjunction of two terms, and that of a node that a term implies: an operand's own where it is that
 // operand, else a clause that follows from the operands' units and the clause of the conjunction or the implication. Then
 // the operands' units are needed no more.
-ghost use Rattle.std.specs.Prelude.{◌≡◌, ◌≢◌, ◌<◌, ◌+◌, ◌++◌, ◌⊎◌, ◌↔◌, ℕ, ℤ, List, [], ◌∷◌, Err, None, Some, Contains, IsTrue, IfOk};
-ghost use Rattle.std.specs.Prelude.{IfErr, OnOk};
+ghost use Rattle.std.specs.Prelude.{◌≡◌, ◌≢◌, ◌<◌, ◌+◌, ◌++◌, ◌⊎◌, ◌↔◌, ℕ, ℤ, List, [], ◌∷◌, None, Some, Contains, IsTrue, IfOk};
+ghost use Rattle.std.specs.Prelude.{OnOk};
 ghost use Rattle.std.specs.Prelude.{MatchOption};
+ghost use Rattle.std.specs.Option.{option_to_list};
 ghost use Rattle.node_table.specs.declared.node.Node.TheVariants.{False, True};
 ghost use Rattle.node_table.specs.declared.node.Justification.TheVariants.{Trivial, Clause};
 ghost use Rattle.lrat_rules.specs.Strict.{RefutesStrictly};
 ghost use Rattle.hint_chain.specs.Atoms.{clause_from_atoms};
-ghost use Rattle.node_table.specs.declared.error.TableError.TheVariants.{NodeLimit, WriteFault};
 ghost use Rattle.node_table.specs.Defined.{atom_of};
 ghost use Rattle.node_table.specs.Diagram.{is_node};
 ghost use Rattle.node_table.specs.Justification.{IsJustified};
-ghost use Rattle.node_table.specs.Table.{AddsNoEmpty, AddsNone, IsAddedTo, IsSound};
-ghost use Rattle.node_table.specs.Progress.{Steps, StepsOrRefutes, error_of};
+ghost use Rattle.node_table.specs.Table.{IsAddedTo, IsSound};
+ghost use Rattle.node_table.specs.Progress.{Steps, error_of};
 ghost use Rattle.operations.specs.Results.{Conjoined, Implied};
 ghost use Rattle.operations.specs.Entries.{IsNewJustification};
 ghost use Rattle.clause_terms.specs.Term.{AddsUnit};
 ghost use Rattle.term_runner.specs.Finds.{IsProved};
 ghost use Rattle.term_runner.specs.Held.{RetiresBut, hint_of};
+ghost use Rattle.term_runner.specs.Proves.{Proves, ProvesAnew};
 
 use crate::held::HeldTerm;
-use cnf_base::Id;
+use cnf_base::{Id, Lit};
 use hint_chain::{clause_law, following_unit_law};
 use host_io::Sink;
-use lrat_rules::live_law;
 use node_table::{Justification, Node, Table, TableError, canonical_law, steps_law};
 use operations::retire;
+use std::slice::from_ref;
 
 /// The unit of the node w, which is the conjunction of both terms' nodes.
 pub fn unit_of<S: Sink + Drop>(
@@ -44,28 +45,16 @@ pub fn unit_of<S: Sink + Drop>(
     requires first_unit { IsJustified table.old.book.state.live (atom_of table.old.graph u.now.node ∷ []) u.now.unit }
     requires second_unit { IsJustified table.old.book.state.live (atom_of table.old.graph v.now.node ∷ []) v.now.unit }
     requires conjoined { Conjoined table.old.graph table.old.book.state.live u.now.node v.now.node w just.now }
-    ensures unit { IfOk result (λ unit. IsJustified table.new.book.state.live (atom_of table.old.graph w ∷ []) unit) }
+    ensures proves { Proves table.old table.new w result }
     ensures given { IfOk result (λ unit. (unit ≡ u.now.unit) ⊎ ((unit ≡ v.now.unit)
         ⊎ IsNewJustification table.old.book.state table.new.book.state unit)) }
     ensures added { IfOk result (λ unit. (unit ≡ u.now.unit) ⊎ ((unit ≡ v.now.unit)
         ⊎ ((id : ℕ) → unit ≡ Clause id → IsAddedTo table.new id))) }
-    ensures alone { IfOk result (λ unit. (id : ℕ) → IsAddedTo table.new id → IsAddedTo table.old id ⊎ (unit ≡ Clause id)) }
     // An operand's own unit without a clause more, or one clause.
     ensures own { (w ≡ u.now.node) ⊎ (w ≡ v.now.node) → table.new ≡ table.old }
     ensures told { w ≢ u.now.node → w ≢ v.now.node → OnOk result (AddsUnit table.old table.new w
         (hint_of u.now.unit ++ hint_of v.now.unit ++ hint_of just.now)) }
-    ensures number { w ≢ u.now.node → w ≢ v.now.node → IfOk result (λ unit. (unit ≡ Clause (table.old.book.state.top + 1))
-        × (table.new.book.state.top ≡ table.old.book.state.top + 1)) }
-    ensures nodes { table.new.graph ≡ table.old.graph }
-    // The clause is empty where the node is False.
-    ensures steps { StepsOrRefutes table.old table.new 1
-        (error_of result) }
-    ensures some { w ≢ False → Steps table.old table.new 1
-        (error_of result) }
-    ensures refused { IfErr result (λ e. e ≢ WriteFault → AddsNoEmpty table.old table.new) }
-    ensures none_added { IfErr result (λ e. e ≢ WriteFault → AddsNone table.old table.new) }
-    ensures retired { table.new.retired ≡ table.old.retired }
-    ensures no_node_limit { result ≢ Err NodeLimit }
+    ensures anew { w ≢ u.now.node → w ≢ v.now.node → ProvesAnew table.old table.new w result }
 {
     steps_law::<S>();
     canonical_law();
@@ -102,21 +91,15 @@ pub fn unit_of_implied<S: Sink + Drop>(
     requires first_open { u.now.node ≢ False }
     requires first_unit { IsJustified table.old.book.state.live (atom_of table.old.graph u.now.node ∷ []) u.now.unit }
     requires implied { Implied table.old.graph table.old.book.state.live u.now.node w just.now }
-    ensures unit { IfOk result (λ unit. IsJustified table.new.book.state.live (atom_of table.old.graph w ∷ []) unit) }
+    ensures proves { Proves table.old table.new w result }
     ensures given { IfOk result (λ unit. (unit ≡ u.now.unit) ⊎ IsNewJustification table.old.book.state table.new.book.state unit) }
     ensures added { IfOk result (λ unit. (unit ≡ u.now.unit) ⊎ ((id : ℕ) → unit ≡ Clause id → IsAddedTo table.new id)) }
-    ensures alone { IfOk result (λ unit. (id : ℕ) → IsAddedTo table.new id → IsAddedTo table.old id ⊎ (unit ≡ Clause id)) }
     // Its own unit, or none where w is True, without a clause more; or one clause.
     ensures own { (w ≡ u.now.node) ⊎ (w ≡ True) → table.new ≡ table.old }
     ensures told { w ≢ u.now.node → w ≢ True → OnOk result (AddsUnit table.old table.new w
         (hint_of u.now.unit ++ hint_of just.now)) }
-    ensures number { w ≢ u.now.node → w ≢ True → IfOk result (λ unit. (unit ≡ Clause (table.old.book.state.top + 1))
-        × (table.new.book.state.top ≡ table.old.book.state.top + 1)) }
-    ensures nodes { table.new.graph ≡ table.old.graph }
+    ensures anew { w ≢ u.now.node → w ≢ True → ProvesAnew table.old table.new w result }
     ensures steps { Steps table.old table.new 1 (error_of result) }
-    ensures none_added { IfErr result (λ e. e ≢ WriteFault → AddsNone table.old table.new) }
-    ensures retired { table.new.retired ≡ table.old.retired }
-    ensures no_node_limit { result ≢ Err NodeLimit }
 {
     steps_law::<S>();
     canonical_law();
@@ -150,18 +133,7 @@ pub fn own_unit<S: Sink + Drop>(
     requires first { IsProved table.old.graph table.old.book.state.live u.now }
     requires second { IsProved table.old.graph table.old.book.state.live v.now }
     requires conjoined { Conjoined table.old.graph table.old.book.state.live u.now.node v.now.node w just.now }
-    ensures unit { IfOk result (λ unit. IsJustified table.new.book.state.live (atom_of table.old.graph w ∷ []) unit) }
-    ensures last { IfOk result (λ unit. (id : ℕ) → unit ≡ Clause id → (id ≡ table.new.book.state.top)
-        × (table.old.book.state.top < id)) }
-    ensures added { IfOk result (λ unit. (id : ℕ) → unit ≡ Clause id → IsAddedTo table.new id) }
-    ensures alone { IfOk result (λ unit. (id : ℕ) → IsAddedTo table.new id → IsAddedTo table.old id ⊎ (unit ≡ Clause id)) }
-    ensures nodes { table.new.graph ≡ table.old.graph }
-    ensures steps { StepsOrRefutes table.old table.new 1 (error_of result) }
-    ensures some { w ≢ False → Steps table.old table.new 1 (error_of result) }
-    ensures refused { IfErr result (λ e. e ≢ WriteFault → AddsNoEmpty table.old table.new) }
-    ensures none_added { IfErr result (λ e. e ≢ WriteFault → AddsNone table.old table.new) }
-    ensures retired { table.new.retired ≡ table.old.retired }
-    ensures no_node_limit { result ≢ Err NodeLimit }
+    ensures { ProvesAnew table.old table.new w result }
 {
     steps_law::<S>();
     canonical_law();
@@ -187,18 +159,7 @@ pub fn add_again<S: Sink + Drop>(
     requires stands { IsTrue (is_node table.old.graph w) }
     requires not_true { w ≢ True }
     requires proved { IsJustified table.old.book.state.live (atom_of table.old.graph w ∷ []) unit.now }
-    ensures unit { IfOk result (λ unit. IsJustified table.new.book.state.live (atom_of table.old.graph w ∷ []) unit) }
-    ensures number { IfOk result (λ unit. (unit ≡ Clause (table.old.book.state.top + 1))
-        × (table.new.book.state.top ≡ table.old.book.state.top + 1)) }
-    ensures added { IfOk result (λ unit. (id : ℕ) → unit ≡ Clause id → IsAddedTo table.new id) }
-    ensures alone { IfOk result (λ unit. (id : ℕ) → IsAddedTo table.new id → IsAddedTo table.old id ⊎ (unit ≡ Clause id)) }
-    ensures nodes { table.new.graph ≡ table.old.graph }
-    ensures steps { StepsOrRefutes table.old table.new 1 (error_of result) }
-    ensures some { w ≢ False → Steps table.old table.new 1 (error_of result) }
-    ensures refused { IfErr result (λ e. e ≢ WriteFault → AddsNoEmpty table.old table.new) }
-    ensures none_added { IfErr result (λ e. e ≢ WriteFault → AddsNone table.old table.new) }
-    ensures retired { table.new.retired ≡ table.old.retired }
-    ensures no_node_limit { result ≢ Err NodeLimit }
+    ensures { ProvesAnew table.old table.new w result }
 {
     let Some(id) = clause_id(unit) else {
         unreachable!();
@@ -287,32 +248,20 @@ pub fn add_unit<S: Sink + Drop>(
     requires not_true { w ≢ True }
     requires strict { (clause : List ℤ) → clause_from_atoms (atom_of table.old.graph w ∷ []) ≡ Some clause
         → RefutesStrictly table.old.book.state.live clause hints.now }
-    ensures unit { IfOk result (λ unit. IsJustified table.new.book.state.live (atom_of table.old.graph w ∷ []) unit) }
+    ensures anew { ProvesAnew table.old table.new w result }
     ensures told { OnOk result (AddsUnit table.old table.new w hints.now) }
-    ensures number { IfOk result (λ unit. (unit ≡ Clause (table.old.book.state.top + 1))
-        × (table.new.book.state.top ≡ table.old.book.state.top + 1)) }
-    ensures added { IfOk result (λ unit. (id : ℕ) → unit ≡ Clause id → IsAddedTo table.new id) }
-    ensures alone { IfOk result (λ unit. (id : ℕ) → IsAddedTo table.new id → IsAddedTo table.old id ⊎ (unit ≡ Clause id)) }
-    ensures nodes { table.new.graph ≡ table.old.graph }
-    ensures steps { StepsOrRefutes table.old table.new 1
-        (error_of result) }
-    ensures some { w ≢ False → Steps table.old table.new 1
-        (error_of result) }
-    ensures refused { IfErr result (λ e. e ≢ WriteFault → AddsNoEmpty table.old table.new) }
-    ensures none_added { IfErr result (λ e. e ≢ WriteFault → AddsNone table.old table.new) }
-    ensures retired { table.new.retired ≡ table.old.retired }
-    ensures no_node_limit { result ≢ Err NodeLimit }
 {
-    live_law();
-    steps_law::<S>();
-    match table.literal(w) {
-        None => {
-            let id = table.justify(&[], hints)?;
-            Ok(Justification::Clause(id))
-        }
-        Some(literal) => {
-            let id = table.justify(&[literal], hints)?;
-            Ok(Justification::Clause(id))
-        }
+    let own = table.literal(w);
+    let id = table.justify(as_clause(&own), hints)?;
+    Ok(Justification::Clause(id))
+}
+
+// The clause of a literal, the empty one where there is none.
+fn as_clause(literal: &Option<Lit>) -> &[Lit]
+    ensures { result.now ≡ option_to_list literal.now }
+{
+    match literal {
+        Some(literal) => from_ref(literal),
+        None => &[],
     }
 }

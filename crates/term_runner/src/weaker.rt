@@ -1,16 +1,13 @@
 // A term weakened to a node that it implies. The new unit is no operand's: where the node is the operand's it follows from that one's
 // unit alone, and from the empty clause where the operand is False. (Bryant, Heule: Generating Extended Resolution Proofs with a
 // BDD-Based SAT Solver, 2021, section 4.3.)
-ghost use Rattle.std.specs.Prelude.{◌≡◌, ◌≢◌, ◌⊎◌, ◌<◌, ◌+◌, ℕ, List, [], ◌∷◌, Err, None, Ok, IfErr, IfOk, IfSome, IsTrue};
-ghost use Rattle.cnf_base.specs.Truth.{Assignment};
+ghost use Rattle.std.specs.Prelude.{◌≡◌, ◌≢◌, ◌<◌, ◌+◌, List, [], ◌∷◌, Err, None, Ok, IfErr, IfOk, IfSome, IsTrue};
 ghost use Rattle.node_table.specs.declared.error.TableError.TheVariants.{NodeLimit, WriteFault};
 ghost use Rattle.node_table.specs.declared.node.Node.TheVariants.{False, True};
-ghost use Rattle.node_table.specs.declared.node.Justification.TheVariants.{Clause};
 ghost use Rattle.node_table.specs.Defined.{atom_of};
 ghost use Rattle.node_table.specs.Diagram.{is_node};
 ghost use Rattle.node_table.specs.Justification.{IsJustified};
-ghost use Rattle.node_table.specs.Progress.{Steps, StepsOrRefutes, error_of};
-ghost use Rattle.node_table.specs.Table.{AddsNoEmpty, AddsNone, IsAddedTo, IsSound};
+ghost use Rattle.node_table.specs.Table.{IsSound};
 ghost use Rattle.node_table.specs.Value.{IsSubfunction, value_of};
 ghost use Rattle.operations.specs.Entries.{Fits};
 ghost use Rattle.operations.specs.Results.{Implied};
@@ -20,6 +17,7 @@ ghost use Rattle.term_runner.specs.Caches.{all_entries};
 ghost use Rattle.term_runner.specs.Finds.{Finds, IsProved};
 ghost use Rattle.term_runner.specs.Held.{GivesUnit, HasUnits};
 ghost use Rattle.term_runner.specs.Parity.{holds_or, node_holds, some_or};
+ghost use Rattle.term_runner.specs.Proves.{ProvesAnew};
 ghost use Rattle.term_runner.specs.Runner.{true_term};
 
 use crate::caches::Caches;
@@ -79,18 +77,7 @@ fn own_unit_of_implied<S: Sink + Drop>(
     requires first { IsProved table.old.graph table.old.book.state.live u.now }
     requires second { IsTrue (is_node table.old.graph w) }
     requires implied { Implied table.old.graph table.old.book.state.live u.now.node w just.now }
-    ensures unit { IfOk result (λ unit. IsJustified table.new.book.state.live (atom_of table.old.graph w ∷ []) unit) }
-    ensures last { IfOk result (λ unit. (id : ℕ) → unit ≡ Clause id → (id ≡ table.new.book.state.top)
-        × (table.old.book.state.top < id)) }
-    ensures added { IfOk result (λ unit. (id : ℕ) → unit ≡ Clause id → IsAddedTo table.new id) }
-    ensures alone { IfOk result (λ unit. (id : ℕ) → IsAddedTo table.new id → IsAddedTo table.old id ⊎ (unit ≡ Clause id)) }
-    ensures nodes { table.new.graph ≡ table.old.graph }
-    ensures steps { StepsOrRefutes table.old table.new 1 (error_of result) }
-    ensures some { w ≢ False → Steps table.old table.new 1 (error_of result) }
-    ensures refused { IfErr result (λ e. e ≢ WriteFault → AddsNoEmpty table.old table.new) }
-    ensures none_added { IfErr result (λ e. e ≢ WriteFault → AddsNone table.old table.new) }
-    ensures retired { table.new.retired ≡ table.old.retired }
-    ensures no_node_limit { result ≢ Err NodeLimit }
+    ensures { ProvesAnew table.old table.new w result }
 {
     steps_law::<S>();
     canonical_law();
@@ -116,18 +103,7 @@ fn add_behind_empty<S: Sink + Drop>(
     requires stands { IsTrue (is_node table.old.graph w) }
     requires not_true { w ≢ True }
     requires empty { IsJustified table.old.book.state.live (atom_of table.old.graph False ∷ []) unit.now }
-    ensures unit { IfOk result (λ unit. IsJustified table.new.book.state.live (atom_of table.old.graph w ∷ []) unit) }
-    ensures number { IfOk result (λ unit. (unit ≡ Clause (table.old.book.state.top + 1))
-        × (table.new.book.state.top ≡ table.old.book.state.top + 1)) }
-    ensures added { IfOk result (λ unit. (id : ℕ) → unit ≡ Clause id → IsAddedTo table.new id) }
-    ensures alone { IfOk result (λ unit. (id : ℕ) → IsAddedTo table.new id → IsAddedTo table.old id ⊎ (unit ≡ Clause id)) }
-    ensures nodes { table.new.graph ≡ table.old.graph }
-    ensures steps { StepsOrRefutes table.old table.new 1 (error_of result) }
-    ensures some { w ≢ False → Steps table.old table.new 1 (error_of result) }
-    ensures refused { IfErr result (λ e. e ≢ WriteFault → AddsNoEmpty table.old table.new) }
-    ensures none_added { IfErr result (λ e. e ≢ WriteFault → AddsNone table.old table.new) }
-    ensures retired { table.new.retired ≡ table.old.retired }
-    ensures no_node_limit { result ≢ Err NodeLimit }
+    ensures { ProvesAnew table.old table.new w result }
 {
     conflict_law();
     let Some(id) = clause_id(unit) else {

@@ -1,11 +1,11 @@
 -- A number at the front of some bytes is what the token there spells.
 use Rattle.std.proofs.Common.{◌≡◌, ℕ, zero, suc, ◌+◌, ◌-◌, ◌*◌, ◌<◌, ◌≤◌, true, false, ℤ, pos, negsuc, SFits, w64, to_z, of_z, List, []}
-use Rattle.std.proofs.Common.{◌∷◌, ◌++◌, length, get_or, take, drop, refl, sym, ◌∙◌, ap, arith, length-take, Some}
+use Rattle.std.proofs.Common.{◌∷◌, ◌++◌, length, get_or, take, drop, refl, sym, ◌∙◌, ap, arith, length-take, length-drop, Some}
 use Rattle.std.proofs.lemmas.Int.{to_z-of_z}
 use Rattle.std.specs.Prelude.{Option, None, IfSome, ◌≢◌, ◌&&◌, neg_ℤ, nat_abs, nat_le, ◌==◌}
 use Rattle.std.specs.List.{list_all, list_any}
 use Rattle.std.proofs.lemmas.Bool.Decides.{nat_tests}
-use Rattle.std.proofs.lemmas.List.{take_more}
+use Rattle.std.proofs.lemmas.List.{take_more, take_all}
 use Rattle.std.proofs.lemmas.List.Folds.{list_all_more}
 use Rattle.cnf_base.specs.Number.{is_digit, value_after, signed_value}
 use Rattle.cnf_base.specs.Text.{is_blank}
@@ -111,6 +111,30 @@ negative_at_front bytes (suc value) len number some minus is not_zero same =
     let number_is : number ≡ neg_ℤ (pos (suc value)) = same (omega arith) in
     let whole : bytes ≡ 45 ∷ drop 1 bytes = first_minus bytes some minus in
     rw (number_is, to_z-of_z w64 (neg_ℤ (pos (suc value))) (small_fits (neg_ℤ (pos (suc value))) found.small), whole) found
+
+-- without a minus sign
+pub plain_sign : (bytes : List ℕ) (start value len : ℕ) (number : ℤ) → start ≡ 0
+    → IsNumeralAtFront (take (length bytes - start) (drop start bytes)) value len → Some number ≡ Some (pos value)
+    → IsNumberAtFront bytes (to_z w64 (of_z w64 number)) (start + len)
+plain_sign bytes start value len number none is same =
+    let rest : take (length bytes - start) (drop start bytes) ≡ bytes =
+    rw none (take_all (length bytes - 0) bytes (omega arith)) in
+    let found = plain_at_front bytes value len (rw rest at is) in
+    let number_is : number ≡ pos value = cc in
+    let size : start + len ≡ len = omega (arith, none) in
+    rw (size, number_is, to_z-of_z w64 (pos value) (small_fits (pos value) found.small)) found
+
+-- with one
+pub minus_sign : (bytes : List ℕ) (start value len : ℕ) (number : ℤ) → 0 < length bytes → start ≡ 1 → (get_or bytes 0 0 == 45) ≡ true
+    → IsNumeralAtFront (take (length bytes - start) (drop start bytes)) value len → (value ≡ 0 → Some number ≡ None)
+    → (0 < value → Some number ≡ Some (neg_ℤ (pos value))) → IsNumberAtFront bytes (to_z w64 (of_z w64 number)) (start + len)
+minus_sign bytes start value len number some one is_minus is no_zero other =
+    let minus : get_or bytes 0 0 ≡ 45 = grind (arith, nat_tests) in
+    let rest : take (length bytes - start) (drop start bytes) ≡ drop 1 bytes =
+    rw one (take_all (length bytes - 1) (drop 1 bytes) (omega (arith, length-drop 1 bytes))) in
+    let size : start + len ≡ len + 1 = omega (arith, one) in
+    rw size (negative_at_front bytes value len number some minus (rw rest at is) (λ none. let e = no_zero none in cc)
+    (λ more. let e = other more in cc))
 
 -- the line of a number that was taken is that of the scanner
 pub took_line : (result : Option ℤ) (old new : Scan) → IfSome result (λ number. TookNumber number old.lex.line old new)

@@ -1,6 +1,6 @@
 // The numbers of tokens. A value is cut at a bound above every limit of the formats, so that numerals of any length are
 // judged.
-ghost use Rattle.std.specs.Prelude.{◌≡◌, ◌+◌, ◌<◌, ◌≤◌, true, pos, neg_ℤ, nat_abs, length, take, None, Some, IfSome};
+ghost use Rattle.std.specs.Prelude.{◌≡◌, ◌+◌, ◌<◌, ◌≤◌, true, false, pos, neg_ℤ, nat_abs, length, take, None, Some, IfSome, if◌then◌else◌};
 ghost use Rattle.std.specs.List.{list_all};
 ghost use Rattle.std.specs.Option.{option_map};
 ghost use Rattle.cnf_base.specs.Number.{is_digit, numeral_value, value_after, plain_number, signed_number, signed_value};
@@ -98,55 +98,60 @@ fn negative(value: u64) -> Option<i64>
     }
 }
 
-/// The number at the front of these bytes, where it is one of at most 18 digits, and a blank stands behind it. Its value and
-/// how many bytes it has. Most tokens of proofs and formulas are read so, in one pass over their bytes.
+/// The number at the front of these bytes, where it is one of at most 18 digits, a blank stands behind it, and there are at least 20
+/// bytes. Its value and how many bytes it has. Most tokens of proofs and formulas are read so, in one pass over their bytes.
 #[inline(always)]
 pub fn number_at_front(bytes: &[u8]) -> Option<(i64, usize)>
     ensures { IfSome result (λ found. IsNumberAtFront bytes.now found.0 found.1) }
 {
-    if bytes.len() < 2 {
+    if bytes.len() < 20 {
         return None;
     }
-    if bytes[0] != b'-' {
-        let (value, len) = blank_ended(bytes)?;
-        return Some((value as i64, len));
+    let minus = bytes[0] == b'-';
+    let start = usize::from(minus);
+    let (value, len) = blank_ended(&bytes[start..])?;
+    Some((with_sign(minus, value)?, start + len))
+}
+
+// The number of a value with a minus sign or without. No branch tells the signs apart: those of literals are as good as random. (One for
+// 'a minus sign and zero' would be compiled as one for the sign.)
+#[inline(always)]
+fn with_sign(minus: bool, value: u64) -> Option<i64>
+    requires { value ≤ cap }
+    ensures plain { minus ≡ false → result ≡ Some (pos value) }
+    ensures zero { minus ≡ true → value ≡ 0 → result ≡ None }
+    ensures other { minus ≡ true → 0 < value → result ≡ Some (neg_ℤ (pos value)) }
+{
+    let number = value as i64;
+    if number - i64::from(minus) < 0 {
+        return None;
     }
-    let (value, len) = blank_ended(&bytes[1..])?;
-    Some((negative(value)?, len + 1))
+    Some(negated_if(minus, number))
+}
+
+#[inline(always)]
+fn negated_if(minus: bool, number: i64) -> i64
+    requires { nat_abs number ≤ cap }
+    ensures { result ≡ (if minus then neg_ℤ number else number) }
+{
+    if minus { -number } else { number }
 }
 
 // The value of the digits at the front, where there are at most 18, and a blank stands behind them.
 #[inline(always)]
 fn blank_ended(bytes: &[u8]) -> Option<(u64, usize)>
-    requires { 0 < length bytes.now }
+    requires { 18 < length bytes.now }
     ensures { IfSome result (λ found. IsNumeralAtFront bytes.now found.0 found.1) }
 {
-    let (value, len) = digits_at_front(bytes);
+    let (value, len) = digits_up_to(bytes, DIGITS);
     if len == 0 || !is_blank(bytes[len]) {
         return None;
     }
     Some((value, len))
 }
 
-// The digits at the front, at most 18 and one byte left behind them, and their value. Where all 18 fit, their number is known
-// when the program is built, so the loop is unrolled.
-#[inline(always)]
-fn digits_at_front(bytes: &[u8]) -> (u64, usize)
-    requires { 0 < length bytes.now }
-    ensures within { result.1 < length bytes.now }
-    ensures short { result.1 ≤ 18 }
-    ensures digits { list_all is_digit (take result.1 bytes.now) ≡ true }
-    ensures value { result.0 ≡ value_after 0 (take result.1 bytes.now) }
-    ensures small { result.0 < cap }
-{
-    if bytes.len() > DIGITS {
-        digits_up_to(bytes, DIGITS)
-    } else {
-        digits_up_to(bytes, bytes.len() - 1)
-    }
-}
-
-// The digits at the front, at most so many, and their value.
+// The digits at the front, at most so many, and their value. Where their number is known when the program is built, the loop is
+// unrolled.
 #[inline(always)]
 fn digits_up_to(bytes: &[u8], most: usize) -> (u64, usize)
     requires within { most < length bytes.now }

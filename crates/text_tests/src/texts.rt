@@ -199,13 +199,14 @@ schedule;c 1/q 2/x x;line 2: VariableInUse
 step=99;3 1 0 2 0/4 d; 1:3 + 1 | 2
 step=99;3 1 0 2 0/4;a read failed";
 
-// Numbers that lie in what was read are taken at once: their line stands before a sign of equality.
+// Numbers that lie in what was read, with at least 20 bytes from there on, are taken at once: their line stands before a sign of equality.
 const NUMBERS: &str = "\
-numbers;12 -7 x/5 07 -0 -y 1 c/c 3/44 ; 1:12 1=-7 1:x 2=5 2=7 2:-0 2:-y 2=1 2:c 4:44 end 4
-numbers;1 0 +2 3x 4-/-/8; 1:1 1=0 1:+2 1:3x 1:4- 2:- 3:8 end 3
+numbers;12 -7 x/5 07 -0 -y 1 c/c 3 in a comment/44 ; 1:12 1=-7 1:x 2=5 2=7 2:-0 2:-y 2=1 2:c 4:44 end 4
+numbers;1 0 +2 3x 4-/-/c 3 in a comment/8; 1:1 1=0 1:+2 1:3x 1:4- 2:- 4:8 end 4
+numbers;1 2 3 4 5 6 7 8 9 100 ; 1:1 1=2 1:3 1:4 1:5 1:6 1:7 1:8 1:9 1:100 end 1
 numbers;1 99999999999999999 999999999999999999 1000000000000000000/; 1:1 1=99999999999999999 1=999999999999999999 \
 1:1000000000000000000 end 2
-numbers;1 0000000000000000000000000000000000000000000000000000000000000000000007 0000000000000000007 000000000000000007/; \
+numbers;1 0000000000000000000000000000000000000000000000000000000000000000000007 0000000000000000007 000000000000000007/ ; \
 1:1 1:0000000000000000000000000000000000000000000000000000000000000000* 1:0000000000000000007 1=7 end 2";
 
 fn push_token(out: &mut String, token: &Token) -> Result<(), AllocError> {

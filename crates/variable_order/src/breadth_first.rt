@@ -24,7 +24,7 @@ pub(crate) struct Search {
 }
 
 // A vertex that the search has found, by its degree, and among equals as it came.
-#[derive(Clone, Copy, PartialEq, Eq, PartialOrd, Ord)]
+#[derive(Clone, Copy, Drop)]
 struct Found {
     degree: u32,
     count: usize,
@@ -84,7 +84,8 @@ impl Search {
                 self.open(graph, *edge)?;
             }
         }
-        self.found.sort_unstable();
+        self.found
+            .sort_unstable_by_key(|found| (found.degree, found.count));
         for found in self.found.as_slice() {
             queue.push(found.vertex)?;
         }

@@ -42,7 +42,7 @@ fn fill(set: &mut Vec<u32>, clause: &[Lit]) -> Result<(), OutOfMemory> {
 }
 
 // A set's hash and its place.
-#[derive(Clone, Copy, PartialEq, Eq, PartialOrd, Ord)]
+#[derive(Clone, Copy, Drop)]
 struct Fingerprint {
     hash: u64,
     place: u32,
@@ -78,7 +78,7 @@ fn fingerprints(alloc: Global, sets: &Rows) -> Result<Vec<Fingerprint>, OutOfMem
         prints.push(Fingerprint { hash, place })?;
         place = place.saturating_add(1);
     }
-    prints.sort_unstable();
+    prints.sort_unstable_by_key(|print| (print.hash, print.place));
     Ok(prints)
 }
 

@@ -7,31 +7,23 @@ use std::alloc::AllocFailed;
 use thiserror::Error;
 
 /// What is wrong with a schedule. The number of a kind is its place in this list.
-#[derive(Clone, Copy, Debug, PartialEq, Eq, Error)]
+#[derive(Clone, Copy, Debug, PartialEq, Eq)]
 pub enum PlanKind {
     /// A line is no command.
-    #[error("Syntax")]
     Syntax = 1,
     /// A number is none of a clause.
-    #[error("ClauseRange")]
     ClauseRange = 2,
     /// A clause was pushed before.
-    #[error("ClauseTwice")]
     ClauseTwice = 3,
     /// There are too few terms.
-    #[error("StackShort")]
     StackShort = 4,
     /// A number is none of a variable.
-    #[error("VariableRange")]
     VariableRange = 5,
     /// Another stacked term or a clause to come holds a variable that is quantified.
-    #[error("VariableInUse")]
     VariableInUse = 6,
     /// At the end some clause wasn't pushed.
-    #[error("ClauseUnused")]
     ClauseUnused = 7,
     /// At the end there is more than one term.
-    #[error("TermsLeft")]
     TermsLeft = 8,
 }
 
@@ -47,7 +39,7 @@ impl PlanKind {
 #[derive(Clone, Copy, Debug, PartialEq, Eq, Error)]
 pub enum PlanError {
     /// What is wrong, and the line.
-    #[error("line {1}: {0}")]
+    #[error("line {1}: {0:?}")]
     Refused(PlanKind, u64),
     #[error("a read failed")]
     ReadFault,

@@ -10,7 +10,7 @@ use std::marker::Model;
 use text_scan::{Token, plain_number};
 
 /// The command of a line; Absent where no line is begun.
-#[derive(Clone, Copy, Debug, PartialEq, Eq)]
+#[derive(Clone, Copy, PartialEq, Eq)]
 pub(crate) enum Command {
     Absent,
     Pushes,
@@ -21,7 +21,7 @@ pub(crate) enum Command {
 }
 
 /// A line that isn't ended.
-#[derive(Debug, Drop)]
+#[derive(Drop)]
 pub(crate) struct Line {
     line: u64,
     command: Command,

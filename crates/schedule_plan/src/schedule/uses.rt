@@ -7,7 +7,7 @@ ghost use Rattle.schedule_plan.specs.ScheduleState.{counted, with_push, changed,
 use cnf_base::Lit;
 
 /// Of a variable.
-#[derive(Clone, Copy, Debug, Drop)]
+#[derive(Clone, Copy, Drop)]
 pub(crate) struct Use {
     // how many clauses that hold it aren't pushed yet
     pub(crate) to_come: u32,

@@ -16,5 +16,5 @@ returns-in_err-proof-clause-meant c =
 pub returns-clause-meant : goal.returns-clause-meant
 returns-clause-meant c =
     bench_values c.args.values.now (Some c.in_ok-size.size) (Some c.in_ok-proof.proof.now) (Some c.in_ok-limits.limits)
-    c.progress_among-progress.result c.in_ok-size.ensures.given c.in_ok-proof.ensures c.in_ok-limits.ensures.given
-    c.progress_among-progress.ensures
+    c.flag_among-progress.result c.in_ok-size.ensures.given c.in_ok-proof.ensures c.in_ok-limits.ensures.given
+    c.flag_among-progress.ensures

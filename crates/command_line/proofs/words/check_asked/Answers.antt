@@ -26,15 +26,15 @@ returns-in_err-format-clause-meant c =
     let shown = progress_among (rows_of (found_of c.args.values.now)) in
     let means : check_means (rows_of (found_of c.args.values.now)) ≡ Misuse =
     check_values c.args.values.now (text_of c.get_str.result) (text_of c.get_str-2.result) (text_of c.get_str-3.result) lax
-    c.any_order_among-any_order.result shown c.get_str.ensures c.get_str-2.ensures c.get_str-3.ensures refl
-    c.any_order_among-any_order.ensures refl
+    c.flag_among-any_order.result shown c.get_str.ensures c.get_str-2.ensures c.get_str-3.ensures refl
+    c.flag_among-any_order.ensures refl
     ∙ ap₃ (λ names format mode. to_check names format mode shown) c.in_ok-formula.ensures (sym c.in_err-format.ensures) refl in
     search (rules, means)
 
 pub returns-clause-meant : goal.returns-clause-meant
 returns-clause-meant c =
     check_values c.args.values.now (text_of c.get_str.result) (text_of c.get_str-2.result) (text_of c.get_str-3.result)
-    (text_of c.get_str-4.result) c.any_order_among-any_order.result c.progress_among-progress.result c.get_str.ensures c.get_str-2.ensures
-    c.get_str-3.ensures c.get_str-4.ensures c.any_order_among-any_order.ensures c.progress_among-progress.ensures
-    ∙ ap₃ (λ names format mode. to_check names format mode c.progress_among-progress.result) c.in_ok-formula.ensures
+    (text_of c.get_str-4.result) c.flag_among-any_order.result c.flag_among-progress.result c.get_str.ensures c.get_str-2.ensures
+    c.get_str-3.ensures c.get_str-4.ensures c.flag_among-any_order.ensures c.flag_among-progress.ensures
+    ∙ ap₃ (λ names format mode. to_check names format mode c.flag_among-progress.result) c.in_ok-formula.ensures
     (sym c.in_ok-format.ensures) (sym c.mode_given-mode.ensures)

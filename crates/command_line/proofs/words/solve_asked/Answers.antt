@@ -39,6 +39,6 @@ pub returns-clause-meant : goal.returns-clause-meant
 returns-clause-meant c =
     solve_values c.args.values.now (Some (c.in_ok-files.files.formula.now, c.in_ok-files.files.proof.now)) c.mode_given-mode.result
     (text_of c.get_str.result) (text_of c.get_str-order.result) (Some (planned_of c.in_ok-plan.plan)) (Some c.in_ok-limits.limits)
-    c.progress_among-progress.result c.parity_among-parity.result
+    c.flag_among-progress.result c.flag_among-parity.result
     c.in_ok-files.ensures c.mode_given-mode.ensures c.get_str.ensures c.get_str-order.ensures c.in_ok-plan.ensures
-    c.in_ok-limits.ensures.given c.progress_among-progress.ensures c.parity_among-parity.ensures
+    c.in_ok-limits.ensures.given c.flag_among-progress.ensures c.flag_among-parity.ensures

@@ -157,7 +157,7 @@ returns-in_err-refuse-clause-replies g c =
     let all : Adds {T = _} (n + 1) c.args.runner.now c.refuse.new.self (Err came) =
     adds_further c.steps_law.ensures c.args.runner.now c.ready.new.runner c.refuse.new.self n 1 (n + 1) (omega arith) _
     c.in_ok-ready.ensures.adds (Err came)
-    (adds_refused c.ready.new.runner c.refuse.new.self c.args.term.now.held c.args.cube.now (Err came) own.asks own.goes_on) in
+    (adds_refused c.ready.new.runner c.refuse.new.self c.args.term.now.held c.args.cube.now (Err came) own.refuses) in
     replies_added c.args.runner.now c.refuse.new.self (n + 1) c.args.cube.now _
     (adds_handed c.args.runner.now c.refuse.new.self (n + 1) (n + 1) (omega arith) came all _ c.from_residual-in_err-refuse.ensures.1)
     (no_answer _ came _ c.from_residual-in_err-refuse.ensures.1)
@@ -170,13 +170,13 @@ returns-in_err-refuse-clause-costs g c =
     let all : Adds {T = _} (n + 1) c.args.runner.now c.refuse.new.self (Err came) =
     adds_further c.steps_law.ensures c.args.runner.now c.ready.new.runner c.refuse.new.self n 1 (n + 1) (omega arith) _
     c.in_ok-ready.ensures.adds (Err came)
-    (adds_refused c.ready.new.runner c.refuse.new.self c.args.term.now.held c.args.cube.now (Err came) own.asks own.goes_on) in
+    (adds_refused c.ready.new.runner c.refuse.new.self c.args.term.now.held c.args.cube.now (Err came) own.refuses) in
     costs_added c.steps_law.ensures c.counting_law.ensures c.args.runner.now c.requires.runner c.requires.reached c.refuse.new.self
     c.args.term.now.held c.args.cube.now c.requires.alone c.requires.value _
     (adds_handed c.args.runner.now c.refuse.new.self (n + 1) (n + 1) (omega arith) came all _ c.from_residual-in_err-refuse.ensures.1)
 
 pub returns-in_err-refuse-clause-nodes : goal.returns-in_err-refuse-clause-nodes
-returns-in_err-refuse-clause-nodes g c = c.in_err-refuse.ensures.goes_on.nodes ∙ c.in_ok-ready.ensures.adds.nodes
+returns-in_err-refuse-clause-nodes g c = c.in_err-refuse.ensures.refuses.goes_on.nodes ∙ c.in_ok-ready.ensures.adds.nodes
 
 pub returns-clause-replies : goal.returns-clause-replies
 returns-clause-replies g c =
@@ -186,11 +186,10 @@ returns-clause-replies g c =
     adds_further c.steps_law.ensures c.args.runner.now c.ready.new.runner c.refuse.new.self n 1 (n + 1) (omega arith) _
     c.in_ok-ready.ensures.adds (Ok Unsat)
     (adds_as c.ready.new.runner c.refuse.new.self 1 1 (omega arith) c.in_ok-refuse.field-0 Unsat
-    (adds_refused c.ready.new.runner c.refuse.new.self c.args.term.now.held c.args.cube.now (Ok c.in_ok-refuse.field-0) own.asks
-    own.goes_on)) in
+    (adds_refused c.ready.new.runner c.refuse.new.self c.args.term.now.held c.args.cube.now (Ok c.in_ok-refuse.field-0) own.refuses)) in
     replies_added c.args.runner.now c.refuse.new.self (n + 1) c.args.cube.now (Ok Unsat) all (
       λ a satisfied holds. c.requires.none a (sym (ap (λ f. formula_holds f.now a) all.goes.formula) ∙ satisfied) holds,
-      λ is. own.asks.answer.forbids.added,
+      λ is. own.refuses.forbids.added,
     )
 
 pub returns-clause-costs : goal.returns-clause-costs
@@ -202,13 +201,12 @@ returns-clause-costs g c =
     (adds_further c.steps_law.ensures c.args.runner.now c.ready.new.runner c.refuse.new.self n 1 (n + 1) (omega arith) _
     c.in_ok-ready.ensures.adds (Ok Unsat)
     (adds_as c.ready.new.runner c.refuse.new.self 1 1 (omega arith) c.in_ok-refuse.field-0 Unsat
-    (adds_refused c.ready.new.runner c.refuse.new.self c.args.term.now.held c.args.cube.now (Ok c.in_ok-refuse.field-0) own.asks
-    own.goes_on)))
+    (adds_refused c.ready.new.runner c.refuse.new.self c.args.term.now.held c.args.cube.now (Ok c.in_ok-refuse.field-0) own.refuses)))
 
 pub returns-clause-nodes : goal.returns-clause-nodes
-returns-clause-nodes g c = c.in_ok-refuse.ensures.goes_on.nodes ∙ c.in_ok-ready.ensures.adds.nodes
+returns-clause-nodes g c = c.in_ok-refuse.ensures.refuses.goes_on.nodes ∙ c.in_ok-ready.ensures.adds.nodes
 
 pub returns-clause-sums : goal.returns-clause-sums
 returns-clause-sums g c =
-    sums_kept c.ready.new.runner c.refuse.new.self c.in_ok-refuse.ensures.goes_on.nodes c.in_ok-refuse.ensures.goes_on.keeps
+    sums_kept c.ready.new.runner c.refuse.new.self c.in_ok-refuse.ensures.refuses.goes_on.nodes c.in_ok-refuse.ensures.refuses.goes_on.keeps
     c.ready.new.sums.items c.in_ok-ready.ensures.sums

@@ -1,14 +1,17 @@
 -- The end of the clauses decides the answer, and the body goes on behind a token that does not.
-use Rattle.std.proofs.Common.{◌≡◌, ℕ, true, false, List, ◌++◌, Err, refl, sym, ◌∙◌, ap, arith}
+use Rattle.std.proofs.Common.{◌≡◌, ℕ, true, false, List, ◌++◌, Err, refl, sym, ◌∙◌, ap, subst, arith}
+use Rattle.host_io.specs.Channel.{Rose}
 use Rattle.std.specs.Prelude.{codes}
 use Rattle.text_scan.specs.Decides.{gained, Decides-none, Decides-map, Decides-then, OnlyReads-then, gained-none, front-then}
 use Rattle.text_scan.specs.Items.{the_end, next_word}
-use Rattle.text_scan.specs.Scan.{ahead, so_far}
-use Rattle.dimacs_reader.specs.declared.error.CnfError.TheVariants.{OutOfMemory}
+use Rattle.text_scan.specs.Scan.{ahead, so_far, is_overlong}
+use Rattle.text_scan.specs.declared.scanner.ScanError.TheVariants.{ReadFault as ScanFault}
+use Rattle.dimacs_reader.specs.declared.error.CnfError.TheVariants.{OutOfMemory, ReadFault}
 use Rattle.dimacs_reader.specs.Answers.{error_of}
 use Rattle.dimacs_reader.specs.Body.{IsGood, Passes, pass_none, pass_one, Wants, for_number, for_end}
 use Rattle.dimacs_reader.specs.Cnf.{CnfText, is_word, body}
 use Rattle.dimacs_reader.proofs.Judged.{then_answers, passes_same, undecided_behind, goes_on, error_is, error_answers, take_answers}
+use Rattle.dimacs_reader.proofs.Judged.{fault_of_scan, scan_wants_none, taken_no_fault}
 use Rattle.dimacs_reader.proofs.Began.{front_of_next, fault_so_far}
 use Rattle.dimacs_reader.proofs.body.read_body.Goals as goal
 
@@ -198,3 +201,100 @@ returns-then-is_word-clause-memory g c = λ told wanted.
       begun = asked.1;
       ends = (percent, refl);
     }))
+
+-- The scanner stopped by an error.
+pub returns-in_err-next-clause-memory : goal.returns-in_err-next-clause-memory
+returns-in_err-next-clause-memory g c = λ told wanted.
+    let error = error_is c.from_residual.result (error_of c.in_err-next.field-0.0) c.from_residual.ensures.1 in
+    let same : error_of c.in_err-next.field-0.0 ≡ OutOfMemory = cc in
+    absurd (scan_wants_none c.in_err-next.field-0.0 same)
+
+pub returns-in_err-next-clause-memory_within : goal.returns-in_err-next-clause-memory_within
+returns-in_err-next-clause-memory_within g c = λ wanted.
+    let error = error_is c.from_residual.result (error_of c.in_err-next.field-0.0) c.from_residual.ensures.1 in
+    let same : error_of c.in_err-next.field-0.0 ≡ OutOfMemory = cc in
+    absurd (scan_wants_none c.in_err-next.field-0.0 same)
+
+pub returns-in_err-next-clause-fault : goal.returns-in_err-next-clause-fault
+returns-in_err-next-clause-fault g c = λ failed.
+    let error = error_is c.from_residual.result (error_of c.in_err-next.field-0.0) c.from_residual.ensures.1 in
+    let same : error_of c.in_err-next.field-0.0 ≡ ReadFault = cc in
+    subst (λ (faults : ℕ). Rose faults (g.S.Source.channel c.next.new.source).faults) c.tokens.invariant.unfailed
+    (c.in_err-next.ensures.fault (ap Err (fault_of_scan c.in_err-next.field-0.0 same)) c.tokens.invariant.sound)
+
+pub returns-in_err-next-clause-unfailed : goal.returns-in_err-next-clause-unfailed
+returns-in_err-next-clause-unfailed g c = λ differs.
+    let error = error_is c.from_residual.result (error_of c.in_err-next.field-0.0) c.from_residual.ensures.1 in
+    c.in_err-next.ensures.unfailed (λ failed. differs (let scan : c.in_err-next.field-0.0 ≡ ScanFault = cc in
+    error ∙ ap (λ e. Err (error_of e)) scan)) ∙ c.tokens.invariant.unfailed
+
+pub returns-in_err-next-clause-reads : goal.returns-in_err-next-clause-reads
+returns-in_err-next-clause-reads g c = OnlyReads-then c.tokens.invariant.reads c.next.ensures.reads
+
+pub returns-in_err-next-clause-beside : goal.returns-in_err-next-clause-beside
+returns-in_err-next-clause-beside g c = c.next.ensures.beside ∙ c.tokens.invariant.beside
+
+-- a token that offends, or want of memory
+pub returns-in_err-take-in-Some-clause-undecided : goal.returns-in_err-take-in-Some-clause-undecided
+returns-in_err-take-in-Some-clause-undecided g c = λ told failed.
+    let error = error_is c.from_residual-in_err-take-in-Some.result c.in_err-take-in-Some.field-0.0
+    c.from_residual-in_err-take-in-Some.ensures.1 in
+    let same : c.in_err-take-in-Some.field-0.0 ≡ ReadFault = cc in
+    absurd (taken_no_fault c.in_err-take-in-Some.field-0.0 _ _ _ _ c.in_err-take-in-Some.ensures.takes same)
+
+pub returns-in_err-take-in-Some-clause-fault : goal.returns-in_err-take-in-Some-clause-fault
+returns-in_err-take-in-Some-clause-fault g c = λ failed.
+    let error = error_is c.from_residual-in_err-take-in-Some.result c.in_err-take-in-Some.field-0.0
+    c.from_residual-in_err-take-in-Some.ensures.1 in
+    let same : c.in_err-take-in-Some.field-0.0 ≡ ReadFault = cc in
+    absurd (taken_no_fault c.in_err-take-in-Some.field-0.0 _ _ _ _ c.in_err-take-in-Some.ensures.takes same)
+
+pub returns-in_err-take-in-Some-clause-memory_within : goal.returns-in_err-take-in-Some-clause-memory_within
+returns-in_err-take-in-Some-clause-memory_within g c = λ wanted. (rw c.in-Some.is at c.in_ok-next.ensures.moves).fits
+
+pub returns-in_err-take-in-Some-clause-unfailed : goal.returns-in_err-take-in-Some-clause-unfailed
+returns-in_err-take-in-Some-clause-unfailed g c = λ _. c.in_ok-next.ensures.unfailed (λ e. cc) ∙ c.tokens.invariant.unfailed
+
+pub returns-in_err-take-in-Some-clause-reads : goal.returns-in_err-take-in-Some-clause-reads
+returns-in_err-take-in-Some-clause-reads g c = OnlyReads-then c.tokens.invariant.reads c.next.ensures.reads
+
+pub returns-in_err-take-in-Some-clause-beside : goal.returns-in_err-take-in-Some-clause-beside
+returns-in_err-take-in-Some-clause-beside g c = c.next.ensures.beside ∙ c.tokens.invariant.beside
+
+-- the end of the text
+pub returns-in-None-clause-undecided : goal.returns-in-None-clause-undecided
+returns-in-None-clause-undecided g c = λ told failed. absurd (c.finish.ensures.unfailed failed)
+
+pub returns-in-None-clause-fault : goal.returns-in-None-clause-fault
+returns-in-None-clause-fault g c = λ failed. absurd (c.finish.ensures.unfailed failed)
+
+pub returns-in-None-clause-memory_within : goal.returns-in-None-clause-memory_within
+returns-in-None-clause-memory_within g c = λ wanted. ap (λ status. is_overlong status) (rw c.in-None.is at c.in_ok-next.ensures.moves)
+
+pub returns-in-None-clause-unfailed : goal.returns-in-None-clause-unfailed
+returns-in-None-clause-unfailed g c = λ _. c.in_ok-next.ensures.unfailed (λ e. cc) ∙ c.tokens.invariant.unfailed
+
+pub returns-in-None-clause-reads : goal.returns-in-None-clause-reads
+returns-in-None-clause-reads g c = OnlyReads-then c.tokens.invariant.reads c.next.ensures.reads
+
+pub returns-in-None-clause-beside : goal.returns-in-None-clause-beside
+returns-in-None-clause-beside g c = c.next.ensures.beside ∙ c.tokens.invariant.beside
+
+-- the word that ends the clauses
+pub returns-then-is_word-clause-undecided : goal.returns-then-is_word-clause-undecided
+returns-then-is_word-clause-undecided g c = λ told failed. absurd (c.finish-then-is_word.ensures.unfailed failed)
+
+pub returns-then-is_word-clause-fault : goal.returns-then-is_word-clause-fault
+returns-then-is_word-clause-fault g c = λ failed. absurd (c.finish-then-is_word.ensures.unfailed failed)
+
+pub returns-then-is_word-clause-memory_within : goal.returns-then-is_word-clause-memory_within
+returns-then-is_word-clause-memory_within g c = λ wanted. (rw c.in-Some.is at c.in_ok-next.ensures.moves).fits
+
+pub returns-then-is_word-clause-unfailed : goal.returns-then-is_word-clause-unfailed
+returns-then-is_word-clause-unfailed g c = λ _. c.in_ok-next.ensures.unfailed (λ e. cc) ∙ c.tokens.invariant.unfailed
+
+pub returns-then-is_word-clause-reads : goal.returns-then-is_word-clause-reads
+returns-then-is_word-clause-reads g c = OnlyReads-then c.tokens.invariant.reads c.next.ensures.reads
+
+pub returns-then-is_word-clause-beside : goal.returns-then-is_word-clause-beside
+returns-then-is_word-clause-beside g c = c.next.ensures.beside ∙ c.tokens.invariant.beside

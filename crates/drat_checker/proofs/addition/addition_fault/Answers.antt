@@ -52,7 +52,7 @@ returns-in-Some-clause-line c = λ is wanted plain.
     let clause = c.args.clause.now in
     good-hints c.args.db.now clause c.note_refutation.new.self.hints c.note_refutation.new.self.groups
     (c.note_refutation.ensures.groups ∙ c.requires.groups)
-    ((c.in_ok-note_refutation.ensures.explain wanted).closes clause
+    ((c.in_ok-note_refutation.ensures.explain wanted).closes
     (reasoned c.args.db.now clause c.args.trail.now c.refute.new.trail c.requires.roots.reasons c.in_ok-refutation.ensures.reasons)
     (if-some-at (Refutes c.args.db.now c.refute.new.trail clause) c.in_ok-refutation.refutation c.in-Some.found c.in-Some.is
     c.in_ok-refutation.ensures.refutes) plain)
@@ -83,8 +83,11 @@ pub fault_under-requires : goal.fault_under-requires
 fault_under-requires c = record {
   watched = c.in_ok-refutation.ensures.watched;
   settled = c.in_ok-refutation.ensures.settled c.in_default.is;
-  reasons = reasoned c.args.db.now c.args.clause.now c.args.trail.now c.refute.new.trail c.requires.roots.reasons
-      c.in_ok-refutation.ensures.reasons;
+  assumed = record {
+    reasons = reasoned c.args.db.now c.args.clause.now c.args.trail.now c.refute.new.trail c.requires.roots.reasons
+        c.in_ok-refutation.ensures.reasons;
+    held = c.in_ok-refutation.ensures.held c.in_default.is;
+  };
   hints = c.requires.hints;
   groups = c.requires.groups;
 }

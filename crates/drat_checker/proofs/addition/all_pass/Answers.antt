@@ -7,7 +7,7 @@ use Rattle.drat_checker.specs.Places.{place_at, standing}
 use Rattle.drat_checker.specs.Numbers.{has_number}
 use Rattle.drat_checker.specs.Propagation.{place_passes}
 use Rattle.drat_checker.specs.Trail.{Trail}
-use Rattle.drat_checker.specs.Reasons.{AreReasons}
+use Rattle.drat_checker.specs.Reasons.{AreAssumed}
 use Rattle.drat_checker.specs.Lines.{FitGroups}
 use Rattle.drat_checker.proofs.Lined.{fits-next, fits-start, get_or-slice, good-groups}
 use Rattle.drat_checker.proofs.Settled.{settled-moved}
@@ -34,7 +34,7 @@ passes_number-requires c = record {
   settled = settled-moved c.args.db.now c.args.kept.now c.loop-number.kept c.args.trail.now.literals c.loop-number.trail.literals
       (ap (λ (t : Trail). t.literals) c.loop-number.invariant.same)
       c.loop-number.invariant.moves c.requires.settled;
-  reasons = subst (AreReasons c.args.db.now c.args.clause.now) (sym c.loop-number.invariant.same) c.requires.reasons;
+  assumed = subst (AreAssumed c.args.db.now c.args.clause.now) (sym c.loop-number.invariant.same) c.requires.assumed;
 }
 
 pub loop-number-preserved : goal.loop-number-preserved

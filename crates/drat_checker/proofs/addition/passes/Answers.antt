@@ -3,7 +3,8 @@ use Rattle.std.proofs.Common.{◌++◌, sym, ◌∙◌}
 use Rattle.drat_checker.specs.Places.{standing}
 use Rattle.drat_checker.proofs.Propagated.{passes-free, passes-refuted}
 use Rattle.drat_checker.proofs.Reasoned.{cut-back, reasons-assumed, refutes-more}
-use Rattle.drat_checker.proofs.FalseSets.{has-left, has-right}
+use Rattle.drat_checker.proofs.FalseSets.{free-both, free-held, has-left, has-right}
+use Rattle.drat_checker.proofs.Visited.{held-more}
 use Rattle.drat_checker.proofs.Lifts.{some-each}
 use Rattle.drat_checker.proofs.Lined.{fits-other}
 use Rattle.drat_rules.specs.Addition.{others_of}
@@ -48,6 +49,9 @@ returns-clause-fits c = λ is wanted plain.
     let others = others_of c.args.pivot c.args.other.now in
     c.in_ok-note_candidate.ensures.fits (sym c.is_some.ensures ∙ is) wanted plain
     (c.in_ok-refutation.ensures.reasons.kept (clause ++ others) (has-right clause others)
-    (reasons-assumed places clause (clause ++ others) c.args.trail.now (has-left clause others) c.requires.reasons))
+    (reasons-assumed places clause (clause ++ others) c.args.trail.now (has-left clause others) c.requires.assumed.reasons))
     (some-each c.in_ok-refutation.refutation (λ r h. refutes-more places c.refute_candidate.new.trail others (clause ++ others) r
-    (has-right clause others) h) c.in_ok-refutation.ensures.refutes)
+    (has-right clause others)
+    (free-both c.refute_candidate.new.trail.literals clause others
+    (free-held c.refute_candidate.new.trail.literals clause c.apart_law.ensures
+    (held-more clause c.in_ok-refutation.ensures.extends c.requires.assumed.held))) h) c.in_ok-refutation.ensures.refutes)

@@ -8,11 +8,12 @@ use Rattle.drat_checker.specs.Reasons.{ClashesAt, Refutes}
 use Rattle.drat_checker.specs.Watches.{IsGuarded}
 use Rattle.drat_checker.proofs.Propagated.{clashed, extends-front, extends-then, same-also}
 use Rattle.drat_checker.proofs.Derived.{derives-extends, derives-same}
+use Rattle.drat_checker.proofs.FalseSets.{free-held}
 use Rattle.drat_checker.proofs.Ends.{ends-with, refuted-by, some-map}
 use Rattle.drat_checker.proofs.Lifts.{if-some-at, none-of}
 use Rattle.drat_checker.proofs.Reasoned.{keeps-both}
 use Rattle.drat_checker.proofs.Settled.{guard-more, holds-more, moves-fewer}
-use Rattle.drat_checker.proofs.Visited.{more-false}
+use Rattle.drat_checker.proofs.Visited.{held-then, more-false}
 use Rattle.drat_checker.proofs.Watched.{moves-none}
 use Rattle.drat_checker.proofs.addition.refute_candidate.Goals as goal
 
@@ -32,7 +33,10 @@ returns-clause-refutes c =
     subst (λ (o : Option Refutation). IfSome o (Refutes c.args.db.now c.propagate.new.trail (others_of c.args.pivot c.args.other.now)))
     (sym c.of_conflict.ensures)
     (refuted-by c.args.db.now c.propagate.new.trail (others_of c.args.pivot c.args.other.now) c.in_ok-conflict.conflict
-    c.in_ok-conflict.ensures.falsified)
+    c.in_ok-conflict.ensures.falsified
+    (free-held c.propagate.new.trail.literals (others_of c.args.pivot c.args.other.now) c.apart_law.ensures
+    (held-then (others_of c.args.pivot c.args.other.now) (c.in_ok-clash.ensures.also c.in_default.is)
+    (derives-extends c.in_ok-conflict.ensures.derives))))
 
 pub returns-in-Some-clause-moves : goal.returns-in-Some-clause-moves
 returns-in-Some-clause-moves c = moves-none c.args.kept.now.pairs.items c.args.trail.now.literals

@@ -1,23 +1,49 @@
--- A literal that is assumed, and one that a clause forced.
-use Rattle.std.proofs.Common.{◌<◌, length, pos, sym, arith}
+-- A literal that was taken before, one that is assumed, and one that a clause forced.
+use Rattle.std.proofs.Common.{◌≡◌, pos, get_or, sym, ◌∙◌}
 use Rattle.std.proofs.lemmas.List.{get_or_read}
-use Rattle.drat_checker.proofs.Hinted.{listed-assumed, listed-forced}
+use Rattle.lrat_rules.specs.Chain.{literals_of}
+use Rattle.drat_checker.specs.Hints.{IsForcedAt, untaken}
+use Rattle.drat_checker.proofs.Hinted.{step-forced, step-idle, untaken-false, untaken-gone, untaken-here, untaken-more, untaken-split}
+use Rattle.drat_checker.proofs.Hinted.{untaken-still}
+use Rattle.drat_checker.proofs.Lifts.{if-some-at}
 use Rattle.drat_checker.proofs.hints.take_at.Goals as goal
 
+pub returns-then-again : goal.returns-then-again
+returns-then-again c = λ is first before so_far. so_far
+
 pub returns-in-None : goal.returns-in-None
-returns-in-None c = λ is conflict so_far.
+returns-in-None c = λ is first before so_far.
     let trail = c.args.trail.now in
-    let within : c.args.place < length trail.literals = omega (arith, c.if-count-place.false, c.len-count.ensures.literals) in
-    listed-assumed c.args.db.now trail conflict c.args.place within c.literal.result
-    (get_or_read trail.literals c.args.place c.literal.result within c.literal.ensures (pos 0)) c.args.needed.now c.args.needed.now
-    c.args.taken.now c.mark.new.self c.in_ok-mark.ensures.ok (λ z m. m) c.args.found.now (sym c.in-None.ensures) so_far
+    let place = c.args.place in
+    let x = c.literal-literal.result in
+    let at : x ≡ get_or trail.literals place (pos 0) = get_or_read trail.literals place x c.requires.within c.literal-literal.ensures (pos 0) in
+    let old = c.args.taken.now in
+    let new = c.mark.new.self in
+    let marks = c.in_ok-mark.ensures.ok in
+    step-idle c.args.db.now trail c.args.given.now first place before c.requires.within (untaken first trail old) (untaken first trail new)
+    (untaken-split first trail place before c.requires.within x at old new marks)
+    (untaken-more first trail place before c.requires.within x at old new marks) (literals_of c.args.needed.now)
+    (literals_of c.args.needed.now) (λ z m. m) c.args.found.now
+    (λ assumed start need. c.forced_by.ensures.none c.in-None.is c.args.db.now assumed start.same start.reasons) so_far
 
 pub returns-in_ok-note-in-Some : goal.returns-in_ok-note-in-Some
-returns-in_ok-note-in-Some c = λ is conflict so_far.
+returns-in_ok-note-in-Some c = λ is first before so_far.
     let trail = c.args.trail.now in
-    let within : c.args.place < length trail.literals = omega (arith, c.if-count-place.false, c.len-count.ensures.literals) in
-    listed-forced c.args.db.now trail conflict c.args.place within c.literal.result
-    (get_or_read trail.literals c.args.place c.literal.result within c.literal.ensures (pos 0)) c.args.needed.now c.note.new.needed
-    c.args.taken.now c.mark.new.self c.in_ok-mark.ensures.ok c.note.ensures.kept c.apart_law.ensures c.once_law.ensures
-    c.args.found.now c.note.new.found c.in-Some.number (sym c.in-Some.ensures) c.in_ok-note-in-Some.ensures.found c.note.ensures.id
-    c.in_ok-note-in-Some.ensures.marked (c.needs_taken-again.ensures c.if-again.false) so_far
+    let place = c.args.place in
+    let x = c.literal-literal.result in
+    let at : x ≡ get_or trail.literals place (pos 0) = get_or_read trail.literals place x c.requires.within c.literal-literal.ensures (pos 0) in
+    let old = c.args.taken.now in
+    let new = c.mark.new.self in
+    let marks = c.in_ok-mark.ensures.ok in
+    let number = c.in-Some.number in
+    step-forced c.args.db.now trail c.args.given.now first place before c.requires.within (untaken first trail old) (untaken first trail new)
+    (untaken-split first trail place before c.requires.within x at old new marks)
+    (untaken-more first trail place before c.requires.within x at old new marks) (literals_of c.args.needed.now)
+    (literals_of c.note.new.needed) c.note.ensures.kept c.apart_law.ensures c.once_law.ensures
+    (untaken-here first trail place before c.requires.within x at old new marks (sym c.contains-again.ensures ∙ c.if-again.false))
+    (untaken-gone first trail place before c.requires.within x at old new marks) (untaken-false first trail new) c.args.found.now c.note.new.found
+    number (if-some-at (IsForcedAt trail c.args.given.now place) c.forced_by.result number c.in-Some.is c.forced_by.ensures.forced)
+    c.in_ok-note-in-Some.ensures.found c.note.ensures.id c.in_ok-note-in-Some.ensures.marked
+    (λ clause stands z m earlier. untaken-still first trail place before c.requires.within x at old new marks z
+    (c.needs_taken-needs.ensures c.if-needs.false clause stands z m) earlier)
+    so_far

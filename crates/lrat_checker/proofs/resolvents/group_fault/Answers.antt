@@ -1,7 +1,7 @@
 -- What is left to show of `group_fault`.
 use Rattle.std.proofs.Common.{◌≡◌, true, false, sym, rules}
 use Rattle.lrat_rules.specs.Addition.{holds_negated, is_blocked_by}
-use Rattle.lrat_rules.specs.FalseLiterals.{set_of}
+use Rattle.lrat_checker.specs.Stamped.{set_of}
 use Rattle.lrat_checker.proofs.GroupFaults.{group_fault-stray, group_fault-blocked, group_fault-candidate}
 use Rattle.lrat_checker.proofs.Cutting.{group_use-blocked, group_use-candidate}
 use Rattle.lrat_checker.proofs.resolvents.group_fault.Goals as goal

@@ -21,22 +21,12 @@ returns-then-is_err-2-clause-came g c =
 pub returns-then-is_err-2-clause-beside : goal.returns-then-is_err-2-clause-beside
 returns-then-is_err-2-clause-beside g c = kept_core c.put_proof.ensures.kept c.put_core.ensures.kept
 
-pub returns-in-Ok-clause-came : goal.returns-in-Ok-clause-came
-returns-in-Ok-clause-came g c =
+pub returns-clause-came : goal.returns-clause-came
+returns-clause-came g c =
     keeps c.put_proof.ensures.puts (search rules) (c.put_core.ensures.kept.others ProofOut refl)
-    (c.put_trimmed.ensures.kept.others ProofOut refl) c.put_core.ensures.puts (search rules) (c.put_proof.ensures.kept.others Made refl)
-    (c.put_trimmed.ensures.kept.others Made refl) (c.put_proof.ensures.kept.others Out refl) (c.put_core.ensures.kept.others Out refl)
-    c.in-Ok.ensures.puts refl
+    (c.put_trimmed-printed.ensures.kept.others ProofOut refl) c.put_core.ensures.puts (search rules) (c.put_proof.ensures.kept.others Made refl)
+    (c.put_trimmed-printed.ensures.kept.others Made refl) (c.put_proof.ensures.kept.others Out refl) (c.put_core.ensures.kept.others Out refl)
+    c.put_trimmed-printed.ensures.puts c.ended_by.ensures
 
-pub returns-in-Ok-clause-beside : goal.returns-in-Ok-clause-beside
-returns-in-Ok-clause-beside g c = kept_all c.requires.unnamed c.put_proof.ensures.kept c.put_core.ensures.kept c.put_trimmed.ensures.kept
-
-pub returns-in-Err-clause-came : goal.returns-in-Err-clause-came
-returns-in-Err-clause-came g c =
-    keeps c.put_proof.ensures.puts (search rules) (c.put_core.ensures.kept.others ProofOut refl)
-    (c.put_trimmed.ensures.kept.others ProofOut refl) c.put_core.ensures.puts (search rules) (c.put_proof.ensures.kept.others Made refl)
-    (c.put_trimmed.ensures.kept.others Made refl) (c.put_proof.ensures.kept.others Out refl) (c.put_core.ensures.kept.others Out refl)
-    c.in-Err.ensures.puts refl
-
-pub returns-in-Err-clause-beside : goal.returns-in-Err-clause-beside
-returns-in-Err-clause-beside g c = kept_all c.requires.unnamed c.put_proof.ensures.kept c.put_core.ensures.kept c.put_trimmed.ensures.kept
+pub returns-clause-beside : goal.returns-clause-beside
+returns-clause-beside g c = kept_all c.requires.unnamed c.put_proof.ensures.kept c.put_core.ensures.kept c.put_trimmed-printed.ensures.kept

@@ -1,5 +1,5 @@
 -- What is left to show of `make`.
-use Rattle.std.proofs.Common.{rules, refl}
+use Rattle.std.proofs.Common.{rules}
 use Rattle.solver_cli.proofs.Answering.{board_made, board_text, file_uncreated}
 use Rattle.solver_cli.proofs.program.make.Goals as goal
 
@@ -8,12 +8,8 @@ returns-then-is_err-clause-came g c =
     board_made (g.H.Host.channel c.args.host.now) (g.H.Host.channel c.create.new.self) c.create.ensures.kept.others
     (file_uncreated c.create.ensures.opens (search rules))
 
-pub returns-in-Ok-put_part-clause-came : goal.returns-in-Ok-put_part-clause-came
-returns-in-Ok-put_part-clause-came g c =
-    board_text (g.H.Host.channel c.args.host.now) (g.H.Host.channel c.create.new.self) (g.H.Host.channel c.put_part.new.host)
-    c.create.ensures.opens (search rules) c.create.ensures.kept.others c.in-Ok-put_part.ensures.puts c.put_part.ensures.kept.others refl
-
 pub returns-clause-came : goal.returns-clause-came
 returns-clause-came g c =
-    board_text (g.H.Host.channel c.args.host.now) (g.H.Host.channel c.create.new.self) (g.H.Host.channel c.put_part.new.host)
-    c.create.ensures.opens (search rules) c.create.ensures.kept.others c.in-Err-put_part.ensures.puts c.put_part.ensures.kept.others refl
+    board_text (g.H.Host.channel c.args.host.now) (g.H.Host.channel c.create.new.self) (g.H.Host.channel c.put_part-written.new.host)
+    c.create.ensures.opens (search rules) c.create.ensures.kept.others c.put_part-written.ensures.puts
+    c.put_part-written.ensures.kept.others c.ended_by.ensures

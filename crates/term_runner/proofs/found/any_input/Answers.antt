@@ -1,5 +1,5 @@
 -- The term of any clause: that of an empty one is False.
-use Rattle.std.proofs.Common.{◌≡◌, ◌∙◌, ◌+◌, ◌-◌, ℕ, suc, ℤ, List, [], ◌∷◌, Contains, length, None, Some, Err, Ok, refl, ap, inl, sym}
+use Rattle.std.proofs.Common.{◌≡◌, ◌∙◌, ◌+◌, ◌-◌, ℕ, suc, ℤ, List, [], ◌∷◌, Contains, length, None, Some, Err, refl, ap, inl, sym}
 use Rattle.std.proofs.Common.{subst}
 use Rattle.std.proofs.Common.{arith, eqb-true}
 use Rattle.std.specs.Prelude.{slice_index_or}
@@ -19,7 +19,7 @@ use Rattle.term_runner.proofs.MadeParts.{only_of}
 use Rattle.term_runner.proofs.Giving.{new_gives, none_added, units_behind}
 use Rattle.term_runner.proofs.Inputs.{input_live}
 use Rattle.term_runner.proofs.Leaving.{refutes_handed, went_on}
-use Rattle.term_runner.proofs.Repeated.{follows_itself, last_of}
+use Rattle.term_runner.proofs.Repeated.{follows_itself}
 use Rattle.term_runner.proofs.found.any_input.Goals as goal
 
 -- the clause is empty
@@ -41,7 +41,7 @@ returns-clause-finds g c caches fits =
     let new = c.add_unit.new.table in
     let formula = c.args.formula.now in
     let kept = all_entries caches in
-    let unit = c.in_ok-unit.ensures in
+    let unit = c.in_ok-unit.ensures.anew.proves in
     let sound = c.requires.over.1.sound in
     let most = most_additions (levels old.graph) in
     let function = term_function formula old.graph.order (input_term c.args.number) in
@@ -50,7 +50,7 @@ returns-clause-finds g c caches fits =
     record {
       term = record { stands = refl; value = λ a. sym (ap (clause_holds a) none); proved = unit.unit };
       gives = new_gives old new kept c.in_ok-unit.unit sound fits unit.steps.leaves.no_less unit.retired unit.alone
-          (last_of old new (Ok c.in_ok-unit.unit) unit.number) unit.added;
+          c.in_ok-unit.ensures.anew.last c.in_ok-unit.ensures.anew.added;
       steps = c.steps_law.ensures.refute old old new most 1 None
           (c.steps_law.ensures.at_most old old 0 most None (omega arith) (c.steps_law.ensures.none old sound)) unit.steps;
       no_empty = λ whole some. absurd (some refl);
@@ -72,7 +72,7 @@ returns-in_err-unit-clause-finds g c caches fits =
     let kept = all_entries caches in
     let came = c.in_err-unit.field-0.0 in
     let given = c.from_residual.ensures.1 in
-    let unit = c.in_err-unit.ensures in
+    let unit = c.in_err-unit.ensures.anew.proves in
     let sound = c.requires.over.1.sound in
     let most = most_additions (levels old.graph) in
     let function = term_function formula old.graph.order (input_term c.args.number) in
@@ -100,7 +100,7 @@ returns-in_err-unit-clause-refused g c =
     let old = c.args.table.now in
     let new = c.add_unit.new.table in
     let came = c.in_err-unit.field-0.0 in
-    let unit = c.in_err-unit.ensures in
+    let unit = c.in_err-unit.ensures.anew.proves in
     let sound = c.requires.over.1.sound in
     if_handed _ came _ c.from_residual.ensures.1 (λ whole kept terms has.
     units_behind c.steps_law.ensures old new kept kept terms sound

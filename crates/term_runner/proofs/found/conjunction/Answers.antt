@@ -70,7 +70,7 @@ returns g c one other is_u is_v =
     let v = c.args.v.now in
     let w = c.in_ok-node.node in
     let found = c.in_ok-node.ensures in
-    let unit = c.in_ok-unit.ensures in
+    let unit = c.in_ok-unit.ensures.proves in
     let whole = found.keeps.named none_whole in
     let free_u : (id : ℕ) → u.unit ≡ Clause id → IsAccounted mid after id → ⊥ = λ id is. unaccounted_after old mid before after id
     (unit_within old c.requires.sound (atom_of old.graph u.node) u.unit id c.requires.first.unit is) (c.requires.first.own id is)
@@ -94,7 +94,8 @@ returns g c one other is_u is_v =
             proved = unit.unit;
           });
       gives = two_give old mid new before after u v c.in_ok-unit.unit found.steps.leaves.sound free_u free_v found.keeps
-          (found.accounts no_error) found.steps.leaves.no_less unit.steps.leaves.no_less unit.retired unit.alone unit.given unit.added;
+          (found.accounts no_error) found.steps.leaves.no_less unit.steps.leaves.no_less unit.retired unit.alone c.in_ok-unit.ensures.given
+          c.in_ok-unit.ensures.added;
       steps = c.steps_law.ensures.refute old mid new most 1 None found.steps unit.steps;
       no_empty = λ untorn open_yet. further_empty old mid new found.steps.no_empty (unit.some open_yet).no_empty;
       fits = λ untorn. c.entry_law.ensures.kept mid new after found.steps.leaves.sound unit.steps.leaves.sound unit.steps.extends kept
@@ -149,7 +150,7 @@ returns-in_err-unit g c one other is_u is_v =
     let came = c.in_err-unit.field-0.0 in
     let given = c.from_residual-in_err-unit.ensures.1 in
     let found = c.in_ok-node.ensures in
-    let unit = c.in_err-unit.ensures in
+    let unit = c.in_err-unit.ensures.proves in
     let kept = found.keeps.fits none_whole in
     let most = most_additions (levels old.graph) in
     record {

@@ -57,10 +57,10 @@ returns-clause-unit g c =
     if_ok c.unit_of_implied.result (λ unit. IsJustified new.book.state.live (atom_of c.implies.new.table.graph c.args.w ∷ []) unit)
     (λ unit. IsJustified new.book.state.live (atom_of c.args.table.now.graph c.args.w ∷ []) unit)
     (λ unit proved. subst (λ (graph : Graph). IsJustified new.book.state.live (atom_of graph c.args.w
-    ∷ []) unit) c.implies.ensures.nodes proved) c.unit_of_implied.ensures.unit
+    ∷ []) unit) c.implies.ensures.nodes proved) c.unit_of_implied.ensures.proves.unit
 
 pub returns-clause-nodes : goal.returns-clause-nodes
-returns-clause-nodes g c = c.unit_of_implied.ensures.nodes ∙ c.implies.ensures.nodes
+returns-clause-nodes g c = c.unit_of_implied.ensures.proves.nodes ∙ c.implies.ensures.nodes
 
 pub returns-clause-steps : goal.returns-clause-steps
 returns-clause-steps g c =
@@ -79,11 +79,11 @@ returns-clause-keeps g c =
     keeps_further old mid new (all_entries c.args.caches.now) kept kept _ done.steps.extends steps.extends done.keeps
     (keeps_all c.entry_law.ensures mid new kept _ done.steps.leaves.sound
     (λ whole. (went_on mid new c.unit_of_implied.result steps.leaves (whole_error c.unit_of_implied.result whole)).sound)
-    steps.extends c.unit_of_implied.ensures.retired
+    steps.extends c.unit_of_implied.ensures.proves.retired
     (done.keeps.fits none_whole))
 
 pub returns-clause-no_node_limit : goal.returns-clause-no_node_limit
-returns-clause-no_node_limit g c = c.unit_of_implied.ensures.no_node_limit
+returns-clause-no_node_limit g c = c.unit_of_implied.ensures.proves.no_node_limit
 
 pub returns-clause-gives : goal.returns-clause-gives
 returns-clause-gives g c =
@@ -105,14 +105,14 @@ returns-clause-gives g c =
     × ((id : ℕ) → IsAddedTo new id → IsAddedTo mid id ⊎ (unit ≡ Clause id)))
     (λ unit. GivesUnit old new before after (u ∷ []) unit)
     (λ unit one two. one_give old mid new before after u unit done.steps.leaves.sound free done.keeps
-    (done.accounts no_error) done.steps.leaves.no_less given.steps.extends.numbers.no_less given.retired two.1 one two.0)
+    (done.accounts no_error) done.steps.leaves.no_less given.steps.extends.numbers.no_less given.proves.retired two.1 one two.0)
     given.given
     (both_ok c.unit_of_implied.result
     (λ unit. (unit ≡ u.unit) ⊎ ((id : ℕ) → unit ≡ Clause id → IsAddedTo new id)) (λ unit. (id : ℕ) → IsAddedTo new id → IsAddedTo mid id
     ⊎ (unit ≡ Clause id))
     (λ unit. ((unit ≡ u.unit) ⊎ ((id : ℕ) → unit ≡ Clause id → IsAddedTo new id))
     × ((id : ℕ) → IsAddedTo new id → IsAddedTo mid id ⊎ (unit ≡ Clause id)))
-    (λ unit one two. (one, two)) given.added given.alone)
+    (λ unit one two. (one, two)) given.added given.proves.alone)
 
 -- the implication adds no more than two clauses for each pair of parts
 pairs_found : (g : Over) (c : After-implies g) (width : ℕ) → HaveRoom c.args.caches.now width

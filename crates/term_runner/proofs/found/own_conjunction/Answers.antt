@@ -25,7 +25,7 @@ use Rattle.term_runner.proofs.Pairs.{adds_pairs}
 use Rattle.term_runner.proofs.Stacks.{justified_kept, term_kept}
 use Rattle.term_runner.proofs.found.own_conjunction.Given.{Over}
 use Rattle.term_runner.proofs.found.own_conjunction.Goals as goal
-use Rattle.term_runner.proofs.found.own_conjunction.Goals.{After-and, After-own_unit}
+use Rattle.term_runner.proofs.found.own_conjunction.Goals.{After-and}
 
 pub own_unit-requires : goal.own_unit-requires
 own_unit-requires g c =
@@ -68,12 +68,13 @@ returns-clause-own g c =
     let before = all_entries c.args.caches.now in
     let after = all_entries c.and.new.self in
     let found = c.in_ok-node.ensures in
-    let unit = c.in_ok-unit.ensures in
+    let unit = c.in_ok-unit.ensures.proves in
+    let anew = c.in_ok-unit.ensures in
     given_behind old mid new before after [] c.in_ok-unit.unit (found.accounts no_error) found.keeps.retires (found.keeps.named none_whole)
-    found.steps.leaves.no_less unit.steps.leaves.no_less unit.retired unit.alone (λ id is. inr ((unit.last id is).1, unit.added id is))
+    found.steps.leaves.no_less unit.steps.leaves.no_less unit.retired unit.alone (λ id is. inr ((anew.last id is).1, anew.added id is))
     (unit_own mid new after Trivial Trivial c.in_ok-unit.unit found.steps.leaves.sound (found.keeps.fits none_whole) unit.retired
     (λ id none. absurd (no_clause id none)) (λ id none. absurd (no_clause id none))
-    (inr (inr (λ id is. new_unit mid new id (unit.last id is)))))
+    (inr (inr (λ id is. new_unit mid new id (anew.last id is)))))
 
 pub returns-in_err-node-clause-own : goal.returns-in_err-node-clause-own
 returns-in_err-node-clause-own g c = no_answer _ c.in_err-node.field-0.0 _ c.from_residual.ensures.1
@@ -92,7 +93,8 @@ returns-clause-finds g c one other is_u is_v =
     let v = c.args.v.now in
     let w = c.in_ok-node.node in
     let found = c.in_ok-node.ensures in
-    let unit = c.in_ok-unit.ensures in
+    let unit = c.in_ok-unit.ensures.proves in
+    let anew = c.in_ok-unit.ensures in
     let kept = found.keeps.fits none_whole in
     let most = most_additions (levels old.graph) in
     let extends = found.steps.extends in
@@ -110,10 +112,10 @@ returns-clause-finds g c one other is_u is_v =
           });
       gives = given_behind old mid new before after (v ∷ u ∷ []) c.in_ok-unit.unit (found.accounts no_error) found.keeps.retires
           (found.keeps.named none_whole) found.steps.leaves.no_less unit.steps.leaves.no_less unit.retired unit.alone
-          (λ id is. inr ((unit.last id is).1, unit.added id is))
+          (λ id is. inr ((anew.last id is).1, anew.added id is))
           (unit_own mid new after Trivial Trivial c.in_ok-unit.unit found.steps.leaves.sound kept unit.retired
           (λ id none. absurd (no_clause id none)) (λ id none. absurd (no_clause id none))
-          (inr (inr (λ id is. new_unit mid new id (unit.last id is)))));
+          (inr (inr (λ id is. new_unit mid new id (anew.last id is)))));
       steps = c.steps_law.ensures.refute old mid new most 1 None found.steps unit.steps;
       no_empty = λ untorn open_yet. further_empty old mid new found.steps.no_empty (unit.some open_yet).no_empty;
       fits = λ untorn. c.entry_law.ensures.kept mid new after found.steps.leaves.sound unit.steps.leaves.sound unit.steps.extends kept
@@ -168,7 +170,7 @@ returns-in_err-unit-clause-finds g c one other is_u is_v =
     let came = c.in_err-unit.field-0.0 in
     let given = c.from_residual-in_err-unit.ensures.1 in
     let found = c.in_ok-node.ensures in
-    let unit = c.in_err-unit.ensures in
+    let unit = c.in_err-unit.ensures.proves in
     let most = most_additions (levels old.graph) in
     let kept = found.keeps.fits none_whole in
     record {
@@ -215,7 +217,7 @@ returns-in_err-unit-clause-refused g c =
     let after = all_entries c.and.new.self in
     let came = c.in_err-unit.field-0.0 in
     let found = c.in_ok-node.ensures in
-    let unit = c.in_err-unit.ensures in
+    let unit = c.in_err-unit.ensures.proves in
     if_handed _ came _ c.from_residual-in_err-unit.ensures.1 (λ whole terms has.
     let sound = found.steps.leaves.sound in
     let first = units_behind c.steps_law.ensures old mid before after terms c.requires.sound sound found.steps.extends has

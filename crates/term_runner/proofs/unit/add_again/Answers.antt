@@ -16,3 +16,6 @@ add_unit-requires-clause-strict g c clause is =
     let proved = subst (λ (unit : Justification). IsJustified table.book.state.live (atom_of table.graph c.args.w ∷ []) unit)
     c.in-Some.ensures c.requires.proved in
     follows_itself table.book.state.live (atom_of table.graph c.args.w) c.in-Some.id clause proved.1 is
+
+pub returns : goal.returns
+returns g c = c.add_unit.ensures.anew

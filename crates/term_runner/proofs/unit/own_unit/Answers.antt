@@ -1,10 +1,10 @@
 -- A unit of its own, for a conjunction that is an operand, or none.
-use Rattle.std.proofs.Common.{[], ◌∷◌, sym, subst, arith, inl}
+use Rattle.std.proofs.Common.{[], ◌∷◌, sym, subst}
 use Rattle.node_table.specs.declared.node.Node.{Node}
 use Rattle.node_table.specs.Defined.{atom_of}
 use Rattle.node_table.specs.Justification.{IsJustified}
-use Rattle.term_runner.proofs.OwnUnits.{no_clause}
-use Rattle.term_runner.proofs.Repeated.{added_of, first_open, last_of, none_of_true, second_open}
+use Rattle.term_runner.proofs.Proved.{proves_true}
+use Rattle.term_runner.proofs.Repeated.{first_open, second_open}
 use Rattle.term_runner.proofs.Units.{not_both}
 use Rattle.term_runner.proofs.unit.own_unit.Goals as goal
 
@@ -46,45 +46,17 @@ unit_of-requires-clause-second_open g c =
     c.args.w c.args.just.now c.requires.first.stands c.requires.second.stands c.requires.conjoined
     (λ is. not_both c.is_same-3.result (c.is_same-3.ensures.1 is) c.if-is_same-3.false)
 
-pub returns-then-is_same-clause-unit : goal.returns-then-is_same-clause-unit
-returns-then-is_same-clause-unit g c = none_of_true c.args.table.now.graph c.args.table.now.book.state.live c.args.w
+pub returns-then-is_same : goal.returns-then-is_same
+returns-then-is_same g c = proves_true c.steps_law.ensures c.args.table.now c.requires.sound c.args.w
     (c.is_same.ensures.0 c.if-is_same.true)
 
-pub returns-then-is_same-clause-last : goal.returns-then-is_same-clause-last
-returns-then-is_same-clause-last g c id is = absurd (no_clause id is)
+pub returns-then-is_same-2 : goal.returns-then-is_same-2
+returns-then-is_same-2 g c = c.add_again.ensures
 
-pub returns-then-is_same-clause-added : goal.returns-then-is_same-clause-added
-returns-then-is_same-clause-added g c id is = absurd (no_clause id is)
+pub returns-then-is_same-3 : goal.returns-then-is_same-3
+returns-then-is_same-3 g c = c.add_again-then-is_same-3.ensures
 
-pub returns-then-is_same-clause-alone : goal.returns-then-is_same-clause-alone
-returns-then-is_same-clause-alone g c id added = inl added
-
-pub returns-then-is_same-clause-some : goal.returns-then-is_same-clause-some
-returns-then-is_same-clause-some g c open_w =
-    c.steps_law.ensures.at_most _ _ 0 1 _ (omega arith) (c.steps_law.ensures.none c.args.table.now c.requires.sound)
-
-pub returns-then-is_same-clause-steps : goal.returns-then-is_same-clause-steps
-returns-then-is_same-clause-steps g c =
-    c.steps_law.ensures.anyhow _ _ 1 _
-    (c.steps_law.ensures.at_most _ _ 0 1 _ (omega arith) (c.steps_law.ensures.none c.args.table.now c.requires.sound))
-
-pub returns-then-is_same-2-clause-last : goal.returns-then-is_same-2-clause-last
-returns-then-is_same-2-clause-last g c = last_of c.args.table.now c.add_again.new.table c.add_again.result c.add_again.ensures.number
-
-pub returns-then-is_same-3-clause-last : goal.returns-then-is_same-3-clause-last
-returns-then-is_same-3-clause-last g c = last_of c.args.table.now c.add_again-then-is_same-3.new.table c.add_again-then-is_same-3.result
-    c.add_again-then-is_same-3.ensures.number
-
-pub returns-clause-last : goal.returns-clause-last
-returns-clause-last g c = last_of c.args.table.now c.unit_of.new.table c.unit_of.result (c.unit_of.ensures.number
+pub returns : goal.returns
+returns g c = c.unit_of.ensures.anew
     (λ is. not_both c.is_same-2.result (c.is_same-2.ensures.1 is) c.if-is_same-2.false)
-    (λ is. not_both c.is_same-3.result (c.is_same-3.ensures.1 is) c.if-is_same-3.false))
-
-pub returns-clause-added : goal.returns-clause-added
-returns-clause-added g c =
-    let table = c.args.table.now in
-    added_of table c.unit_of.new.table c.unit_of.result (c.unit_of.ensures.number
-    (λ is. not_both c.is_same-2.result (c.is_same-2.ensures.1 is) c.if-is_same-2.false)
-    (λ is. not_both c.is_same-3.result (c.is_same-3.ensures.1 is) c.if-is_same-3.false)) c.requires.sound
-    (atom_of table.graph c.args.u.now.node) (atom_of table.graph c.args.v.now.node) c.args.u.now.unit c.args.v.now.unit
-    c.requires.first.unit c.requires.second.unit c.unit_of.ensures.added
+    (λ is. not_both c.is_same-3.result (c.is_same-3.ensures.1 is) c.if-is_same-3.false)

@@ -1,16 +1,15 @@
 -- What is left to show of `unit_of`.
-use Rattle.std.proofs.Common.{◌≡◌, ◌≢◌, ◌++◌, ◌⊎◌, ℕ, List, [], ◌∷◌, arith, subst, sym, inl, inr}
+use Rattle.std.proofs.Common.{◌≢◌, ◌++◌, ℕ, List, [], ◌∷◌, refl, subst, sym, inl, inr}
 use Rattle.std.specs.Prelude.{OnOk}
 use Rattle.node_table.specs.declared.node.Justification.{Justification}
+use Rattle.node_table.specs.declared.node.Node.{Node}
 use Rattle.node_table.specs.Defined.{atom_of}
 use Rattle.node_table.specs.Justification.{IsJustified}
 use Rattle.operations.specs.Results.{conjunction_atoms}
 use Rattle.clause_terms.specs.Term.{AddsUnit}
 use Rattle.term_runner.specs.Held.{hint_of}
 use Rattle.term_runner.proofs.Units.{not_both, first_named, second_named, just_named, unit_refuted, not_true}
-use Rattle.node_table.specs.declared.node.Justification.TheVariants.{Clause}
-use Rattle.node_table.specs.Table.{IsAddedTo}
-use Rattle.term_runner.proofs.OwnUnits.{given_next}
+use Rattle.term_runner.proofs.Proved.{anew_is_new, proves_same}
 use Rattle.term_runner.proofs.Stacks.{if_ok}
 use Rattle.term_runner.proofs.unit.unit_of.Goals as goal
 
@@ -63,11 +62,57 @@ add_unit-requires-clause-strict g c =
     (subst (λ (j : Justification). IsJustified live (conjunction_atoms graph c.args.u.now.node c.args.v.now.node c.args.w) j)
     c.in-Some-clause_id-2.ensures c.requires.conjoined.justified)
 
-pub returns-then-is_same-clause-number : goal.returns-then-is_same-clause-number
-returns-then-is_same-clause-number g c differ other = absurd (differ (c.is_same.ensures.0 c.if-is_same.true))
+-- it is an operand's own
+pub returns-then-is_same-clause-proves : goal.returns-then-is_same-clause-proves
+returns-then-is_same-clause-proves g c =
+    let table = c.args.table.now in
+    proves_same c.steps_law.ensures table c.requires.sound c.args.w c.args.u.now.unit
+    (subst (λ (node : Node). IsJustified table.book.state.live (atom_of table.graph node ∷ []) c.args.u.now.unit)
+    (sym (c.is_same.ensures.0 c.if-is_same.true)) c.requires.first_unit)
 
-pub returns-then-is_same-2-clause-number : goal.returns-then-is_same-2-clause-number
-returns-then-is_same-2-clause-number g c differ other = absurd (other (c.is_same-2.ensures.0 c.if-is_same-2.true))
+pub returns-then-is_same-clause-given : goal.returns-then-is_same-clause-given
+returns-then-is_same-clause-given g c = inl refl
+
+pub returns-then-is_same-clause-added : goal.returns-then-is_same-clause-added
+returns-then-is_same-clause-added g c = inl refl
+
+pub returns-then-is_same-clause-own : goal.returns-then-is_same-clause-own
+returns-then-is_same-clause-own g c is = refl
+
+pub returns-then-is_same-clause-told : goal.returns-then-is_same-clause-told
+returns-then-is_same-clause-told g c differ other = absurd (differ (c.is_same.ensures.0 c.if-is_same.true))
+
+pub returns-then-is_same-clause-anew : goal.returns-then-is_same-clause-anew
+returns-then-is_same-clause-anew g c differ other = absurd (differ (c.is_same.ensures.0 c.if-is_same.true))
+
+pub returns-then-is_same-2-clause-proves : goal.returns-then-is_same-2-clause-proves
+returns-then-is_same-2-clause-proves g c =
+    let table = c.args.table.now in
+    proves_same c.steps_law.ensures table c.requires.sound c.args.w c.args.v.now.unit
+    (subst (λ (node : Node). IsJustified table.book.state.live (atom_of table.graph node ∷ []) c.args.v.now.unit)
+    (sym (c.is_same-2.ensures.0 c.if-is_same-2.true)) c.requires.second_unit)
+
+pub returns-then-is_same-2-clause-given : goal.returns-then-is_same-2-clause-given
+returns-then-is_same-2-clause-given g c = inr (inl refl)
+
+pub returns-then-is_same-2-clause-added : goal.returns-then-is_same-2-clause-added
+returns-then-is_same-2-clause-added g c = inr (inl refl)
+
+pub returns-then-is_same-2-clause-own : goal.returns-then-is_same-2-clause-own
+returns-then-is_same-2-clause-own g c is = refl
+
+pub returns-then-is_same-2-clause-told : goal.returns-then-is_same-2-clause-told
+returns-then-is_same-2-clause-told g c differ other = absurd (other (c.is_same-2.ensures.0 c.if-is_same-2.true))
+
+pub returns-then-is_same-2-clause-anew : goal.returns-then-is_same-2-clause-anew
+returns-then-is_same-2-clause-anew g c differ other = absurd (other (c.is_same-2.ensures.0 c.if-is_same-2.true))
+
+-- a clause is added
+pub returns-clause-proves : goal.returns-clause-proves
+returns-clause-proves g c = c.add_unit.ensures.anew.proves
+
+pub returns-clause-anew : goal.returns-clause-anew
+returns-clause-anew g c differ other = c.add_unit.ensures.anew
 
 pub returns-clause-own : goal.returns-clause-own
 returns-clause-own g c is = elim is [
@@ -77,48 +122,11 @@ returns-clause-own g c is = elim is [
 
 pub returns-clause-given : goal.returns-clause-given
 returns-clause-given g c =
-    given_next c.args.table.now c.add_unit.new.table c.args.u.now.unit c.args.v.now.unit c.add_unit.result c.add_unit.ensures.number
+    if_ok c.add_unit.result _ _ (λ unit is. inr (inr is))
+    (anew_is_new c.args.table.now c.add_unit.new.table c.args.w c.add_unit.result c.add_unit.ensures.anew)
 
 pub returns-clause-added : goal.returns-clause-added
-returns-clause-added g c =
-    let new = c.add_unit.new.table in
-    let u = c.args.u.now.unit in
-    let v = c.args.v.now.unit in
-    if_ok c.add_unit.result (λ unit. (id : ℕ) → unit ≡ Clause id → IsAddedTo new id) (λ unit. (unit ≡ u)
-    ⊎ ((unit ≡ v) ⊎ ((id : ℕ) → unit ≡ Clause id → IsAddedTo new id)))
-    (λ unit stands. inr (inr stands)) c.add_unit.ensures.added
-
-pub returns-clause-alone : goal.returns-clause-alone
-returns-clause-alone g c = c.add_unit.ensures.alone
-
-pub returns-then-is_same-clause-alone : goal.returns-then-is_same-clause-alone
-returns-then-is_same-clause-alone g c id added = inl added
-
-pub returns-then-is_same-2-clause-alone : goal.returns-then-is_same-2-clause-alone
-returns-then-is_same-2-clause-alone g c id added = inl added
-
-pub returns-clause-some : goal.returns-clause-some
-returns-clause-some g c = c.add_unit.ensures.some
-
-pub returns-clause-refused : goal.returns-clause-refused
-returns-clause-refused g c = c.add_unit.ensures.refused
-
-pub returns-clause-steps : goal.returns-clause-steps
-returns-clause-steps g c = c.add_unit.ensures.steps
-
-pub returns-then-is_same-clause-some : goal.returns-then-is_same-clause-some
-returns-then-is_same-clause-some g c open_w =
-    c.steps_law.ensures.at_most _ _ 0 1 _ (omega arith) (c.steps_law.ensures.none c.args.table.now c.requires.sound)
-
-pub returns-then-is_same-2-clause-some : goal.returns-then-is_same-2-clause-some
-returns-then-is_same-2-clause-some g c open_w =
-    c.steps_law.ensures.at_most _ _ 0 1 _ (omega arith) (c.steps_law.ensures.none c.args.table.now c.requires.sound)
-
-pub returns-then-is_same-clause-told : goal.returns-then-is_same-clause-told
-returns-then-is_same-clause-told g c differ other = absurd (differ (c.is_same.ensures.0 c.if-is_same.true))
-
-pub returns-then-is_same-2-clause-told : goal.returns-then-is_same-2-clause-told
-returns-then-is_same-2-clause-told g c differ other = absurd (other (c.is_same-2.ensures.0 c.if-is_same-2.true))
+returns-clause-added g c = if_ok c.add_unit.result _ _ (λ unit stands. inr (inr stands)) c.add_unit.ensures.anew.added
 
 pub returns-clause-told : goal.returns-clause-told
 returns-clause-told g c differ other =

@@ -1,19 +1,18 @@
 -- What is left to show of `unit_of_implied`.
-use Rattle.std.proofs.Common.{◌≡◌, ◌≢◌, ◌++◌, ◌⊎◌, ℕ, List, [], ◌∷◌, refl, sym, subst, inl, inr}
+use Rattle.std.proofs.Common.{◌≢◌, ◌++◌, ℕ, List, [], ◌∷◌, refl, sym, subst, inl, inr}
 use Rattle.std.specs.Prelude.{OnOk}
 use Rattle.node_table.specs.declared.node.Node.{Node}
 use Rattle.node_table.specs.declared.node.Node.TheVariants.{True}
 use Rattle.node_table.specs.declared.node.Justification.{Justification}
-use Rattle.node_table.specs.declared.node.Justification.TheVariants.{Clause, Trivial}
 use Rattle.node_table.specs.Defined.{atom_of}
 use Rattle.node_table.specs.Justification.{IsJustified}
 use Rattle.operations.specs.Results.{implication_atoms}
 use Rattle.clause_terms.specs.Term.{AddsUnit}
 use Rattle.term_runner.specs.Held.{hint_of}
 use Rattle.term_runner.proofs.Units.{not_both, implying_named, implication_named, implied_refuted}
-use Rattle.node_table.specs.Table.{IsAddedTo}
 use Rattle.term_runner.proofs.NoEmpty.{implied_open}
-use Rattle.term_runner.proofs.OwnUnits.{no_clause, given_one}
+use Rattle.term_runner.proofs.OwnUnits.{no_clause}
+use Rattle.term_runner.proofs.Proved.{anew_is_new, none_more, proves_same, proves_true}
 use Rattle.term_runner.proofs.Stacks.{if_ok}
 use Rattle.term_runner.proofs.unit.unit_of_implied.Goals as goal
 
@@ -51,19 +50,61 @@ add_unit-requires-clause-strict g c =
     (subst (λ (j : Justification). IsJustified live (implication_atoms graph c.args.u.now.node c.args.w) j) c.in-Some-clause_id.ensures
     c.requires.implied.justified)
 
-pub returns-then-is_same-clause-number : goal.returns-then-is_same-clause-number
-returns-then-is_same-clause-number g c differ other = absurd (differ (c.is_same.ensures.0 c.if-is_same.true))
+-- it is the term's own
+pub returns-then-is_same-clause-proves : goal.returns-then-is_same-clause-proves
+returns-then-is_same-clause-proves g c =
+    let table = c.args.table.now in
+    proves_same c.steps_law.ensures table c.requires.sound c.args.w c.args.u.now.unit
+    (subst (λ (node : Node). IsJustified table.book.state.live (atom_of table.graph node ∷ []) c.args.u.now.unit)
+    (sym (c.is_same.ensures.0 c.if-is_same.true)) c.requires.first_unit)
 
-pub returns-then-is_same-2-clause-unit : goal.returns-then-is_same-2-clause-unit
-returns-then-is_same-2-clause-unit g c =
-    subst (λ (n : Node). IsJustified c.args.table.now.book.state.live (atom_of c.args.table.now.graph n ∷ []) Trivial)
-    (sym (c.is_same-2.ensures.0 c.if-is_same-2.true)) refl
+pub returns-then-is_same-clause-given : goal.returns-then-is_same-clause-given
+returns-then-is_same-clause-given g c = inl refl
+
+pub returns-then-is_same-clause-added : goal.returns-then-is_same-clause-added
+returns-then-is_same-clause-added g c = inl refl
+
+pub returns-then-is_same-clause-own : goal.returns-then-is_same-clause-own
+returns-then-is_same-clause-own g c is = refl
+
+pub returns-then-is_same-clause-steps : goal.returns-then-is_same-clause-steps
+returns-then-is_same-clause-steps g c = none_more c.steps_law.ensures c.args.table.now c.requires.sound c.args.w
+
+pub returns-then-is_same-clause-told : goal.returns-then-is_same-clause-told
+returns-then-is_same-clause-told g c differ other = absurd (differ (c.is_same.ensures.0 c.if-is_same.true))
+
+pub returns-then-is_same-clause-anew : goal.returns-then-is_same-clause-anew
+returns-then-is_same-clause-anew g c differ other = absurd (differ (c.is_same.ensures.0 c.if-is_same.true))
+
+-- the node is True
+pub returns-then-is_same-2-clause-proves : goal.returns-then-is_same-2-clause-proves
+returns-then-is_same-2-clause-proves g c =
+    (proves_true c.steps_law.ensures c.args.table.now c.requires.sound c.args.w (c.is_same-2.ensures.0 c.if-is_same-2.true)).proves
 
 pub returns-then-is_same-2-clause-given : goal.returns-then-is_same-2-clause-given
 returns-then-is_same-2-clause-given g c = inr (λ id is. absurd (no_clause id is))
 
-pub returns-then-is_same-2-clause-number : goal.returns-then-is_same-2-clause-number
-returns-then-is_same-2-clause-number g c differ other = absurd (other (c.is_same-2.ensures.0 c.if-is_same-2.true))
+pub returns-then-is_same-2-clause-added : goal.returns-then-is_same-2-clause-added
+returns-then-is_same-2-clause-added g c = inr (λ id is. absurd (no_clause id is))
+
+pub returns-then-is_same-2-clause-own : goal.returns-then-is_same-2-clause-own
+returns-then-is_same-2-clause-own g c is = refl
+
+pub returns-then-is_same-2-clause-steps : goal.returns-then-is_same-2-clause-steps
+returns-then-is_same-2-clause-steps g c = none_more c.steps_law.ensures c.args.table.now c.requires.sound c.args.w
+
+pub returns-then-is_same-2-clause-told : goal.returns-then-is_same-2-clause-told
+returns-then-is_same-2-clause-told g c differ other = absurd (other (c.is_same-2.ensures.0 c.if-is_same-2.true))
+
+pub returns-then-is_same-2-clause-anew : goal.returns-then-is_same-2-clause-anew
+returns-then-is_same-2-clause-anew g c differ other = absurd (other (c.is_same-2.ensures.0 c.if-is_same-2.true))
+
+-- a clause is added
+pub returns-clause-proves : goal.returns-clause-proves
+returns-clause-proves g c = c.add_unit.ensures.anew.proves
+
+pub returns-clause-anew : goal.returns-clause-anew
+returns-clause-anew g c differ other = c.add_unit.ensures.anew
 
 pub returns-clause-own : goal.returns-clause-own
 returns-clause-own g c is = elim is [
@@ -72,44 +113,20 @@ returns-clause-own g c is = elim is [
 ]
 
 pub returns-clause-given : goal.returns-clause-given
-returns-clause-given g c = given_one c.args.table.now c.add_unit.new.table c.args.u.now.unit c.add_unit.result c.add_unit.ensures.number
+returns-clause-given g c =
+    if_ok c.add_unit.result _ _ (λ unit is. inr is)
+    (anew_is_new c.args.table.now c.add_unit.new.table c.args.w c.add_unit.result c.add_unit.ensures.anew)
 
 pub returns-clause-added : goal.returns-clause-added
-returns-clause-added g c =
-    let new = c.add_unit.new.table in
-    let u = c.args.u.now.unit in
-    if_ok c.add_unit.result (λ unit. (id : ℕ) → unit ≡ Clause id → IsAddedTo new id) (λ unit. (unit ≡ u)
-    ⊎ ((id : ℕ) → unit ≡ Clause id → IsAddedTo new id))
-    (λ unit stands. inr stands) c.add_unit.ensures.added
-
-pub returns-clause-alone : goal.returns-clause-alone
-returns-clause-alone g c = c.add_unit.ensures.alone
-
-pub returns-then-is_same-clause-alone : goal.returns-then-is_same-clause-alone
-returns-then-is_same-clause-alone g c id added = inl added
-
-pub returns-then-is_same-2-clause-added : goal.returns-then-is_same-2-clause-added
-returns-then-is_same-2-clause-added g c = inr (λ id is. absurd (no_clause id is))
-
-pub returns-then-is_same-2-clause-alone : goal.returns-then-is_same-2-clause-alone
-returns-then-is_same-2-clause-alone g c id added = inl added
+returns-clause-added g c = if_ok c.add_unit.result _ _ (λ unit stands. inr stands) c.add_unit.ensures.anew.added
 
 pub returns-clause-steps : goal.returns-clause-steps
 returns-clause-steps g c =
-    c.add_unit.ensures.some
+    c.add_unit.ensures.anew.proves.some
     (implied_open c.canonical_law.ensures c.args.table.now.graph c.requires.sound.tied.reduced c.args.u.now.node c.args.w c.requires.first
     c.requires.first_open c.requires.implied.value)
-
-pub returns-then-is_same-clause-told : goal.returns-then-is_same-clause-told
-returns-then-is_same-clause-told g c differ other = absurd (differ (c.is_same.ensures.0 c.if-is_same.true))
-
-pub returns-then-is_same-2-clause-told : goal.returns-then-is_same-2-clause-told
-returns-then-is_same-2-clause-told g c differ other = absurd (other (c.is_same-2.ensures.0 c.if-is_same-2.true))
 
 pub returns-clause-told : goal.returns-clause-told
 returns-clause-told g c differ other =
     subst (λ (hints : List ℕ). OnOk c.add_unit.result (AddsUnit c.args.table.now c.add_unit.new.table c.args.w hints))
     (λ i. hint_of (sym c.in-Some.ensures i) ++ hint_of (sym c.in-Some-clause_id.ensures i)) c.add_unit.ensures.told
-
-pub returns-clause-none_added : goal.returns-clause-none_added
-returns-clause-none_added g c = c.add_unit.ensures.none_added

@@ -18,3 +18,6 @@ add_unit-requires-clause-strict g c clause is =
     let proved = subst (λ (unit : Justification). IsJustified table.book.state.live (atom_of table.graph False ∷ []) unit)
     c.in-Some.ensures c.requires.empty in
     c.conflict_law.ensures table.book.state.live clause c.in-Some.id proved.1
+
+pub returns : goal.returns
+returns g c = c.add_unit.ensures.anew

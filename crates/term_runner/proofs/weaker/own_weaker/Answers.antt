@@ -115,7 +115,7 @@ pub returns-in_err-unit-clause-finds : goal.returns-in_err-unit-clause-finds
 returns-in_err-unit-clause-finds g c =
     let came = c.in_err-unit.field-0.0 in
     let found = c.in_ok-just.ensures in
-    let unit = c.in_err-unit.ensures in
+    let unit = c.in_err-unit.ensures.proves in
     let new = c.own_unit_of_implied.new.table in
     subst (λ (r : Result (Option HeldTerm) TableError). Finds (IsSubfunction (λ a. value_of c.args.table.now.graph a c.args.w))
     (λ a. value_of c.args.table.now.graph a c.args.w) (holds_or r (node_holds c.args.table.now.graph c.args.w)) (c.args.u.now ∷ [])
@@ -141,17 +141,17 @@ pub returns-in_err-unit-clause-none : goal.returns-in_err-unit-clause-none
 returns-in_err-unit-clause-none g c is = absurd (no_ok _ c.in_err-unit.field-0.0 None c.from_residual-in_err-unit.ensures.1 is)
 
 pub returns-in_err-unit-clause-nodes : goal.returns-in_err-unit-clause-nodes
-returns-in_err-unit-clause-nodes g c = c.own_unit_of_implied.ensures.nodes ∙ c.implies.ensures.nodes
+returns-in_err-unit-clause-nodes g c = c.own_unit_of_implied.ensures.proves.nodes ∙ c.implies.ensures.nodes
 
 pub returns-in_err-unit-clause-no_node_limit : goal.returns-in_err-unit-clause-no_node_limit
 returns-in_err-unit-clause-no_node_limit g c limit =
-    c.in_err-unit.ensures.no_node_limit (ap Err (came_from _ c.in_err-unit.field-0.0 NodeLimit c.from_residual-in_err-unit.ensures.1 limit))
+    c.in_err-unit.ensures.proves.no_node_limit (ap Err (came_from _ c.in_err-unit.field-0.0 NodeLimit c.from_residual-in_err-unit.ensures.1 limit))
 
 pub returns-in_err-unit-clause-refused : goal.returns-in_err-unit-clause-refused
 returns-in_err-unit-clause-refused g c =
     let came = c.in_err-unit.field-0.0 in
     let found = c.in_ok-just.ensures in
-    let unit = c.in_err-unit.ensures in
+    let unit = c.in_err-unit.ensures.proves in
     if_handed _ came _ c.from_residual-in_err-unit.ensures.1
     (unit_refused_units c.steps_law.ensures c.entry_law.ensures c.subfunction_law.ensures c.args.table.now c.implies.new.table c.args.caches.now
     c.implies.new.self c.requires.sound c.args.u.now c.args.w c.implies.ensures.nodes c.implies.ensures.sizes
@@ -162,22 +162,22 @@ returns-in_err-unit-clause-refused g c =
 pub returns-clause-finds : goal.returns-clause-finds
 returns-clause-finds g c =
     let found = c.in_ok-just.ensures in
-    let unit = c.in_ok-unit.ensures in
+    let unit = c.in_ok-unit.ensures.proves in
     weaker_finds c.steps_law.ensures c.entry_law.ensures c.subfunction_law.ensures c.args.table.now c.implies.new.table c.args.caches.now
     c.implies.new.self c.requires.sound c.args.u.now c.args.w c.implies.ensures.nodes c.implies.ensures.sizes
     (pairs_found g (goal.at.returns-clause-finds g c).After-implies) found.steps found.keeps (found.accounts no_error)
-    c.own_unit_of_implied.new.table unit.retired unit.nodes c.in_ok-unit.unit unit.steps unit.some c.requires.stands unit.unit unit.last
-    unit.added unit.alone
+    c.own_unit_of_implied.new.table unit.retired unit.nodes c.in_ok-unit.unit unit.steps unit.some c.requires.stands unit.unit c.in_ok-unit.ensures.last
+    c.in_ok-unit.ensures.added unit.alone
 
 pub returns-clause-own : goal.returns-clause-own
 returns-clause-own g c =
     let found = c.in_ok-just.ensures in
-    let unit = c.in_ok-unit.ensures in
+    let unit = c.in_ok-unit.ensures.proves in
     weaker_gives c.steps_law.ensures c.entry_law.ensures c.subfunction_law.ensures c.args.table.now c.implies.new.table c.args.caches.now
     c.implies.new.self c.requires.sound c.args.u.now c.args.w c.implies.ensures.nodes c.implies.ensures.sizes
     (pairs_found g (goal.at.returns-clause-own g c).After-implies) found.steps found.keeps (found.accounts no_error)
-    c.own_unit_of_implied.new.table unit.retired unit.nodes c.in_ok-unit.unit unit.steps unit.some c.requires.stands unit.unit unit.last
-    unit.added unit.alone
+    c.own_unit_of_implied.new.table unit.retired unit.nodes c.in_ok-unit.unit unit.steps unit.some c.requires.stands unit.unit c.in_ok-unit.ensures.last
+    c.in_ok-unit.ensures.added unit.alone
 
 pub returns-clause-nodes : goal.returns-clause-nodes
-returns-clause-nodes g c = c.own_unit_of_implied.ensures.nodes ∙ c.implies.ensures.nodes
+returns-clause-nodes g c = c.own_unit_of_implied.ensures.proves.nodes ∙ c.implies.ensures.nodes

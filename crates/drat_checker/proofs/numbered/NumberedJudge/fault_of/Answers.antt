@@ -54,8 +54,9 @@ returns-in-Some-clause-line c = λ is wanted plain.
     c.self.view_is
     (good-hints c.self.inside.db c.args.clause.now c.note_refutation.new.self.hints c.note_refutation.new.self.groups
     (c.note_refutation.ensures.groups ∙ c.clear.ensures.groups)
-    ((c.in_ok-note_refutation.ensures.explain (c.clear.ensures.wanted ∙ wanted)).closes c.args.clause.now
-    (reasons-assumed c.self.inside.db [] c.args.clause.now c.settle.new.trail refl clash.reasons) clash.falsified plain))
+    ((c.in_ok-note_refutation.ensures.explain (c.clear.ensures.wanted ∙ wanted)).closes
+    (reasons-assumed c.self.inside.db [] c.args.clause.now c.settle.new.trail refl clash.reasons)
+    (c.refutation_by-refutation.ensures c.self.inside.db clash.falsified) plain))
 
 pub addition_fault-requires : goal.addition_fault-requires
 addition_fault-requires c = record {

@@ -1,14 +1,17 @@
 -- What is ahead of a new scanner are the items of the text. The end or a token that offends decides, and the text goes on
 -- behind one that does not.
-use Rattle.std.proofs.Common.{◌≡◌, [], Err, refl, ◌∙◌, ap, arith}
+use Rattle.std.proofs.Common.{◌≡◌, ℕ, List, [], length, Err, IfOk, refl, sym, ◌∙◌, ap, subst, arith}
 use Rattle.text_scan.specs.Decides.{gained, Decides-none, Decides-then, OnlyReads-then, gained-none, front-then}
 use Rattle.text_scan.specs.Items.{items, items_of_front}
 use Rattle.text_scan.specs.Scan.{ahead, so_far}
-use Rattle.schedule_plan.specs.declared.order_error.OrderError.TheVariants.{OutOfMemory}
+use Rattle.text_scan.specs.declared.scanner.ScanError.TheVariants.{ReadFault as ScanFault}
+use Rattle.host_io.specs.Channel.{Rose}
+use Rattle.cnf_base.specs.Order.{IsOrder}
+use Rattle.schedule_plan.specs.declared.order_error.OrderError.TheVariants.{OutOfMemory, ReadFault}
 use Rattle.schedule_plan.specs.OrderReader.{Answers, Passes, pass_none, pass_one, WantsMemory, error_of}
 use Rattle.schedule_plan.specs.OrderText.{max_bytes, order_of, order_text}
 use Rattle.schedule_plan.proofs.OrderJudged.{goes_on, error_is, end_answers, error_answers, take_answers, front_of_next, fault_so_far}
-use Rattle.schedule_plan.proofs.OrderJudged.{undecided_behind}
+use Rattle.schedule_plan.proofs.OrderJudged.{undecided_behind, fault_of_scan, scan_wants_none, taken_no_fault, answer_no_fault, answer_wants_none}
 use Rattle.schedule_plan.proofs.order.Order.read.Goals as goal
 
 pub returns-in-None-clause-decides : goal.returns-in-None-clause-decides
@@ -112,3 +115,84 @@ returns-in_err-take-in-Some-clause-memory g c = λ told wanted.
       passed = rw q at p;
       unoffending = none;
     })
+
+-- The scanner stopped by an error.
+pub returns-in_err-next-clause-order : goal.returns-in_err-next-clause-order
+returns-in_err-next-clause-order g c = subst (λ r. IfOk r (λ (variables : List ℕ). IsOrder variables × (length variables ≡ c.args.vars)))
+    (sym (error_is c.from_residual.result (error_of c.in_err-next.field-0.0) c.from_residual.ensures.1)) tt
+
+pub returns-in_err-next-clause-fault : goal.returns-in_err-next-clause-fault
+returns-in_err-next-clause-fault g c = λ failed.
+    let error = error_is c.from_residual.result (error_of c.in_err-next.field-0.0) c.from_residual.ensures.1 in
+    let same : error_of c.in_err-next.field-0.0 ≡ ReadFault = cc in
+    subst (λ (faults : ℕ). Rose faults (g.S.Source.channel c.next.new.source).faults) c.tokens.invariant.unfailed
+    (c.in_err-next.ensures.fault (ap Err (fault_of_scan c.in_err-next.field-0.0 same)) c.tokens.invariant.sound)
+
+pub returns-in_err-next-clause-unfailed : goal.returns-in_err-next-clause-unfailed
+returns-in_err-next-clause-unfailed g c = λ differs.
+    let error = error_is c.from_residual.result (error_of c.in_err-next.field-0.0) c.from_residual.ensures.1 in
+    c.in_err-next.ensures.unfailed (λ failed. differs (let scan : c.in_err-next.field-0.0 ≡ ScanFault = cc in
+    error ∙ ap (λ e. Err (error_of e)) scan)) ∙ c.tokens.invariant.unfailed
+
+pub returns-in_err-next-clause-memory : goal.returns-in_err-next-clause-memory
+returns-in_err-next-clause-memory g c = λ told wanted.
+    let error = error_is c.from_residual.result (error_of c.in_err-next.field-0.0) c.from_residual.ensures.1 in
+    let same : error_of c.in_err-next.field-0.0 ≡ OutOfMemory = cc in
+    absurd (scan_wants_none c.in_err-next.field-0.0 same)
+
+pub returns-in_err-next-clause-reads : goal.returns-in_err-next-clause-reads
+returns-in_err-next-clause-reads g c = OnlyReads-then c.tokens.invariant.reads c.next.ensures.reads
+
+pub returns-in_err-next-clause-beside : goal.returns-in_err-next-clause-beside
+returns-in_err-next-clause-beside g c = c.next.ensures.beside ∙ c.tokens.invariant.beside
+
+-- a token that offends, or want of memory
+pub returns-in_err-take-in-Some-clause-order : goal.returns-in_err-take-in-Some-clause-order
+returns-in_err-take-in-Some-clause-order g c = subst (λ r. IfOk r (λ (variables : List ℕ). IsOrder variables × (length variables ≡ c.args.vars)))
+    (sym (error_is c.from_residual-in_err-take-in-Some.result c.in_err-take-in-Some.field-0.0
+    c.from_residual-in_err-take-in-Some.ensures.1)) tt
+
+pub returns-in_err-take-in-Some-clause-fault : goal.returns-in_err-take-in-Some-clause-fault
+returns-in_err-take-in-Some-clause-fault g c = λ failed.
+    let error = error_is c.from_residual-in_err-take-in-Some.result c.in_err-take-in-Some.field-0.0
+    c.from_residual-in_err-take-in-Some.ensures.1 in
+    let same : c.in_err-take-in-Some.field-0.0 ≡ ReadFault = cc in
+    absurd (taken_no_fault c.in_err-take-in-Some.field-0.0 _ _ _ _ c.in_err-take-in-Some.ensures.takes same)
+
+pub returns-in_err-take-in-Some-clause-undecided : goal.returns-in_err-take-in-Some-clause-undecided
+returns-in_err-take-in-Some-clause-undecided g c = λ told failed.
+    let error = error_is c.from_residual-in_err-take-in-Some.result c.in_err-take-in-Some.field-0.0
+    c.from_residual-in_err-take-in-Some.ensures.1 in
+    let same : c.in_err-take-in-Some.field-0.0 ≡ ReadFault = cc in
+    absurd (taken_no_fault c.in_err-take-in-Some.field-0.0 _ _ _ _ c.in_err-take-in-Some.ensures.takes same)
+
+pub returns-in_err-take-in-Some-clause-unfailed : goal.returns-in_err-take-in-Some-clause-unfailed
+returns-in_err-take-in-Some-clause-unfailed g c = λ _. c.in_ok-next.ensures.unfailed (λ e. cc) ∙ c.tokens.invariant.unfailed
+
+pub returns-in_err-take-in-Some-clause-reads : goal.returns-in_err-take-in-Some-clause-reads
+returns-in_err-take-in-Some-clause-reads g c = OnlyReads-then c.tokens.invariant.reads c.next.ensures.reads
+
+pub returns-in_err-take-in-Some-clause-beside : goal.returns-in_err-take-in-Some-clause-beside
+returns-in_err-take-in-Some-clause-beside g c = c.next.ensures.beside ∙ c.tokens.invariant.beside
+
+-- the end of the text
+pub returns-in-None-clause-order : goal.returns-in-None-clause-order
+returns-in-None-clause-order g c = rw c.tokens.invariant.vars at c.finish.ensures.order
+
+pub returns-in-None-clause-fault : goal.returns-in-None-clause-fault
+returns-in-None-clause-fault g c = λ failed. absurd (answer_no_fault _ (sym c.finish.ensures.value ∙ failed))
+
+pub returns-in-None-clause-undecided : goal.returns-in-None-clause-undecided
+returns-in-None-clause-undecided g c = λ told failed. absurd (answer_no_fault _ (sym c.finish.ensures.value ∙ failed))
+
+pub returns-in-None-clause-memory : goal.returns-in-None-clause-memory
+returns-in-None-clause-memory g c = λ told wanted. absurd (answer_wants_none _ (sym c.finish.ensures.value ∙ wanted))
+
+pub returns-in-None-clause-unfailed : goal.returns-in-None-clause-unfailed
+returns-in-None-clause-unfailed g c = λ _. c.in_ok-next.ensures.unfailed (λ e. cc) ∙ c.tokens.invariant.unfailed
+
+pub returns-in-None-clause-reads : goal.returns-in-None-clause-reads
+returns-in-None-clause-reads g c = OnlyReads-then c.tokens.invariant.reads c.next.ensures.reads
+
+pub returns-in-None-clause-beside : goal.returns-in-None-clause-beside
+returns-in-None-clause-beside g c = c.next.ensures.beside ∙ c.tokens.invariant.beside

@@ -1,14 +1,16 @@
 -- A token goes on with the line or ends it. The end, the limit or a line that is refused decides.
-use Rattle.std.proofs.Common.{◌≡◌, ℕ, [], Err, IsTrue, inr, refl, sym, ◌∙◌, ap, subst, arith}
+use Rattle.std.proofs.Common.{◌≡◌, ℕ, [], Err, IsTrue, IfOk, inl, inr, refl, sym, ◌∙◌, ap, subst, arith}
 use Rattle.text_scan.specs.Decides.{gained, gained-none, Decides-none, Decides-then, OnlyReads-then, front-then, gained-then}
 use Rattle.text_scan.specs.Items.{Items, the_end, too_long, next_word, items, items_of_front}
 use Rattle.text_scan.specs.Scan.{ahead, so_far}
+use Rattle.host_io.specs.Channel.{Rose}
+use Rattle.schedule_plan.specs.Plan.{IsAdmissible}
 use Rattle.schedule_plan.specs.ScheduleText.{max_bytes, broken_off, schedule}
-use Rattle.schedule_plan.specs.declared.schedule.error.PlanError.TheVariants.{OutOfMemory}
+use Rattle.schedule_plan.specs.declared.schedule.error.PlanError.TheVariants.{OutOfMemory, ReadFault}
 use Rattle.schedule_plan.specs.ScheduleState.{no_draft, drafted, Answers}
 use Rattle.schedule_plan.specs.ScheduleMemory.{items_may_want_memory, may_want_memory}
 use Rattle.schedule_plan.proofs.Drafted.{drafted_same}
-use Rattle.schedule_plan.proofs.Exits.{whole, refused_answers, undecided_at}
+use Rattle.schedule_plan.proofs.Exits.{whole, refused_answers, undecided_at, no_fault}
 use Rattle.schedule_plan.proofs.TakesError.{was_reading, error_is}
 use Rattle.schedule_plan.proofs.schedule.read.read_schedule.Goals as goal
 
@@ -153,3 +155,121 @@ returns-in-Err-TooLong-clause-memory g c = λ told wanted.
     (λ bytes middle more p q. p (subst (λ (is : Items). IsTrue (items_may_want_memory formula is c.tokens.line
     c.tokens.judge.moves.items)) (sym (q.0 ∙ ap too_long (sym c.line-in-Err-TooLong.ensures)))
     (c.at_limit.ensures.memory memory))))
+
+-- Memory was wanted for what is kept of the formula: no byte was taken.
+pub returns-in_err-judge-clause-decides : goal.returns-in_err-judge-clause-decides
+returns-in_err-judge-clause-decides g c = λ told. Decides-none (g.S.Source.channel c.args.source.now)
+    (λ bytes more. Answers c.from_residual.result (schedule c.args.formula.now bytes))
+    (λ more. subst (λ r. Answers r (schedule c.args.formula.now more))
+    (sym (error_is c.from_residual.result OutOfMemory c.from_residual.ensures.1)) tt)
+
+pub returns-in_err-judge-clause-fault : goal.returns-in_err-judge-clause-fault
+returns-in_err-judge-clause-fault g c = λ failed. absurd (no_fault c.from_residual.result c.from_residual.ensures.1 failed)
+
+pub returns-in_err-judge-clause-unfailed : goal.returns-in_err-judge-clause-unfailed
+returns-in_err-judge-clause-unfailed g c = λ _. refl
+
+pub returns-in_err-judge-clause-undecided : goal.returns-in_err-judge-clause-undecided
+returns-in_err-judge-clause-undecided g c = λ told failed. absurd (no_fault c.from_residual.result c.from_residual.ensures.1 failed)
+
+pub returns-in_err-judge-clause-memory : goal.returns-in_err-judge-clause-memory
+returns-in_err-judge-clause-memory g c = λ told wanted. inl refl
+
+pub returns-in_err-judge-clause-admissible : goal.returns-in_err-judge-clause-admissible
+returns-in_err-judge-clause-admissible g c = subst (λ r. IfOk r (IsAdmissible c.args.formula.now))
+    (sym (error_is c.from_residual.result OutOfMemory c.from_residual.ensures.1)) tt
+
+pub returns-in_err-judge-clause-reads : goal.returns-in_err-judge-clause-reads
+returns-in_err-judge-clause-reads g c = record { written = refl; flushed = refl; name = refl; faults = omega arith }
+
+pub returns-in_err-judge-clause-beside : goal.returns-in_err-judge-clause-beside
+returns-in_err-judge-clause-beside g c = refl
+
+-- a token that isn't taken
+pub returns-in_err-take_token-in-Ok-Some-clause-fault : goal.returns-in_err-take_token-in-Ok-Some-clause-fault
+returns-in_err-take_token-in-Ok-Some-clause-fault g c = λ failed.
+    let error = error_is c.from_residual-in_err-take_token-in-Ok-Some.result c.in_err-take_token-in-Ok-Some.field-0.0
+    c.from_residual-in_err-take_token-in-Ok-Some.ensures.1 in
+    let fault : c.in_err-take_token-in-Ok-Some.field-0.0 ≡ ReadFault = cc in
+    absurd (c.in_err-take_token-in-Ok-Some.ensures.unfailed (ap Err fault))
+
+pub returns-in_err-take_token-in-Ok-Some-clause-unfailed : goal.returns-in_err-take_token-in-Ok-Some-clause-unfailed
+returns-in_err-take_token-in-Ok-Some-clause-unfailed g c = λ _.
+    c.in-Ok-Some.ensures.unfailed (λ e. cc) ∙ c.tokens.invariant.unfailed
+
+pub returns-in_err-take_token-in-Ok-Some-clause-undecided : goal.returns-in_err-take_token-in-Ok-Some-clause-undecided
+returns-in_err-take_token-in-Ok-Some-clause-undecided g c = λ told failed.
+    let error = error_is c.from_residual-in_err-take_token-in-Ok-Some.result c.in_err-take_token-in-Ok-Some.field-0.0
+    c.from_residual-in_err-take_token-in-Ok-Some.ensures.1 in
+    let fault : c.in_err-take_token-in-Ok-Some.field-0.0 ≡ ReadFault = cc in
+    absurd (c.in_err-take_token-in-Ok-Some.ensures.unfailed (ap Err fault))
+
+pub returns-in_err-take_token-in-Ok-Some-clause-admissible : goal.returns-in_err-take_token-in-Ok-Some-clause-admissible
+returns-in_err-take_token-in-Ok-Some-clause-admissible g c = subst (λ r. IfOk r (IsAdmissible c.args.formula.now))
+    (sym (error_is c.from_residual-in_err-take_token-in-Ok-Some.result c.in_err-take_token-in-Ok-Some.field-0.0
+    c.from_residual-in_err-take_token-in-Ok-Some.ensures.1)) tt
+
+pub returns-in_err-take_token-in-Ok-Some-clause-reads : goal.returns-in_err-take_token-in-Ok-Some-clause-reads
+returns-in_err-take_token-in-Ok-Some-clause-reads g c = OnlyReads-then c.tokens.invariant.reads c.next.ensures.reads
+
+pub returns-in_err-take_token-in-Ok-Some-clause-beside : goal.returns-in_err-take_token-in-Ok-Some-clause-beside
+returns-in_err-take_token-in-Ok-Some-clause-beside g c = c.next.ensures.beside ∙ c.tokens.invariant.beside
+
+-- the end of the text
+pub returns-in-Ok-None-clause-fault : goal.returns-in-Ok-None-clause-fault
+returns-in-Ok-None-clause-fault g c = λ failed. absurd (c.at_end.ensures.unfailed failed)
+
+pub returns-in-Ok-None-clause-unfailed : goal.returns-in-Ok-None-clause-unfailed
+returns-in-Ok-None-clause-unfailed g c = λ _. c.in-Ok-None.ensures.unfailed (λ e. cc) ∙ c.tokens.invariant.unfailed
+
+pub returns-in-Ok-None-clause-undecided : goal.returns-in-Ok-None-clause-undecided
+returns-in-Ok-None-clause-undecided g c = λ told failed. absurd (c.at_end.ensures.unfailed failed)
+
+pub returns-in-Ok-None-clause-admissible : goal.returns-in-Ok-None-clause-admissible
+returns-in-Ok-None-clause-admissible g c = c.at_end.ensures.admissible
+
+pub returns-in-Ok-None-clause-reads : goal.returns-in-Ok-None-clause-reads
+returns-in-Ok-None-clause-reads g c = OnlyReads-then c.tokens.invariant.reads c.next.ensures.reads
+
+pub returns-in-Ok-None-clause-beside : goal.returns-in-Ok-None-clause-beside
+returns-in-Ok-None-clause-beside g c = c.next.ensures.beside ∙ c.tokens.invariant.beside
+
+-- its limit
+pub returns-in-Err-TooLong-clause-fault : goal.returns-in-Err-TooLong-clause-fault
+returns-in-Err-TooLong-clause-fault g c = λ failed. absurd (c.at_limit.ensures.unfailed cc)
+
+pub returns-in-Err-TooLong-clause-unfailed : goal.returns-in-Err-TooLong-clause-unfailed
+returns-in-Err-TooLong-clause-unfailed g c = λ _. c.in-Err-TooLong.ensures.unfailed (λ e. cc) ∙ c.tokens.invariant.unfailed
+
+pub returns-in-Err-TooLong-clause-undecided : goal.returns-in-Err-TooLong-clause-undecided
+returns-in-Err-TooLong-clause-undecided g c = λ told failed. absurd (c.at_limit.ensures.unfailed cc)
+
+pub returns-in-Err-TooLong-clause-admissible : goal.returns-in-Err-TooLong-clause-admissible
+returns-in-Err-TooLong-clause-admissible g c = tt
+
+pub returns-in-Err-TooLong-clause-reads : goal.returns-in-Err-TooLong-clause-reads
+returns-in-Err-TooLong-clause-reads g c = OnlyReads-then c.tokens.invariant.reads c.next.ensures.reads
+
+pub returns-in-Err-TooLong-clause-beside : goal.returns-in-Err-TooLong-clause-beside
+returns-in-Err-TooLong-clause-beside g c = c.next.ensures.beside ∙ c.tokens.invariant.beside
+
+-- a failed read
+pub returns-in-Err-ReadFault-clause-fault : goal.returns-in-Err-ReadFault-clause-fault
+returns-in-Err-ReadFault-clause-fault g c = λ _.
+    subst (λ (faults : ℕ). Rose faults (g.S.Source.channel c.next.new.source).faults) c.tokens.invariant.unfailed
+    (c.in-Err-ReadFault.ensures.fault (cc) c.tokens.invariant.sound)
+
+pub returns-in-Err-ReadFault-clause-unfailed : goal.returns-in-Err-ReadFault-clause-unfailed
+returns-in-Err-ReadFault-clause-unfailed g c = λ differs. absurd (differs refl)
+
+pub returns-in-Err-ReadFault-clause-memory : goal.returns-in-Err-ReadFault-clause-memory
+returns-in-Err-ReadFault-clause-memory g c = λ told wanted. absurd cc
+
+pub returns-in-Err-ReadFault-clause-admissible : goal.returns-in-Err-ReadFault-clause-admissible
+returns-in-Err-ReadFault-clause-admissible g c = tt
+
+pub returns-in-Err-ReadFault-clause-reads : goal.returns-in-Err-ReadFault-clause-reads
+returns-in-Err-ReadFault-clause-reads g c = OnlyReads-then c.tokens.invariant.reads c.next.ensures.reads
+
+pub returns-in-Err-ReadFault-clause-beside : goal.returns-in-Err-ReadFault-clause-beside
+returns-in-Err-ReadFault-clause-beside g c = c.next.ensures.beside ∙ c.tokens.invariant.beside

@@ -1,5 +1,5 @@
 -- What is left of a block is no longer than the block.
-use Rattle.std.proofs.Common.{◌≡◌, ◌≤◌, ◌-◌, length, length-drop, drop, take, arith}
+use Rattle.std.proofs.Common.{◌≡◌, ◌≤◌, length, length-drop, drop, take, arith}
 use Rattle.std.proofs.lemmas.List.{length-take-le}
 use Rattle.text_scan.specs.Scan.{block_size}
 use Rattle.text_scan.proofs.scanner.Scanner.unread_law.Goals as goal

@@ -1,6 +1,9 @@
 -- What stood among those kept stands there still, and the next variable too.
-use Rattle.std.proofs.Common.{◌∙◌, ◌<◌, suc, length, sym, ap, arith, below_more}
+use Rattle.std.proofs.Common.{◌∙◌, ◌<◌, suc, length, refl, sym, ap, arith, below_more}
 use Rattle.variable_order.proofs.completed.Kept.keep_missing.Goals as goal
+
+pub loop-vertex-init : goal.loop-vertex-init
+loop-vertex-init c = record { vars = refl; all = λ vertex below. absurd (omega (arith, below)); full = λ e. refl }
 
 pub loop-vertex-preserved : goal.loop-vertex-preserved
 loop-vertex-preserved c =

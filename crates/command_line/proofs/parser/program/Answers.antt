@@ -1,8 +1,0 @@
--- What is left to show of `program`.
-use Rattle.std.proofs.Common.{ap, ◌∙◌}
-use Rattle.clap.specs.Simple.{app_of_fields}
-use Rattle.command_line.specs.Parser.{with_version}
-use Rattle.command_line.proofs.parser.program.Goals as goal
-
-pub returns : goal.returns
-returns c = ap app_of_fields c.version.ensures ∙ ap with_version c.command.ensures.app
