@@ -32,7 +32,3 @@ module _ {S : Type 0} (runner : Runner S) (is : IsRunner runner) (held : HeldTer
         satisfies = satisfied;
         holds = model.holds.cube_holds;
       }
-
-  pub none_found : walk.HasNoModel runner.terms.table.graph held.node cube → (a : Assignment) → formula_holds runner.formula.now a ≡ true
-      → cube_holds a cube ≡ true → ⊥
-  none_found none a satisfied holds = none a (record { node_holds = value a ∙ satisfied; cube_holds = holds })

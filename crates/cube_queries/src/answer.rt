@@ -6,7 +6,7 @@ use cnf_base::OutOfMemory;
 use std::alloc::Global;
 
 /// What was found of a cube.
-#[derive(Debug, Drop)]
+#[derive(Drop)]
 pub enum Answer {
     /// No assignment satisfies the formula and the cube, and a clause of the proof says so.
     Unsat,
@@ -15,7 +15,7 @@ pub enum Answer {
 }
 
 /// What is answered of cubes, in their order.
-#[derive(Debug, Drop)]
+#[derive(Drop)]
 pub struct Answers {
     list: Vec<Answer>,
 }
@@ -53,7 +53,7 @@ impl Answers {
 }
 
 /// What a session comes to.
-#[derive(Debug, Drop)]
+#[derive(Drop)]
 pub enum Outcome {
     /// All cubes are answered.
     Answered(Answers),

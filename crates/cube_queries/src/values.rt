@@ -5,7 +5,7 @@ use cnf_base::OutOfMemory;
 use std::alloc::Global;
 
 /// An assignment: the value of variable 1 first.
-#[derive(Debug, Drop)]
+#[derive(Drop)]
 pub struct Values {
     list: Vec<bool>,
 }

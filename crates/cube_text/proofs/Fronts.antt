@@ -1,20 +1,18 @@
 -- The front of a text of cubes, as numbers are added: its counters, and its stamps.
-use Rattle.std.proofs.Common.{◌≡◌, ◌∙◌, ◌<◌, ◌≤◌, ◌+◌, ◌*◌, ◌==◌, ℕ, Bool, true, false, not, ℤ, List, [], ◌∷◌, ◌++◌, length, refl}
-use Rattle.std.proofs.Common.{sym, ap}
-use Rattle.std.proofs.Common.{arith, ne_eqb}
+use Rattle.std.proofs.Common.{◌≡◌, ◌∙◌, ◌<◌, ◌≤◌, ◌+◌, ◌==◌, ℕ, false, ℤ, List, [], ◌∷◌, ◌++◌, length, refl}
+use Rattle.std.proofs.Common.{ap}
+use Rattle.std.proofs.Common.{arith}
 use Rattle.std.specs.Prelude.{nat_abs, slice_index_or, slice_set}
 use Rattle.std.specs.Int.{is_negative}
-use Rattle.std.proofs.Math.ListN.{get_or-eq_default}
 use Rattle.std.proofs.lemmas.List.{length-append}
-use Rattle.std.proofs.lemmas.List.Sums.{sum_by_push}
-use Rattle.cnf_base.specs.Cube.{is_consistent, is_denied}
+use Rattle.cnf_base.specs.Cube.{is_denied}
 use Rattle.cnf_base.specs.Formula.{Draft}
 use Rattle.cnf_base.specs.Limits.{max_vars}
 use Rattle.dimacs_reader.specs.Cnf.{max_literals}
 use Rattle.cube_text.specs.CubeReader.{AreStamps, IsFront, stamp}
-use Rattle.cube_text.specs.CubeText.{max_cubes, no_cubes}
-use Rattle.cube_text.proofs.Consistent.{one_more_clause, one_more_literal}
-use Rattle.cube_text.proofs.Stamped.{denied, next_cube, no_stamps, one_more}
+use Rattle.cube_text.specs.CubeText.{no_cubes}
+use Rattle.cube_text.proofs.Consistent.{one_more_literal}
+use Rattle.cube_text.proofs.Stamped.{no_stamps, one_more}
 
 -- before the first number
 pub no_numbers : (vars : ℕ) → vars ≤ max_vars → IsFront vars 0 0 0 (no_cubes vars) []
@@ -30,25 +28,6 @@ no_numbers vars few = record {
   begun_consistent = refl;
   stamped = no_stamps;
 }
-
--- the cube that was begun is ended
-pub cube_ended : {vars ended begun literals : ℕ} {draft : Draft} {stamps : List ℕ} → IsFront vars ended begun literals draft stamps
-    → ended < max_cubes
-    → IsFront vars (ended + 1) 0 literals (record { vars = draft.vars; clauses = draft.clauses ++ draft.begun ∷ []; begun = [] }) stamps
-cube_ended {ended = ended} {draft = draft} front room =
-    let sum = sum_by_push length draft.clauses draft.begun in
-    record {
-      vars_are = front.vars_are;
-      few_vars = front.few_vars;
-      ended_are = omega (arith, front.ended_are, length-append draft.clauses (draft.begun ∷ []));
-      few_ended = omega (arith, room);
-      begun_are = refl;
-      literals_are = omega (arith, front.literals_are, sum);
-      few_literals = front.few_literals;
-      consistent = one_more_clause is_consistent draft.clauses draft.begun front.consistent front.begun_consistent;
-      begun_consistent = refl;
-      stamped = next_cube front.stamped;
-    }
 
 -- the stamps may reach further
 pub further : {ended : ℕ} {begun : List ℤ} {stamps : List ℕ} (longer : List ℕ)
@@ -76,15 +55,3 @@ literal_added {draft = draft} longer y same inside some room free front = record
   begun_consistent = one_more_literal y draft.begun some free front.begun_consistent;
   stamped = one_more y some free inside (further longer same front.stamped);
 }
-
--- no stamp is 0
-no_stamp : (ended : ℕ) (negative : Bool) → (0 == stamp ended negative) ≡ false
-no_stamp ended true = ne_eqb 0 (2 * ended + 3) (λ same. omega (arith, same))
-no_stamp ended false = ne_eqb 0 (2 * ended + 2) (λ same. omega (arith, same))
-
--- a literal behind the stamps is denied by none
-pub behind_stamps : {ended : ℕ} {begun : List ℤ} {stamps : List ℕ} (y : ℤ) → 0 < nat_abs y → length stamps ≤ nat_abs y
-    → AreStamps ended begun stamps → is_denied y begun ≡ false
-behind_stamps {ended} {begun} {stamps} y some far are =
-    sym (denied y some are) ∙ ap (λ (n : ℕ). n == stamp ended (not (is_negative y))) (get_or-eq_default stamps 0 far)
-    ∙ no_stamp ended (not (is_negative y))

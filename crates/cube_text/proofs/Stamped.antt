@@ -19,11 +19,6 @@ minus n = refl
 pub plus : (n : ℕ) → is_negative (pos n) ≡ false
 plus n = le-ltb n 0 (omega arith)
 
-pub abs_neg : (x : ℤ) → nat_abs (neg_ℤ x) ≡ nat_abs x
-abs_neg (pos zero) = refl
-abs_neg (pos (suc n)) = refl
-abs_neg (negsuc n) = refl
-
 pub sign_neg : (x : ℤ) → 0 < nat_abs x → is_negative (neg_ℤ x) ≡ not (is_negative x)
 sign_neg (pos zero) some = absurd (omega (arith, some))
 sign_neg (pos (suc n)) some = minus n ∙ sym (ap not (plus (suc n)))
@@ -60,17 +55,6 @@ no_stamps = record {
     none : (negative : Bool) → (0 == stamp 0 negative) ≡ false
     none true = refl
     none false = refl
-
--- stamps of earlier cubes are others
-below : (ended value : ℕ) (negative : Bool) → value < 2 * ended + 4 → (value == stamp (ended + 1) negative) ≡ false
-below ended value true small = ne_eqb value (2 * (ended + 1) + 3) (λ same. omega (arith, same, small))
-below ended value false small = ne_eqb value (2 * (ended + 1) + 2) (λ same. omega (arith, same, small))
-
-pub next_cube : {ended : ℕ} {begun : List ℤ} {stamps : List ℕ} → AreStamps ended begun stamps → AreStamps (ended + 1) [] stamps
-next_cube {ended} {begun} {stamps} are = record {
-  marks = λ literal some. below ended (slice_index_or stamps (nat_abs literal) 0) (is_negative literal) (are.before (nat_abs literal));
-  before = λ variable. let small = are.before variable in omega (arith, small);
-}
 
 -- and of the other sign too
 signs : (ended : ℕ) (one other : Bool) → one ≡ not other → (stamp ended other == stamp ended one) ≡ false
@@ -140,10 +124,3 @@ one_more {ended} {begun} {stamps} y positive free inside are = record {
         opposite (pos zero) some e = omega (arith, some)
         opposite (pos (suc n)) some e = cc
         opposite (negsuc n) some e = cc
-
--- the stamp of the negation tells whether it stands there
-pub denied : {ended : ℕ} {begun : List ℤ} {stamps : List ℕ} (y : ℤ) → 0 < nat_abs y → AreStamps ended begun stamps
-    → (slice_index_or stamps (nat_abs y) 0 == stamp ended (not (is_negative y))) ≡ is_denied y begun
-denied {ended} {begun} {stamps} y positive are =
-    (λ i. slice_index_or stamps (sym (abs_neg y) i) 0 == stamp ended (sym (sign_neg y positive) i))
-    ∙ are.marks (neg_ℤ y) (omega (arith, positive, abs_neg y))

@@ -5,7 +5,7 @@ use cnf_base::{Cnf, Lit};
 use std::marker::Model;
 
 /// Cubes: in each, literals that are assumed together.
-#[derive(Debug, Drop)]
+#[derive(Drop)]
 pub struct Cubes {
     list: Cnf,
 }

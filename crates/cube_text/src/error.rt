@@ -7,22 +7,17 @@ use text_scan::ScanError;
 use thiserror::Error;
 
 /// What is wrong with a text of cubes. The number of a kind is its place in this list.
-#[derive(Clone, Copy, Debug, PartialEq, Eq, Error)]
+#[derive(Clone, Copy, Debug)]
 pub enum CubeKind {
     /// A token is no signed number.
-    #[error("BadToken")]
     BadToken = 1,
     /// A literal's variable is above V.
-    #[error("LiteralRange")]
     LiteralRange = 2,
     /// A literal's negation stands before it in its cube.
-    #[error("BothSigns")]
     BothSigns = 3,
     /// The text ends in a cube.
-    #[error("NoEndingZero")]
     NoEndingZero = 4,
     /// More than 1,000,000 cubes or 100,000,000 literals.
-    #[error("Limit")]
     Limit = 5,
 }
 
@@ -35,10 +30,10 @@ impl CubeKind {
 }
 
 /// Why no cubes were read. After any of them what was read is given up.
-#[derive(Clone, Copy, Debug, PartialEq, Eq, Error)]
+#[derive(Clone, Copy, Debug, Error)]
 pub enum CubeError {
     /// What is wrong, and the line.
-    #[error("line {1}: {0}")]
+    #[error("line {1}: {0:?}")]
     Refused(CubeKind, u64),
     #[error("a read failed")]
     ReadFault,

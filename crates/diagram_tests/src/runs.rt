@@ -1,4 +1,4 @@
-// Runs of a plan, and trials of it, which end as the runs do.
+// Runs of a plan, also by an opened runner, and trials of it, which end as the runs do.
 ghost use Rattle.std.specs.Prelude.{◌≡◌, length};
 ghost use Rattle.schedule_plan.specs.Limits.{AreLimits};
 ghost use Rattle.schedule_plan.specs.Plan.{IsAdmissible};
@@ -10,20 +10,20 @@ use schedule_plan::{Order, Plan};
 use std::alloc::Global;
 use std::process::Abort;
 use std::test::Fail;
-use term_runner::{Limits, Outcome, run_plan, try_plan};
+use term_runner::{Limits, Outcome, Run, RunError, Runner, run_plan, try_plan};
 
-// A formula, the limits of nodes and of numbers, and how the run and the trial of its clauses' conjunction end, with the last number; of
-// the trial also the moves until half of the numbers were used, and all. The plan has three moves. The first clause of the last row but one
-// is empty; in the last one all are tautologies.
+// A formula, the limits of nodes and of numbers, and how the run, the run of an opened runner and the trial of its clauses' conjunction end,
+// with the last number; of the trial also the moves until half of the numbers were used, and all. The plan has three moves. The first clause
+// of the last row but one is empty; in the last one all are tautologies.
 const RUNS: &str = "\
-p cnf 2 2 1 0 -1 0;2;11;Decided 11/Decided 11, 1 of 2
-p cnf 2 2 1 2 0 -1 0;100;100;Decided 17/Decided 17, 3 of 3
-p cnf 2 2 1 0 -1 0;1;11;NodeLimit 5/NodeLimit 5, 1 of 1
-p cnf 2 2 2 0 1 -2 0;3;100;NodeLimit 13/NodeLimit 13, 2 of 2
-p cnf 2 2 2 0 1 -2 0;100;17;IdLimit 17/IdLimit 17, 1 of 2
-p cnf 2 2 2 0 1 -2 0;100;2;IdLimit 2/IdLimit 2, 0 of 0
-p cnf 2 2 0 1 0;0;100;Decided 3/Decided 3, 0 of 0
-p cnf 2 2 1 -1 0 2 -2 0;0;2;Decided 2/Decided 2, 0 of 0";
+p cnf 2 2 1 0 -1 0;2;11;Decided 11/Decided 11/Decided 11, 1 of 2
+p cnf 2 2 1 2 0 -1 0;100;100;Decided 17/Decided 17/Decided 17, 3 of 3
+p cnf 2 2 1 0 -1 0;1;11;NodeLimit 5/NodeLimit 5/NodeLimit 5, 1 of 1
+p cnf 2 2 2 0 1 -2 0;3;100;NodeLimit 13/NodeLimit 13/NodeLimit 13, 2 of 2
+p cnf 2 2 2 0 1 -2 0;100;17;IdLimit 17/IdLimit 17/IdLimit 17, 1 of 2
+p cnf 2 2 2 0 1 -2 0;100;2;IdLimit 2/IdLimit 2/IdLimit 2, 0 of 0
+p cnf 2 2 0 1 0;0;100;Decided 3/Decided 3/Decided 3, 0 of 0
+p cnf 2 2 1 -1 0 2 -2 0;0;2;Decided 2/Decided 2/Decided 2, 0 of 0";
 
 // What stands in front of a row's first semicolon and behind it.
 fn cut(row: &str) -> Result<(&str, &str), Fail> {
@@ -60,7 +60,17 @@ fn word_of(outcome: &Outcome) -> &'static str {
     }
 }
 
-fn tell_run(
+// How a run ended, and its last number.
+fn tell_end(ran: (NoSink, Result<Run, RunError>), text: &mut String) -> Result<(), Fail> {
+    let (_, ran) = ran;
+    let run = ran?;
+    let (end, last) = (word_of(&run.outcome), run.last_id);
+    write!(text, "{end} {last}/")?;
+    Ok(())
+}
+
+// The same of a runner that is opened for the plan.
+fn tell_opened(
     formula: &Cnf,
     order: &Order,
     plan: &Plan,
@@ -72,11 +82,10 @@ fn tell_run(
     requires plan { IsAdmissible formula.now plan.now }
     requires limits { AreLimits limits }
 {
-    let (_, ran) = run_plan(alloc, formula, order, plan, limits, NoSink);
-    let run = ran?;
-    let (end, last) = (word_of(&run.outcome), run.last_id);
-    write!(text, "{end} {last}/")?;
-    Ok(())
+    match Runner::open(alloc, formula, order, limits, NoSink) {
+        Ok(runner) => tell_end(runner.run(plan), text),
+        Err((_, e)) => Err(e)?,
+    }
 }
 
 fn tell_trial(
@@ -106,7 +115,11 @@ fn tell(alloc: Global, formula: &Cnf, limits: Limits, text: &mut String) -> Resu
         return Err(Fail::from("no order"));
     }
     let plan = Plan::conjoin(alloc, formula)?;
-    tell_run(formula, &order, &plan, limits, alloc, text)?;
+    tell_end(
+        run_plan(alloc, formula, &order, &plan, limits, NoSink),
+        text,
+    )?;
+    tell_opened(formula, &order, &plan, limits, alloc, text)?;
     tell_trial(formula, &order, &plan, limits, alloc, text)
 }
 

@@ -161,10 +161,3 @@ began_answers r (Refused kind line) text Good r_is began = rw r_is began
 began_answers r TooLong text Good r_is began = rw r_is began
 began_answers r ReadFault text Good r_is began = rw r_is tt
 began_answers r OutOfMemory text Good r_is began = absurd began
-
-pub began_undecided : (r : Result Formula CnfError) (e : CnfError) (old new : Scan) (text : List ℕ → CnfText) (bytes : List ℕ) → r ≡ Err e
-    → r ≡ Err ReadFault → BeginsSoFar (Err e) old new text bytes → text bytes ≡ overlong
-began_undecided r (Refused kind line) old new text bytes r_is failed began = let same = sym r_is ∙ failed in cc
-began_undecided r TooLong old new text bytes r_is failed began = let same = sym r_is ∙ failed in cc
-began_undecided r ReadFault old new text bytes r_is failed began = began.1
-began_undecided r OutOfMemory old new text bytes r_is failed began = let same = sym r_is ∙ failed in cc

@@ -28,7 +28,7 @@ const MAX_LITERALS: u32 = 100_000_000;
 pub(crate) const MAX_CLAUSES: u32 = 10_000_000;
 
 /// What was read of the body. In contracts it is the mode, the number of clauses that the header announces, and the draft.
-#[derive(Debug, Drop)]
+#[derive(Drop)]
 pub struct Body {
     builder: CnfBuilder,
     mode: Mode,

@@ -7,31 +7,23 @@ use text_scan::ScanError;
 use thiserror::Error;
 
 /// What is wrong with a text. The number of a kind is its place in this list.
-#[derive(Clone, Copy, Debug, PartialEq, Eq, Error)]
+#[derive(Clone, Copy, Debug)]
 pub enum CnfKind {
     /// The first token isn't `p`, or there is none.
-    #[error("NoHeader")]
     NoHeader = 1,
     /// `cnf` or one of the two numbers is missing or none.
-    #[error("BadHeader")]
     BadHeader = 2,
     /// A token is no signed number.
-    #[error("BadToken")]
     BadToken = 3,
     /// A literal's variable is above V.
-    #[error("LiteralRange")]
     LiteralRange = 4,
     /// A number stands after the last clause.
-    #[error("TooManyClauses")]
     TooManyClauses = 5,
     /// The text ends before the last clause.
-    #[error("ClauseMissing")]
     ClauseMissing = 6,
     /// The text ends in a clause.
-    #[error("NoEndingZero")]
     NoEndingZero = 7,
     /// More than 1,000,000 variables, 10,000,000 clauses or 100,000,000 literals.
-    #[error("Limit")]
     Limit = 8,
 }
 
@@ -44,10 +36,10 @@ impl CnfKind {
 }
 
 /// Why no formula was read. After any of them what was read is given up.
-#[derive(Clone, Copy, Debug, PartialEq, Eq, Error)]
+#[derive(Clone, Copy, Debug, Error)]
 pub enum CnfError {
     /// What is wrong, and the line.
-    #[error("line {1}: {0}")]
+    #[error("line {1}: {0:?}")]
     Refused(CnfKind, u64),
     #[error("a read failed")]
     ReadFault,

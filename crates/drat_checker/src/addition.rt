@@ -25,7 +25,7 @@ use drat_rules::{propagation_law, quiet_law};
 use lrat_rules::Reason;
 
 /// How propagation came to a conflict.
-#[derive(Clone, Copy, Debug)]
+#[derive(Clone, Copy)]
 pub enum Refutation {
     /// The negation of this literal, one of those that are assumed, is false.
     Clash(Lit),

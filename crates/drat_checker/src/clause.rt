@@ -6,7 +6,7 @@ use std::alloc::Global;
 use std::marker::Model;
 
 /// A clause that stands.
-#[derive(Debug, Drop)]
+#[derive(Drop)]
 pub struct Clause {
     literals: Vec<Lit>,
 }

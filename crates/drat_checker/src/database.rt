@@ -20,7 +20,7 @@ use std::alloc::Global;
 use std::marker::Model;
 
 /// The clauses that stand.
-#[derive(Debug, Drop)]
+#[derive(Drop)]
 pub struct Database {
     alloc: Global,
     store: Store,

@@ -12,7 +12,6 @@ use crate::flags::Flags;
 use cnf_base::{Lit, OutOfMemory};
 use lrat_rules::Effect;
 use std::alloc::Global;
-use std::fmt;
 use std::marker::Model;
 
 /// Literals, each once, in the order in which they came, none beside its negation.
@@ -139,12 +138,6 @@ impl FalseList {
         ensures { IsApart self.now.literals }
     {
         let _len = self.literals.len();
-    }
-}
-
-impl fmt::Debug for FalseList {
-    fn fmt<W: fmt::Write>(&self, f: &mut fmt::Formatter<W>) -> fmt::Result {
-        f.debug_list().entries(&self.literals).finish()
     }
 }
 

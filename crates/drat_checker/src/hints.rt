@@ -17,7 +17,7 @@ use crate::order::Order;
 use cnf_base::{Id, IdList, Lit, OutOfMemory};
 
 /// A clause whose literals are all false or assumed, and how many literals of the trail it takes for that.
-#[derive(Clone, Copy, Debug)]
+#[derive(Clone, Copy)]
 pub struct FirstConflict {
     pub number: u32,
     pub count: usize,

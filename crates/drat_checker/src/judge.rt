@@ -16,7 +16,7 @@ use std::alloc::Global;
 use std::marker::Model;
 
 /// Judges the steps of a DRAT proof in turn, from a formula's clauses on.
-#[derive(Debug, Drop)]
+#[derive(Drop)]
 pub struct DratJudge {
     judge: NumberedJudge,
     line: LineHints,

@@ -24,7 +24,7 @@ use std::alloc::Global;
 use std::mem;
 
 /// The hints and groups of a line, and the memory in which they are found. Nothing is found where they aren't wanted.
-#[derive(Debug, Drop)]
+#[derive(Drop)]
 pub struct LineHints {
     alloc: Global,
     is_wanted: bool,

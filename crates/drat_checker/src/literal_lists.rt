@@ -16,7 +16,7 @@ use std::mem;
 const NEAR_PLACES: u64 = 1_048_576;
 
 /// A list of clause numbers for each literal.
-#[derive(Debug, Drop)]
+#[derive(Drop)]
 pub struct LiteralLists {
     near: Vec<Numbers>,
     far: NumberLists,

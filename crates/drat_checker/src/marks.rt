@@ -9,7 +9,6 @@ use crate::false_list::clear_all;
 use crate::flags::Flags;
 use cnf_base::{Lit, OutOfMemory};
 use std::alloc::Global;
-use std::fmt;
 use std::marker::Model;
 
 /// A set of literals.
@@ -85,12 +84,6 @@ impl Marks {
     {
         clear_all(&mut self.flags, self.literals.as_slice());
         self.literals.clear();
-    }
-}
-
-impl fmt::Debug for Marks {
-    fn fmt<W: fmt::Write>(&self, f: &mut fmt::Formatter<W>) -> fmt::Result {
-        f.debug_list().entries(&self.literals).finish()
     }
 }
 

@@ -8,7 +8,6 @@ use crate::store::Store;
 use cnf_base::OutOfMemory;
 use std::alloc::Global;
 use std::collections::HashMap;
-use std::fmt;
 
 /// A list of clause numbers for each key.
 #[derive(Drop)]
@@ -82,13 +81,5 @@ impl NumberLists {
             None => false,
             Some(numbers) => numbers.leave(store),
         }
-    }
-}
-
-impl fmt::Debug for NumberLists {
-    fn fmt<W: fmt::Write>(&self, f: &mut fmt::Formatter<W>) -> fmt::Result {
-        f.debug_struct("NumberLists")
-            .field("keys", &self.lists.len())
-            .finish()
     }
 }

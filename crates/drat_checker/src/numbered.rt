@@ -22,7 +22,7 @@ use std::alloc::Global;
 use std::marker::Model;
 
 /// Judges additions and deletions in turn, from a formula's clauses on, which have the numbers from 0 on; an addition gets the next one.
-#[derive(Debug, Drop)]
+#[derive(Drop)]
 pub struct NumberedJudge {
     db: Database,
     kept: Watches,

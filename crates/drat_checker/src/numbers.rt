@@ -9,7 +9,7 @@ use std::alloc::Global;
 use std::marker::Model;
 
 /// Numbers of clauses, some of which stand no more. How many serves only to drop them in time.
-#[derive(Debug, Drop)]
+#[derive(Drop)]
 pub struct Numbers {
     numbers: Vec<u32>,
     gone: usize,

@@ -11,7 +11,7 @@ use std::alloc::Global;
 const ENOUGH: u32 = 8;
 
 /// Places of a trail, and where each literal was seen last.
-#[derive(Debug, Drop)]
+#[derive(Drop)]
 pub struct Order {
     pub places: Vec<usize>,
     /// the literals at those places that are explained

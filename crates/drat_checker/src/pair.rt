@@ -2,7 +2,7 @@
 use cnf_base::Lit;
 
 /// Two literals.
-#[derive(Clone, Copy, Debug)]
+#[derive(Clone, Copy)]
 pub struct Pair {
     pub first: Lit,
     pub second: Lit,

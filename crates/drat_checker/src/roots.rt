@@ -18,7 +18,7 @@ use drat_rules::{propagation_law, quiet_law};
 use lrat_rules::Effect;
 
 /// What is known of the roots.
-#[derive(Clone, Copy, Debug)]
+#[derive(Clone, Copy)]
 pub enum Roots {
     /// nothing, not even that the clauses are watched
     Lost,

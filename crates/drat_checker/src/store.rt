@@ -11,7 +11,7 @@ use std::marker::Model;
 use std::mem;
 
 /// Clauses by number, from 0.
-#[derive(Debug, Drop)]
+#[derive(Drop)]
 pub struct Store {
     alloc: Global,
     places: Vec<Option<Clause>>,

@@ -78,11 +78,32 @@ pub fn check_drat_by<S: Source>(
     ensures beside { S.beside source.new ≡ S.beside source.old }
 {
     let mut judge = DratJudge::open(alloc, formula)?;
+    judge_text(alloc, &mut judge, deletions, source)
+}
+
+// The same over the clauses that a judge has.
+fn judge_text<S: Source>(
+    alloc: Global,
+    judge: &mut DratJudge,
+    deletions: Deletions,
+    source: &mut S,
+) -> Result<Verdict, CheckError>
+    ensures decides { IsTrue S.tells → Decides (S.channel source.old) (S.channel source.new)
+        (λ bytes more. Answers result (drat_text_verdict_by (equality_of deletions) judge.old bytes)) }
+    ensures undecided { IsTrue S.tells → result ≡ Err ReadFault →
+        drat_verdict_so_far_by (equality_of deletions) judge.old (gained (S.channel source.old) (S.channel source.new)) ≡ None }
+    ensures fault { result ≡ Err ReadFault → Rose (S.channel source.old).faults (S.channel source.new).faults }
+    ensures unfailed { result ≢ Err ReadFault → (S.channel source.new).faults ≡ (S.channel source.old).faults }
+    ensures wants { IsTrue S.tells → result ≡ Err OutOfMemory → Decides (S.channel source.old) (S.channel source.new)
+        (λ bytes more. IsTrue (drat_check_may_want_memory_by (equality_of deletions) judge.old (length more) bytes)) }
+    ensures reads { OnlyReads (S.channel source.old) (S.channel source.new) }
+    ensures beside { S.beside source.new ≡ S.beside source.old }
+{
     let mut reader = DratReader::new(alloc, MAX_BYTES);
     let mut step = DratStep::Delete {
         lits: LitList::new(alloc),
     };
-    judge_steps(&mut judge, deletions, &mut reader, &mut step, source)
+    judge_steps(judge, deletions, &mut reader, &mut step, source)
 }
 
 // Judges the steps that the reader still gives, each in the same place.

@@ -31,7 +31,7 @@ use lrat_rules::Effect;
 use std::alloc::Global;
 
 /// What is watched, by number, and who watches, by literal.
-#[derive(Debug, Drop)]
+#[derive(Drop)]
 pub struct Watches {
     alloc: Global,
     pairs: Vec<Option<Pair>>,

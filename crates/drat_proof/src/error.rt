@@ -8,7 +8,7 @@ use lrat_checker::CheckError;
 use thiserror::Error;
 
 /// Why there is no verdict.
-#[derive(Clone, Copy, Debug, PartialEq, Eq, Error)]
+#[derive(Clone, Copy, Debug, Error)]
 pub enum ConvertError {
     #[error("a read failed")]
     ReadFault,

@@ -167,9 +167,3 @@ pub all-known : (vars : ℕ) (clauses : List (List ℤ)) (names : Names) → Are
     → list_all (list_all (known_literal vars names)) clauses ≡ true
 all-known vars clauses names are =
     known-lists vars names clauses (λ v past. let is : names.uses v ≡ held v clauses = are.counted v past in omega arith)
-
-pub clause-known : (vars : ℕ) (names : Names) (clause : List ℤ)
-    → list_all (known_literal vars (all_entered vars names clause)) clause ≡ true
-clause-known vars names clause = known-list vars (all_entered vars names clause) clause (λ v past.
-    let now : (all_entered vars names clause).uses v ≡ names.uses v + held_in v clause = uses-entered vars names clause v in
-    omega arith)

@@ -1,6 +1,6 @@
 -- What a step costs in numbers: a try half of a move's price at most, so two tries no more than the price.
-use Rattle.std.proofs.Common.{◌≡◌, ◌⊎◌, ◌∙◌, ◌<◌, ◌≤◌, ◌+◌, ◌*◌, ℕ, zero, suc, Bool, true, List, [], ◌∷◌, Contains, Option, None}
-use Rattle.std.proofs.Common.{Some, Ok, Err, Result}
+use Rattle.std.proofs.Common.{◌≡◌, ◌⊎◌, ◌∙◌, ◌<◌, ◌≤◌, ◌+◌, ◌*◌, ℕ, zero, suc, Bool, true, List, [], ◌∷◌, Contains, Option}
+use Rattle.std.proofs.Common.{Ok, Result}
 use Rattle.std.proofs.Common.{length, get_or, refl, sym, ap, subst, arith, inl, inr}
 use Rattle.cnf_base.specs.Truth.{Assignment}
 use Rattle.node_table.specs.declared.error.TableError.{TableError}
@@ -121,14 +121,6 @@ module _ {S : Type 0} (counting : Counting S) (growth : Growth) (steps : StepByS
 
   both_paid : (most : ℕ) → AddsAtMost most mid.terms.table new.terms.table → AddsAtMost most old.terms.table new.terms.table
   both_paid most adds = omega (arith, none, adds)
-
-  same_error : error_of (some_or always result) ≡ error_of result
-  same_error = by_result result
-    where
-      by_result : (r : Result (Option Term) TableError) → error_of (some_or always r) ≡ error_of r
-      by_result (Ok None) = refl
-      by_result (Ok (Some term)) = refl
-      by_result (Err error) = refl
 
   pub half_paid_both : 2 * new.terms.table.book.state.top ≤ 2 * old.terms.table.book.state.top + price
   half_paid_both = counting.price (function ∷ []) width size price old.terms.table new.terms.table (error_of (some_or always result))

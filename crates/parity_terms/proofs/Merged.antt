@@ -12,10 +12,6 @@ nothing_first : (b : Bool) → exclusive_or false b ≡ b
 nothing_first true = refl
 nothing_first false = refl
 
-nothing_last : (b : Bool) → exclusive_or b false ≡ b
-nothing_last true = refl
-nothing_last false = refl
-
 grouped : (a b c : Bool) → exclusive_or (exclusive_or a b) c ≡ exclusive_or a (exclusive_or b c)
 grouped true true true = refl
 grouped true true false = refl
@@ -31,10 +27,6 @@ turned true true = refl
 turned true false = refl
 turned false true = refl
 turned false false = refl
-
-itself : (a : Bool) → exclusive_or a a ≡ false
-itself true = refl
-itself false = refl
 
 pub odd_append : (front behind : List ℕ) (a : Assignment)
     → odd_over (front ++ behind) a ≡ exclusive_or (odd_over front a) (odd_over behind a)

@@ -1,5 +1,5 @@
 -- There are no more essential parts than numbers for them; those of several functions have numbers behind one another.
-use Rattle.std.proofs.Common.{◌≡◌, ◌⊎◌, ◌<◌, ◌≤◌, ◌+◌, ◌*◌, ℕ, zero, suc, Bool, true, false, List, [], ◌∷◌, Contains, length, refl}
+use Rattle.std.proofs.Common.{◌≡◌, ◌⊎◌, ◌<◌, ◌≤◌, ◌+◌, ℕ, zero, suc, Bool, true, false, List, [], ◌∷◌, length, refl}
 use Rattle.std.proofs.Common.{sym, ap}
 use Rattle.std.proofs.Common.{subst, arith, inl, inr, ne_eqb, get_or}
 use Rattle.std.specs.Prelude.{nat_eq}
@@ -7,7 +7,6 @@ use Rattle.std.specs.List.{AllByRecursion, IsDistinct, list_any}
 use Rattle.std.proofs.lemmas.Bool.{eqb-true, or_cases}
 use Rattle.std.proofs.lemmas.Map.Keys.{IsDistinct-cons}
 use Rattle.std.proofs.lemmas.Map.Steps.{length-le_from_distinct_below}
-use Rattle.std.proofs.Math.Nat.{add-mul, one-mul}
 use Rattle.node_table.specs.Value.{IsSubfunction, Levels}
 use Rattle.term_runner.specs.Counting.{IsPartOfOne}
 use Rattle.term_runner.specs.Width.{AreMore, IsEssential, part_at}
@@ -155,16 +154,3 @@ one_more f rest m n first others =
 pub numbered_same : (f g : Levels → Bool) (bound : ℕ) → ((a : Levels) → f a ≡ g a) → AreNumbered (IsSubfunction f) bound
     → AreNumbered (IsSubfunction g) bound
 numbered_same f g bound same numbered = subst (λ (h : Levels → Bool). AreNumbered (IsSubfunction h) bound) (λ i a. same a i) numbered
-
--- the functions of a list, each with so many parts
-abbrev pub AreEachNumbered : List (Levels → Bool) → ℕ → Type 0
-AreEachNumbered functions bound = (f : Levels → Bool) → Contains functions f → AreNumbered (IsSubfunction f) bound
-
-pub all_numbered : (functions : List (Levels → Bool)) (bound : ℕ) → AreEachNumbered functions bound
-    → AreNumbered (IsPartOfOne functions) (length functions * bound)
-all_numbered [] bound each = at_most (IsPartOfOne []) 0 (0 * bound) (omega arith) none_numbered
-all_numbered (f ∷ rest) bound each =
-    let more = all_numbered rest bound (λ g there. each g (suc there.0, let small = there.1 in omega (arith, small), there.2)) in
-    at_most (IsPartOfOne (f ∷ rest)) (bound + length rest * bound) (length (f ∷ rest) * bound)
-    (omega (arith, add-mul (length rest) 1 bound, one-mul bound))
-    (one_more f rest bound (length rest * bound) (each f (zero, omega arith, refl)) more)

@@ -1,5 +1,5 @@
 -- Two equations with one first variable: what is left of each, and the sum of these.
-use Rattle.std.proofs.Common.{◌≡◌, ◌∙◌, ◌≤◌, ◌+◌, ◌-◌, ◌&&◌, ℕ, true, List, [], ◌∷◌, length, drop, take, sym, ap, subst}
+use Rattle.std.proofs.Common.{◌≡◌, ◌∙◌, ◌+◌, ◌-◌, ◌&&◌, ℕ, true, List, [], ◌∷◌, length, drop, take, sym, ap, subst}
 use Rattle.std.proofs.Common.{arith}
 use Rattle.std.proofs.lemmas.List.{take_all}
 use Rattle.cnf_base.specs.Truth.{Assignment}
@@ -39,12 +39,6 @@ different_of places row current sum one other slice is_row is_current is_sum dif
     subst (λ (l : List ℕ). AreDifferent places (rest_of row) (rest_of current) l) (sym is_sum)
     (subst (λ (l : List ℕ). AreDifferent places (rest_of row) (rest_of l) sum) is_current
     (subst (λ (l : List ℕ). AreDifferent places (rest_of l) (rest_of other) sum) is_row different))
-
--- there is a first one
-pub some_first : (row current : List ℕ) → HaveSameFirst row current → (1 ≤ length row) × (1 ≤ length current)
-some_first [] current same = absurd same
-some_first (u ∷ us) [] same = absurd same
-some_first (u ∷ us) (v ∷ vs) same = (omega arith, omega arith)
 
 behind_first : (places : List ℕ) (low : ℕ) (list : List ℕ) (first : ℕ) (rest : List ℕ) → list ≡ first ∷ rest → AreInOrder places low list
     → AreInOrder places (low + 1) rest

@@ -17,9 +17,6 @@ moves_fewer start last few many price less first =
 pub one_move : (start last price : ℕ) → last ≤ start + price → last ≤ start + 1 * price
 one_move start last price first = omega (arith, first, one-mul price)
 
-pub no_move : (start last price : ℕ) → last ≤ start → last ≤ start + 0 * price
-no_move start last price first = omega (arith, first)
-
 -- the parts of one equation more
 module _ {X : Type 0} (own : X → List ℕ) where
   pub joined_more : (list : List X) (i : ℕ) (d : X) → i < length list

@@ -18,7 +18,7 @@ use term_runner::TrialEnd;
 const MOST_TRIALS: u32 = 180;
 
 /// An order of the diagrams, and the bucket plan of an order.
-#[derive(Debug, Drop)]
+#[derive(Drop)]
 pub struct FoundPlan {
     pub order: Order,
     pub plan: Plan,

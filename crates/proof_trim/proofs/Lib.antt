@@ -4,6 +4,7 @@ pub mod Entered
 pub mod Piles
 pub mod Rows
 pub mod Pairs
+pub mod Buffer
 pub mod Pushed
 pub mod Spelled
 pub mod Moved

@@ -14,6 +14,19 @@ pair_more n great fits =
     let c : n % 10 ≡ n % 100 % 10 = omega arith in
     rw (decimal_step n (omega arith) fits, decimal_step (n / 10) (omega arith) (omega arith), append_assoc, a, b, ← c)
 
+-- four digits more
+pub four_more : (n : ℕ) → 10000 ≤ n → n < 2 ^ 64 → decimal n ≡ decimal (n / 10000)
+    ++ (48 + n % 10000 / 100 / 10) ∷ (48 + n % 10000 / 100 % 10) ∷ (48 + n % 10000 % 100 / 10) ∷ (48 + n % 10000 % 100 % 10) ∷ []
+four_more n great fits =
+    let a : n / 100 / 100 ≡ n / 10000 = omega arith in
+    let b : n / 100 % 100 ≡ n % 10000 / 100 = omega arith in
+    let c : n % 100 ≡ n % 10000 % 100 = omega arith in
+    pair_more n (omega arith) fits
+    ∙ ap (λ (l : List ℕ). l ++ (48 + n % 100 / 10) ∷ (48 + n % 100 % 10) ∷ []) (pair_more (n / 100) (omega arith) (omega arith))
+    ∙ append_assoc (decimal (n / 100 / 100)) ((48 + n / 100 % 100 / 10) ∷ (48 + n / 100 % 100 % 10) ∷ [])
+    ((48 + n % 100 / 10) ∷ (48 + n % 100 % 10) ∷ [])
+    ∙ (λ i. decimal (a i) ++ (48 + b i / 10) ∷ (48 + b i % 10) ∷ (48 + c i / 10) ∷ (48 + c i % 10) ∷ [])
+
 pub one_digit : (n : ℕ) → n < 10 → length (decimal n) ≡ 1
 one_digit n small = ap length (decimal_digit n small)
 
@@ -22,6 +35,9 @@ two_digits n great small = ap length (pair_alone n great small)
 
 pub two_more : (n : ℕ) → 100 ≤ n → n < 2 ^ 64 → length (decimal n) ≡ length (decimal (n / 100)) + 2
 two_more n great fits = ap length (pair_more n great fits) ∙ length-append _ _
+
+pub four_longer : (n : ℕ) → 10000 ≤ n → n < 2 ^ 64 → length (decimal n) ≡ length (decimal (n / 10000)) + 4
+four_longer n great fits = ap length (four_more n great fits) ∙ length-append _ _
 
 pub at_most_twenty : (n : ℕ) → n < 2 ^ 64 → length (decimal n) ≤ 20
 at_most_twenty n fits = length-decimal-le 20 n (omega arith) (omega arith) fits

@@ -1,5 +1,8 @@
 -- The text of steps on a stack of numbers, of which the first one is on top: what each number gives, by where it comes.
-use Rattle.std.specs.Prelude.{ℕ, Bool, true, false, List, [], ◌∷◌, ◌++◌, decimal, nat_eq, if◌then◌else◌}
+use Rattle.std.specs.Prelude.{◌≡◌, ℕ, Bool, true, false, List, [], ◌∷◌, ◌++◌, decimal, nat_eq, if◌then◌else◌, Result, IsOk, ⊤}
+use Rattle.host_io.specs.Channel.{Channel}
+use Rattle.host_io.specs.Emitted.{Emits}
+use Rattle.host_io.specs.declared.source.Failed.{Failed}
 use Rattle.proof_trim.specs.Packed.{code_text, number_of}
 use Rattle.proof_trim.specs.declared.place.Place.{Place}
 use Rattle.proof_trim.specs.declared.place.Place.TheVariants.{Between, Own, Clause, Hints, Deleted}
@@ -35,3 +38,23 @@ abbrev pub text_from : (ℕ → Bool) → Place → List ℕ → List ℕ
 text_from there place [] = []
 text_from there place (number ∷ numbers) =
     part_at place number (there (number_of number)) ++ text_from there (next_place place number (there (number_of number))) numbers
+
+-- in a clause, or in hints
+abbrev pub IsOfCodes : Place → Type 0
+IsOfCodes Between = ⊥
+IsOfCodes (Own kind) = ⊥
+IsOfCodes Clause = ⊤
+IsOfCodes Hints = ⊤
+IsOfCodes (Deleted id begun) = ⊥
+
+-- where the next number comes behind the 0 that ends these codes
+abbrev pub behind_codes_at : Place → Place
+behind_codes_at place = next_place place 0 false
+
+-- A front of a text was emitted; where the call succeeds, all but what comes next.
+pub record Puts (tells : Bool) (old new : Channel) (held after whole next : List ℕ) (result : Result (Unit {0}) Failed) : Type 0 where
+  pub text : List ℕ
+  pub rest : List ℕ
+  pub emits : Emits tells old new held after text result
+  pub parts : text ++ rest ≡ whole
+  pub left : IsOk result → rest ≡ next

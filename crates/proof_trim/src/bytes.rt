@@ -1,5 +1,5 @@
 // Bytes as a stack, in chunks: what is taken off gives its memory back, and no growth copies more than a chunk.
-ghost use Rattle.std.specs.Prelude.{◌≡◌, ◌<◌, ◌^◌, ℕ, List, [], ◌∷◌, ◌++◌, IfSome, IfNone, IsFalse, IsTrue, OnOk, length, reverse};
+ghost use Rattle.std.specs.Prelude.{◌≡◌, ◌<◌, ◌^◌, ℕ, List, [], ◌∷◌, ◌++◌, IfOk, IfSome, IfNone, IsFalse, IsTrue, OnOk, length, reverse};
 ghost use Rattle.proof_trim.specs.Row.{behind_taken, numbers, stacked};
 
 use crate::digits::{Taken, put_digits, take_digits};
@@ -15,7 +15,7 @@ const CHUNK: usize = 65536;
 const NOT_SHORT: u64 = 268_435_456;
 
 /// Bytes in the order in which they came.
-#[derive(Debug, Drop)]
+#[derive(Drop)]
 pub struct Chunk {
     bytes: Vec<u8>,
 }
@@ -35,6 +35,14 @@ impl Chunk {
         Chunk {
             bytes: Vec::new(alloc),
         }
+    }
+
+    // The same with room for a full chunk, so that it need not grow.
+    fn roomy(alloc: Global) -> Result<Chunk, OutOfMemory>
+        ensures { IfOk result (λ chunk. chunk ≡ []) }
+    {
+        let bytes = Vec::with_capacity(alloc, CHUNK)?;
+        Ok(Chunk { bytes })
     }
 
     fn len(&self) -> usize
@@ -81,7 +89,7 @@ impl Chunk {
 }
 
 /// Bytes, of which the last that came is the first of the list, and comes off first.
-#[derive(Debug, Drop)]
+#[derive(Drop)]
 pub struct ByteStack {
     alloc: Global,
     full: Vec<Chunk>,
@@ -183,7 +191,8 @@ fn make_room(alloc: Global, full: &mut Vec<Chunk>, last: &mut Chunk) -> Result<(
     if last.len() < CHUNK {
         return Ok(());
     }
-    let chunk = mem::replace(last, Chunk::new(alloc));
+    let next = Chunk::roomy(alloc)?;
+    let chunk = mem::replace(last, next);
     full.push(chunk)?;
     Ok(())
 }

@@ -15,7 +15,7 @@ use std::alloc::Global;
 use std::marker::Model;
 
 /// The numbers of clauses that a refutation needs, in little memory; seen as their text.
-#[derive(Debug, Drop)]
+#[derive(Drop)]
 pub struct Core {
     row: Row,
 }

@@ -15,7 +15,7 @@ use lrat_rules::Reason;
 use std::alloc::Global;
 
 /// What was cut of a proof so far: its steps up to the end, on a stack of which the last one is on top, and how many additions it has.
-#[derive(Debug, Drop)]
+#[derive(Drop)]
 pub struct CutProof {
     pub steps: Row,
     pub total: u64,

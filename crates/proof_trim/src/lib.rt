@@ -9,6 +9,7 @@ mod cutting;
 mod decimals;
 mod digits;
 mod laws;
+mod line_buffer;
 mod lines;
 mod numbers;
 mod packed;

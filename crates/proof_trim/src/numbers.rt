@@ -9,7 +9,6 @@ ghost use Rattle.proof_trim.specs.Trimmed.{is_there};
 use cnf_base::{Id, OutOfMemory};
 use std::alloc::Global;
 use std::collections::HashMap;
-use std::fmt;
 
 // The words below this one stand in the list.
 const NEAR_WORDS: u64 = 2_097_152;
@@ -32,6 +31,7 @@ impl Numbers {
         }
     }
 
+    #[inline(always)]
     pub fn has(&self, id: Id) -> bool
         ensures { result ≡ has self.now id }
     {
@@ -39,6 +39,7 @@ impl Numbers {
     }
 
     /// One more number.
+    #[inline(always)]
     pub fn enter(&mut self, id: Id) -> Result<(), OutOfMemory>
         ensures { OnOk result ((other : ℕ) → has self.new other ≡ (nat_eq other id || has self.old other)) }
     {
@@ -48,6 +49,7 @@ impl Numbers {
     }
 
     // The word of 64 numbers.
+    #[inline(always)]
     fn word(&self, page: u64) -> u64
         ensures { result ≡ word_at self.now page }
     {
@@ -58,6 +60,7 @@ impl Numbers {
         }
     }
 
+    #[inline(always)]
     fn enter_bit(&mut self, page: u64, place: u64) -> Result<(), OutOfMemory>
         requires fits { place < 64 }
         ensures others { OnOk result ((other : ℕ) → nat_eq other page ≡ false → word_at self.new other ≡ word_at self.old other) }
@@ -72,6 +75,7 @@ impl Numbers {
     }
 }
 
+#[inline(always)]
 fn enter_near(near: &mut Vec<u64>, page: usize, place: u64) -> Result<(), OutOfMemory>
     requires fits { place < 64 }
     requires near { page < 2097152 }
@@ -85,6 +89,7 @@ fn enter_near(near: &mut Vec<u64>, page: usize, place: u64) -> Result<(), OutOfM
 }
 
 // Has the list reach to the word, in blocks of 1024.
+#[inline(always)]
 fn reach(near: &mut Vec<u64>, page: usize) -> Result<(), OutOfMemory>
     requires near { page < 2097152 }
     ensures same { (other : ℕ) → near_word near.new.items other ≡ near_word near.old.items other }
@@ -96,6 +101,7 @@ fn reach(near: &mut Vec<u64>, page: usize) -> Result<(), OutOfMemory>
     Ok(())
 }
 
+#[inline(always)]
 fn is_set(word: u64, place: u64) -> bool
     requires { place < 64 }
     ensures { result ≡ is_set word place }
@@ -103,6 +109,7 @@ fn is_set(word: u64, place: u64) -> bool
     (word >> place) % 2 == 1
 }
 
+#[inline(always)]
 fn with_bit(word: u64, place: u64) -> u64
     requires { place < 64 }
     ensures { result ≡ bit_or word (2 ^ place) }
@@ -112,18 +119,10 @@ fn with_bit(word: u64, place: u64) -> u64
 
 impl Numbers {
     /// Whether the number is the formula's, which has so many clauses, or one of these.
+    #[inline(always)]
     pub fn is_there(&self, count: u64, id: Id) -> bool
         ensures { result ≡ is_there count (has self.now) id }
     {
         id.get() <= count || self.has(id)
-    }
-}
-
-impl fmt::Debug for Numbers {
-    fn fmt<W: fmt::Write>(&self, f: &mut fmt::Formatter<W>) -> fmt::Result {
-        f.debug_struct("Numbers")
-            .field("near", &self.near.len())
-            .field("far", &self.far.len())
-            .finish()
     }
 }

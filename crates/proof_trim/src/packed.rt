@@ -67,6 +67,7 @@ pub fn push_deletion(row: &mut Row, id: Id, ids: &[Id]) -> Result<(), OutOfMemor
 }
 
 /// Puts a kind and an own number on top of codes.
+#[inline(always)]
 pub fn push_head(row: &mut Row, kind: u64, id: Id) -> Result<(), OutOfMemory>
     ensures { OnOk result (row.new ≡ kind ∷ id ∷ row.old) }
 {
@@ -99,6 +100,7 @@ fn push_hints(row: &mut Row, hints: &[Id]) -> Result<(), OutOfMemory>
     Ok(())
 }
 
+#[inline(always)]
 fn push_literal(row: &mut Row, literal: Lit) -> Result<(), OutOfMemory>
     ensures { OnOk result (row.new ≡ literal_code literal ∷ row.old) }
 {
@@ -106,6 +108,7 @@ fn push_literal(row: &mut Row, literal: Lit) -> Result<(), OutOfMemory>
     Ok(())
 }
 
+#[inline(always)]
 fn push_hint(row: &mut Row, id: Id) -> Result<(), OutOfMemory>
     ensures { OnOk result (row.new ≡ hint_code id ∷ row.old) }
 {
@@ -139,6 +142,7 @@ fn push_group(row: &mut Row, group: &Group, count: usize) -> Result<(), OutOfMem
     Ok(())
 }
 
+#[inline(always)]
 fn push_code(row: &mut Row, number: u64, minus: bool) -> Result<(), OutOfMemory>
     ensures { OnOk result (row.new ≡ code_of number minus ∷ row.old) }
 {

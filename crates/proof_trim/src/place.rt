@@ -1,7 +1,7 @@
 // Where in the text of packed steps a number comes.
 
 /// Where a number comes.
-#[derive(Clone, Copy, Debug, PartialEq, Eq)]
+#[derive(Clone, Copy)]
 pub enum Place {
     /// Between two lines: a kind.
     Between,

@@ -10,7 +10,7 @@ use std::alloc::Global;
 use std::marker::Model;
 
 /// Numbers, of which the last that came is the first of the list, and comes off first.
-#[derive(Debug, Drop)]
+#[derive(Drop)]
 pub struct Row {
     bytes: ByteStack,
 }

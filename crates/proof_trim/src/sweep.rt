@@ -16,7 +16,7 @@ use cnf_base::{Id, OutOfMemory};
 use std::alloc::Global;
 
 /// The steps that are kept, the first one on top, and how many of them are additions.
-#[derive(Debug, Drop)]
+#[derive(Drop)]
 pub struct Kept {
     pub row: Row,
     pub additions: u64,
@@ -66,6 +66,7 @@ fn sweep_step(
 }
 
 // Whether an addition is kept: it is of the empty clause, or is needed.
+#[inline(always)]
 fn is_needed(kind: u64, id: Id, numbers: &Numbers) -> bool
     ensures { result ≡ (nat_eq kind 2 || has numbers.now id) }
 {
@@ -120,6 +121,7 @@ fn count(additions: &mut u64) -> Result<(), OutOfMemory>
 }
 
 // The next number, 0 behind the last one.
+#[inline(always)]
 fn next(row: &mut Row) -> u64
     ensures number { result ≡ first_of row.old }
     ensures left { row.new ≡ drop 1 row.old }

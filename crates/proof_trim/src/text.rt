@@ -27,7 +27,7 @@ use std::alloc::Global;
 use text_scan::MAX_BYTES;
 
 /// What becomes of a proof.
-#[derive(Debug, Drop)]
+#[derive(Drop)]
 pub enum Trimmed {
     /// The proof is verified: its trimmed form, the formula's clauses that this needs, how many additions it has, and how many the proof
     /// has.

@@ -1,9 +1,12 @@
 -- What the reader's next answer says to the verdict.
 use Rattle.std.proofs.Common.{◌≡◌, ℕ, List, false, Some, None, Ok, Err, length, refl, sym, ◌∙◌, ap, subst, rules}
+use Rattle.std.specs.Prelude.{Result}
 use Rattle.host_io.specs.Channel.{Rose}
 use Rattle.text_scan.specs.Decides.{gained, OnlyReads-then, Decides-then, gained-then, front-then}
 use Rattle.lrat_text.specs.declared.error.StepError.TheVariants.{ReadFault, OutOfMemory as NoMemory}
 use Rattle.lrat_text.specs.LineReader.{GaveStep, given, is_reading, steps_ahead, so_far}
+use Rattle.lrat_checker.specs.declared.verdict.Verdict.{Verdict}
+use Rattle.lrat_checker.specs.declared.verdict.CheckError.{CheckError}
 use Rattle.lrat_checker.specs.TextVerdict.{end_verdict, error_answer, Answers}
 use Rattle.drat_text.specs.Draft.{drat_form}
 use Rattle.drat_rules.specs.Clauses.{equality_of}
@@ -116,3 +119,58 @@ returns-in-Err-clause-wants g c = λ told is.
     Decides-then _ (c.steps.invariant.wants told) (c.in-Err.ensures.spends told (ap is_reading c.steps.invariant.reading))
     (λ bytes middle more before spends. before (length more)
     (error_wants (equality_of c.args.deletions) c.steps.judge _ _ _ _ spends (ap Err memory)))
+
+-- what each exit leaves as the last turn did
+no_fault : {verdict : Verdict} {error : CheckError} → ◌≡◌ {A = Result Verdict CheckError} (Ok verdict) (Err error) → ⊥
+no_fault e = cc
+
+pub returns-in_err-reason-in-Ok-Some-clause-reads : goal.returns-in_err-reason-in-Ok-Some-clause-reads
+returns-in_err-reason-in-Ok-Some-clause-reads g c = OnlyReads-then c.steps.invariant.reads c.next_into.ensures.reads
+
+pub returns-in_err-reason-in-Ok-Some-clause-beside : goal.returns-in_err-reason-in-Ok-Some-clause-beside
+returns-in_err-reason-in-Ok-Some-clause-beside g c = c.next_into.ensures.beside ∙ c.steps.invariant.beside
+
+pub returns-in_err-reason-in-Ok-Some-clause-unfailed : goal.returns-in_err-reason-in-Ok-Some-clause-unfailed
+returns-in_err-reason-in-Ok-Some-clause-unfailed g c = λ _. c.in-Ok-Some.ensures.unfailed (λ e. cc) ∙ c.steps.invariant.unfailed
+
+pub returns-in-Some-clause-wants : goal.returns-in-Some-clause-wants
+returns-in-Some-clause-wants g c = λ told is. absurd (no_fault is)
+
+pub returns-in-Some-clause-undecided : goal.returns-in-Some-clause-undecided
+returns-in-Some-clause-undecided g c = λ told is. absurd (no_fault is)
+
+pub returns-in-Some-clause-fault : goal.returns-in-Some-clause-fault
+returns-in-Some-clause-fault g c = λ is. absurd (no_fault is)
+
+pub returns-in-Some-clause-unfailed : goal.returns-in-Some-clause-unfailed
+returns-in-Some-clause-unfailed g c = λ _. c.in-Ok-Some.ensures.unfailed (λ e. cc) ∙ c.steps.invariant.unfailed
+
+pub returns-in-Some-clause-reads : goal.returns-in-Some-clause-reads
+returns-in-Some-clause-reads g c = OnlyReads-then c.steps.invariant.reads c.next_into.ensures.reads
+
+pub returns-in-Some-clause-beside : goal.returns-in-Some-clause-beside
+returns-in-Some-clause-beside g c = c.next_into.ensures.beside ∙ c.steps.invariant.beside
+
+pub returns-in-Ok-None-clause-wants : goal.returns-in-Ok-None-clause-wants
+returns-in-Ok-None-clause-wants g c = λ told is. absurd (no_fault is)
+
+pub returns-in-Ok-None-clause-undecided : goal.returns-in-Ok-None-clause-undecided
+returns-in-Ok-None-clause-undecided g c = λ told is. absurd (no_fault is)
+
+pub returns-in-Ok-None-clause-fault : goal.returns-in-Ok-None-clause-fault
+returns-in-Ok-None-clause-fault g c = λ is. absurd (no_fault is)
+
+pub returns-in-Ok-None-clause-unfailed : goal.returns-in-Ok-None-clause-unfailed
+returns-in-Ok-None-clause-unfailed g c = λ _. c.in-Ok-None.ensures.unfailed (λ e. cc) ∙ c.steps.invariant.unfailed
+
+pub returns-in-Ok-None-clause-reads : goal.returns-in-Ok-None-clause-reads
+returns-in-Ok-None-clause-reads g c = OnlyReads-then c.steps.invariant.reads c.next_into.ensures.reads
+
+pub returns-in-Ok-None-clause-beside : goal.returns-in-Ok-None-clause-beside
+returns-in-Ok-None-clause-beside g c = c.next_into.ensures.beside ∙ c.steps.invariant.beside
+
+pub returns-in-Err-clause-reads : goal.returns-in-Err-clause-reads
+returns-in-Err-clause-reads g c = OnlyReads-then c.steps.invariant.reads c.next_into.ensures.reads
+
+pub returns-in-Err-clause-beside : goal.returns-in-Err-clause-beside
+returns-in-Err-clause-beside g c = c.next_into.ensures.beside ∙ c.steps.invariant.beside

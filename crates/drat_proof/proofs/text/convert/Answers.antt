@@ -80,3 +80,21 @@ returns-clause-read g c = c.convert_steps.ensures.converts.unfailed_reads
 
 pub returns-clause-unfailed : goal.returns-clause-unfailed
 returns-clause-unfailed g c = c.convert_steps.ensures.converts.unfailed_writes
+
+pub returns-clause-appended : goal.returns-clause-appended
+returns-clause-appended g c = c.convert_steps.ensures.converts.appended
+
+pub returns-clause-read_fault : goal.returns-clause-read_fault
+returns-clause-read_fault g c = c.convert_steps.ensures.converts.read_fault
+
+pub returns-clause-write_fault : goal.returns-clause-write_fault
+returns-clause-write_fault g c = c.convert_steps.ensures.converts.write_fault
+
+pub returns-clause-reads : goal.returns-clause-reads
+returns-clause-reads g c = c.convert_steps.ensures.converts.reads
+
+pub returns-clause-writes : goal.returns-clause-writes
+returns-clause-writes g c = c.convert_steps.ensures.converts.writes
+
+pub returns-clause-kept : goal.returns-clause-kept
+returns-clause-kept g c = c.convert_steps.ensures.kept

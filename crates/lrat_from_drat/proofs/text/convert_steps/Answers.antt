@@ -121,3 +121,20 @@ returns-in-Err-clause-converts g c =
     c.args.judge.now c.args.reader.now (converted (error_answer c.in-Err.error))) (sym (c.read_step.ensures.kept.others ProofOut refl))
     (stops c.steps.invariant.leads c.requires.followed c.read_step.ensures.reads c.in-Err.error
     (ap (given c.read_step.new.step) c.in-Err.is)))
+
+-- what is left alone, behind a step that was taken or not, and behind the reader's answer
+pub returns-in-Ok-Some-take_step-clause-kept : goal.returns-in-Ok-Some-take_step-clause-kept
+returns-in-Ok-Some-take_step-clause-kept g c =
+    kept_then_second (kept_then_first c.steps.invariant.kept c.read_step.ensures.kept) c.take_step.ensures.kept
+    (ap (λ (o : Channel). o.name) (c.read_step.ensures.kept.others ProofOut refl) ∙ c.steps.invariant.leads.writes.name)
+
+pub returns-in-Err-take_step-clause-kept : goal.returns-in-Err-take_step-clause-kept
+returns-in-Err-take_step-clause-kept g c =
+    kept_then_second (kept_then_first c.steps.invariant.kept c.read_step.ensures.kept) c.take_step.ensures.kept
+    (ap (λ (o : Channel). o.name) (c.read_step.ensures.kept.others ProofOut refl) ∙ c.steps.invariant.leads.writes.name)
+
+pub returns-in-Ok-None-clause-kept : goal.returns-in-Ok-None-clause-kept
+returns-in-Ok-None-clause-kept g c = kept_then_first c.steps.invariant.kept c.read_step.ensures.kept
+
+pub returns-in-Err-clause-kept : goal.returns-in-Err-clause-kept
+returns-in-Err-clause-kept g c = kept_then_first c.steps.invariant.kept c.read_step.ensures.kept

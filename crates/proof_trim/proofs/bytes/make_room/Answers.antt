@@ -6,4 +6,4 @@ use Rattle.proof_trim.proofs.bytes.make_room.Goals as goal
 pub returns : goal.returns
 returns c =
     chunk_begun c.args.full.now.items c.push.new.self.items c.args.last.now c.replace-chunk.result c.replace-chunk.new.dest
-    c.in_ok-push.ensures.items c.replace-chunk.ensures.value (c.replace-chunk.ensures.after ∙ c.new.ensures)
+    c.in_ok-push.ensures.items c.replace-chunk.ensures.value (c.replace-chunk.ensures.after ∙ c.in_ok-next.ensures)

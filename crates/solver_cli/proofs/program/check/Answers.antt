@@ -38,3 +38,10 @@ pub returns-clause-told : goal.returns-clause-told
 returns-clause-told g c =
     let told = c.judge.ensures.told in
     told_between (c.in-Ok.ensures.kept.others ErrRole refl) (c.put_verdict-printed.ensures.kept.others ErrRole refl) told.1
+
+-- no file changes
+pub returns-in-Err-clause-files : goal.returns-in-Err-clause-files
+returns-in-Err-clause-files g c = c.take_formula.ensures.kept.files
+
+pub returns-in-Err-judge-clause-files : goal.returns-in-Err-judge-clause-files
+returns-in-Err-judge-clause-files g c = λ file own. c.judge.ensures.kept.files file own ∙ c.in-Ok.ensures.kept.files file own

@@ -1,5 +1,5 @@
 -- What is left to show of `solve`.
-use Rattle.std.proofs.Common.{refl, ◌∙◌}
+use Rattle.std.proofs.Common.{◌≡◌, ℕ, List, Option, Some, None, refl, ◌∙◌}
 use Rattle.host_io.specs.declared.role.Role.TheVariants.{Err as ErrRole}
 use Rattle.solver_cli.specs.Stages.{task_of}
 use Rattle.solver_cli.proofs.Commented.{noted_then, told_between, untold}
@@ -109,3 +109,24 @@ pub returns-clause-told : goal.returns-clause-told
 returns-clause-told g c =
     noted_then (c.in-Ok-take_buckets.ensures.kept.others ErrRole refl ∙ c.in-Ok-take_order.ensures.kept.others ErrRole refl
     ∙ c.in-Ok.ensures.kept.others ErrRole refl) c.in-Ok-take_plan.ensures.notes c.answer.ensures.told
+
+-- what was left alone
+none_some : {file : List ℕ} → ◌≡◌ {A = Option (List ℕ)} None (Some file) → ⊥
+none_some e = cc
+
+pub returns-in-Err-clause-files : goal.returns-in-Err-clause-files
+returns-in-Err-clause-files g c = λ file own. c.in-Err.ensures.kept.files file none_some
+
+pub returns-in-Err-take_order-clause-files : goal.returns-in-Err-take_order-clause-files
+returns-in-Err-take_order-clause-files g c = λ file own.
+    c.in-Err-take_order.ensures.kept.files file none_some ∙ c.in-Ok.ensures.kept.files file none_some
+
+pub returns-in-Err-take_buckets-clause-files : goal.returns-in-Err-take_buckets-clause-files
+returns-in-Err-take_buckets-clause-files g c = λ file own.
+    c.in-Err-take_buckets.ensures.kept.files file none_some ∙ c.in-Ok-take_order.ensures.kept.files file none_some
+    ∙ c.in-Ok.ensures.kept.files file none_some
+
+pub returns-in-Err-take_plan-clause-files : goal.returns-in-Err-take_plan-clause-files
+returns-in-Err-take_plan-clause-files g c = λ file own.
+    c.in-Err-take_plan.ensures.kept.files file none_some ∙ c.in-Ok-take_buckets.ensures.kept.files file none_some
+    ∙ c.in-Ok-take_order.ensures.kept.files file none_some ∙ c.in-Ok.ensures.kept.files file none_some
