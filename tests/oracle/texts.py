@@ -6,6 +6,9 @@ import re
 
 from terms import AND, EXISTS, PUSH
 
+# a move of a line `e`, which becomes moves EXISTS
+SET = "e"
+
 MOST_VARIABLES, MOST_CLAUSES, MOST_LITERALS = 1_000_000, 10_000_000, 100_000_000
 MOST_LITERAL, MOST_ID = 2_147_483_647, 999_999_999_999_999_999
 
@@ -110,17 +113,19 @@ def order(text, variables):
 
 
 def command(row):
-    """The moves of a line, as the plan's letter and number, or None where it is no command."""
+    """The moves of a line, each with its number or its set of them, or None where it is no command."""
     word, numbers = row[0], all_given([plain(token) for token in row[1:]])
-    if not numbers or word not in (b"c", b"a", b"q"):
+    if not numbers or word not in (b"c", b"a", b"q", b"e"):
         return None
+    if word == b"e":
+        return [(SET, set(numbers))]
     if word == b"a":
         return None if len(numbers) > 1 or numbers[0] < 2 else itertools.repeat((AND, None), min(numbers[0] - 1, MOST_CLAUSES))
     return [(PUSH if word == b"c" else EXISTS, number) for number in numbers]
 
 
-def schedule(text, variables, clauses):
-    """The moves, clauses by their place from 0 on."""
+def schedule(text, variables, clauses, order):
+    """The moves, clauses by their place from 0 on; a set of variables one by one, from the last in the order to the first."""
     moves, stack, pushed = [], [], set()
     for line, row in rows(text, b"#"):
         taken = command(row)
@@ -140,14 +145,17 @@ def schedule(text, variables, clauses):
                     raise Refused("StackShort", line)
                 stack.append(stack.pop() | stack.pop())
             else:
+                some = number if move == SET else {number}
                 if not stack:
                     raise Refused("StackShort", line)
-                if not 1 <= number <= variables:
+                if not all(1 <= it <= variables for it in some):
                     raise Refused("VariableRange", line)
                 later = ({abs(it) for it in clause} for at, clause in enumerate(clauses, 1) if at not in pushed)
-                if any(number in held for held in [*stack[:-1], *later]):
+                if any(some & held for held in [*stack[:-1], *later]):
                     raise Refused("VariableInUse", line)
-                stack[-1] = stack[-1] - {number}
+                stack[-1] = stack[-1] - some
+                moves += [(EXISTS, it) for it in reversed(order or range(1, variables + 1)) if it in some]
+                continue
             moves.append((move, number))
     if len(pushed) < len(clauses):
         raise Refused("ClauseUnused", end_of(text))
