@@ -29,9 +29,6 @@ module _ (literals : Literals) (splits : Splitting) (graph : Graph) (reduced : I
   is_open = conjunction_open literals graph reduced o.u o.v w split.first split.second split.differ finished.first_differs
       finished.second_differs clause is
 
-  pub low_over : IsOverNodes graph clause
-  low_over y there above = conjunction_owned literals graph o.u o.v w clause among y there
-
   high_both : (are_apart (neg_ℤ (pos (variable_at graph o.level)) ∷ clause) ≡ true)
       × IsOverNodes graph (neg_ℤ (pos (variable_at graph o.level)) ∷ clause)
   high_both = literals.behind graph reduced ordered o.level (splits.level graph reduced o split) clause
@@ -39,9 +36,6 @@ module _ (literals : Literals) (splits : Splitting) (graph : Graph) (reduced : I
 
   pub high_apart : are_apart (neg_ℤ (pos (variable_at graph o.level)) ∷ clause) ≡ true
   high_apart = high_both.0
-
-  pub high_over : IsOverNodes graph (neg_ℤ (pos (variable_at graph o.level)) ∷ clause)
-  high_over = high_both.1
 
   pub high_clause : clause_from_atoms (where_true (pos (variable_at graph o.level)) (conjunction_atoms graph o.u o.v w))
       ≡ Some (neg_ℤ (pos (variable_at graph o.level)) ∷ clause)

@@ -77,6 +77,3 @@ module _ {S : Type 0} {in_step : Bool} {old new : Book S} {more : List Step} (to
 
   pub told_formula : new.formula ≡ old.formula
   told_formula i = (told.is i).formula
-
-  pub told_finished : new.finished ≡ old.finished
-  told_finished i = (told.is i).finished

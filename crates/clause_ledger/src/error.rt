@@ -7,7 +7,7 @@ use host_io::Failed;
 use thiserror::Error;
 
 /// Why a call of a ledger failed. The first two leave it unchanged.
-#[derive(Clone, Copy, Debug, PartialEq, Eq, Error)]
+#[derive(Clone, Copy, Debug, Error)]
 pub enum LedgerError {
     /// The greatest clause number allowed is used.
     #[error("the clause numbers are used up")]

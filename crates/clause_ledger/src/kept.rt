@@ -18,13 +18,13 @@ use std::marker::Model;
 const SHORT_LENGTH: usize = 4;
 
 /// Where a place's clause stands: nowhere, or as so many literals from a start on.
-#[derive(Clone, Copy, Debug)]
+#[derive(Clone, Copy)]
 pub(crate) enum Span {
     Free,
     Within(usize, usize),
 }
 
-#[derive(Debug, Drop)]
+#[derive(Drop)]
 pub(crate) struct Kept {
     literals: Vec<Lit>,
     spans: Vec<Span>,

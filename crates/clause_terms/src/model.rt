@@ -2,7 +2,7 @@
 ghost use Rattle.std.specs.Prelude.{◌≡◌, ◌<◌, ◌≤◌, ◌-◌, length, slice_set};
 
 /// An assignment: the value of variable 1 first.
-#[derive(Debug, Drop)]
+#[derive(Drop)]
 pub struct Model {
     pub(crate) values: Vec<bool>,
 }

@@ -7,7 +7,7 @@ use node_table::Node;
 use std::alloc::Global;
 
 /// Quantified variables, the first one first, each with the node that it was quantified from.
-#[derive(Debug, Drop)]
+#[derive(Drop)]
 pub struct Trail {
     kept: Vec<(u32, Node)>,
 }

@@ -1,3 +1,4 @@
+pub mod EmptyClauses
 pub mod FlatFormula
 pub mod NumberLemmas
 pub mod ProofTextLemmas

@@ -3,6 +3,7 @@ pub mod Formula
 pub mod Number
 pub mod Text
 pub mod ProofText
+pub mod EmptyClause
 pub mod Cut
 pub mod Order
 pub mod Limits

@@ -1,8 +1,9 @@
 // Formulas, stored flat: one row of literals and one of the clauses' ends, so that a clause costs no allocation.
 ghost use Rattle.std.specs.Prelude.{◌≡◌, ℕ, ◌+◌, ◌-◌, ◌<◌, ◌≤◌, [], ◌∷◌, ◌++◌, ◌↔◌, nat_abs, length, OnOk, OnErr, IsTrue, slice_index_or};
-ghost use Rattle.std.specs.Prelude.{slice_range};
+ghost use Rattle.std.specs.Prelude.{slice_range, MatchOption};
 ghost use Rattle.std.specs.List.{list_all};
 ghost use Rattle.cnf_base.specs.Truth.{literal_holds, clause_holds, assignment_of};
+ghost use Rattle.cnf_base.specs.EmptyClause.{HaveLiterals, IsFirstEmpty};
 ghost use Rattle.cnf_base.specs.Formula.{IsFormula, start_at};
 ghost use Rattle.cnf_base.specs.Limits.{max_clauses, max_vars};
 
@@ -12,7 +13,7 @@ use std::alloc::Global;
 use std::marker::Model;
 
 /// A formula in conjunctive normal form: its number of variables and its clauses as they stand in its file.
-#[derive(Debug, Drop)]
+#[derive(Drop)]
 pub struct Cnf {
     vars: u32,
     literals: Vec<Lit>,
@@ -59,6 +60,18 @@ impl Cnf {
         let start = start_of(ends, i - 1) as usize;
         let end = ends[i - 1] as usize;
         part(self.literals.as_slice(), start, end)
+    }
+
+    /// The number of the first empty clause, from 1, if there is one.
+    pub fn first_empty(&self) -> Option<usize>
+        ensures { MatchOption result (HaveLiterals self.now.clauses) (IsFirstEmpty self.now.clauses) }
+    {
+        for i in 0..self.len() {
+            if self.clause(i + 1).is_empty() {
+                return Some(i + 1);
+            }
+        }
+        None
     }
 
     /// Whether these values of the variables satisfy each clause; variable x has the value at place x - 1.
@@ -115,7 +128,7 @@ fn clause_is_true(clause: &[Lit], values: &[bool]) -> bool
 
 /// A formula that is being built, clause by clause, literal by literal. A refusal for want of memory changes
 /// nothing.
-#[derive(Debug, Drop)]
+#[derive(Drop)]
 pub struct CnfBuilder {
     vars: u32,
     literals: Vec<Lit>,

@@ -7,7 +7,7 @@ use std::alloc::Global;
 use std::marker::Model;
 
 /// The number of a clause.
-#[derive(Clone, Copy, Debug, Default, PartialEq, Eq, PartialOrd, Ord, Hash)]
+#[derive(Clone, Copy, Debug, Default, PartialEq, Eq)]
 pub struct Id(pub u64);
 
 impl Model for Id {
@@ -89,7 +89,7 @@ pub type IdList = Items<Id>;
 pub type GroupList = Items<Group>;
 
 /// The hints of one candidate of a resolvent step: its number, and the hints that follow it.
-#[derive(Debug, Drop)]
+#[derive(Drop)]
 pub struct Group {
     pub id: Id,
     pub hints: IdList,

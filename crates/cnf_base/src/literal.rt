@@ -5,7 +5,7 @@ ghost use Rattle.std.specs.Int.{is_negative};
 use std::marker::Model;
 
 /// A literal: a nonzero whole number of magnitude at most 2147483647.
-#[derive(Clone, Copy, Debug, PartialEq, Eq, PartialOrd, Ord, Hash)]
+#[derive(Clone, Copy, Debug, PartialEq, Eq, PartialOrd, Ord)]
 pub struct Lit {
     value: i32,
 }

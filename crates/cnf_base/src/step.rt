@@ -2,7 +2,7 @@
 use crate::list::{GroupList, Id, IdList, LitList};
 
 /// A step of a proof in the textual LRAT format (Cruz-Filipe, Heule, Hunt, Kaufmann, Schneider-Kamp 2017).
-#[derive(Debug, Drop)]
+#[derive(Drop)]
 pub enum Step {
     /// Adds a clause, with its positive hints and the groups of its candidates.
     Add {

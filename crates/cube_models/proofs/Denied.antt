@@ -1,6 +1,6 @@
 -- The list of dead nodes, as a search puts one more on it.
-use Rattle.std.proofs.Common.{◌≡◌, ◌≢◌, ◌∙◌, ◌⊎◌, ◌++◌, ◌+◌, ℕ, zero, suc, Bool, true, false, List, [], ◌∷◌, length, Contains}
-use Rattle.std.proofs.Common.{Option, None, refl, sym, ap, subst, arith, inl, inr, eq-eqb, ne_eqb}
+use Rattle.std.proofs.Common.{◌≡◌, ◌∙◌, ◌⊎◌, ◌++◌, ◌+◌, ℕ, zero, suc, Bool, true, false, List, [], ◌∷◌, length, Contains}
+use Rattle.std.proofs.Common.{Option, None, refl, sym, ap, subst, arith, inl, inr, eq-eqb}
 use Rattle.std.specs.Prelude.{◌==◌, slice_index_or, slice_set}
 use Rattle.std.proofs.lemmas.Bool.{cases_eq}
 use Rattle.std.proofs.lemmas.List.{append-nil, append_assoc, get_or-set_same, get_or-set_other, length_push}
@@ -88,13 +88,3 @@ not_ended rest new key is none =
     let long : length new ≡ length rest + 1 = ap length is ∙ length_push rest key in
     let no : length new ≡ 0 = ap length none in
     absurd (omega (arith, long, no))
-
--- nothing is marked at first
-pub dead_none : (graph : Graph) (signs : List (Option Bool)) (round : ℕ) (marks : List ℕ) → ((key : ℕ) → slice_index_or marks key 0 ≢ round)
-    → (dead : List ℕ) → dead ≡ [] → AreDead graph signs round marks dead
-dead_none graph signs round marks fresh dead empty = subst (AreDead graph signs round marks) (sym empty) (record {
-  denied = tt;
-  listed = λ key is. absurd (let no : (slice_index_or marks key 0 == round) ≡ false = ne_eqb _ _ (fresh key) in
-      let wrong : true ≡ false = sym is ∙ no in cc);
-  marked = λ key there. absurd (omega (arith, there.1));
-})

@@ -16,7 +16,7 @@ use Rattle.node_table.specs.Diagram.{Graph, IsReduced, branch_at, is_node, level
 use Rattle.node_table.specs.Laws.{Cofactors}
 use Rattle.node_table.specs.Made.{inner}
 use Rattle.node_table.specs.Value.{Levels, by_level, value_of}
-use Rattle.cube_models.specs.Least.{HasNoModel, IsLeastModel}
+use Rattle.cube_models.specs.Least.{IsLeastModel}
 use Rattle.cube_models.specs.Way.{Agrees, AreMarks, Assumes, IsDead, IsDown, IsStep, Leads, allows, is_marked, is_on, is_open, levels_of}
 use Rattle.cube_models.specs.Way.{next_in}
 use Rattle.cube_models.specs.Way.{sign_at, sign_of}
@@ -239,16 +239,6 @@ least_model graph ordered cube signs assumes within node values one_each down = 
   least = λ other holds place small agree on. down.least (by_level graph.order other) (agrees_cube graph ordered cube signs assumes other
       holds.cube_holds) holds.node_holds place small agree on;
 }
-
-pub no_model : (graph : Graph) → IsOrder graph.order → (cube : List ℤ) (signs : List (Option Bool))
-    → Assumes (levels graph) cube (length cube) signs
-    → (node : Node) → IsDead graph signs node → HasNoModel graph node cube
-no_model graph ordered cube signs assumes node dead a holds =
-    let no : value_of graph (by_level graph.order a) node ≡ false = dead (by_level graph.order a)
-    (agrees_cube graph ordered cube signs assumes a
-    holds.cube_holds) in
-    let is : value_of graph (by_level graph.order a) node ≡ true = holds.node_holds in
-    absurd (let wrong : true ≡ false = sym is ∙ no in cc)
 
 -- The same, each list as a call has it.
 pub found_model : (graph : Graph) → IsOrder graph.order

@@ -1,6 +1,6 @@
 -- A search, step by step.
-use Rattle.std.proofs.Common.{◌≡◌, ◌≢◌, ℕ, ◌+◌, ◌*◌, ◌-◌, ◌<◌, ◌≤◌, ◌++◌, Bool, true, false, not, List, [], ◌∷◌, Option, None, Some, length}
-use Rattle.std.proofs.Common.{cond, count_by, get_or, is_some, refl, sym, ap, ◌∙◌, subst, arith, inl, inr, eq-eqb, ne_eqb}
+use Rattle.std.proofs.Common.{◌≡◌, ℕ, ◌+◌, ◌*◌, ◌-◌, ◌<◌, ◌≤◌, ◌++◌, Bool, true, false, not, List, [], ◌∷◌, Option, None, Some, length}
+use Rattle.std.proofs.Common.{cond, count_by, get_or, is_some, refl, sym, ap, ◌∙◌, subst, arith, inl, inr, eq-eqb}
 use Rattle.std.specs.Prelude.{◌⊎◌, ◌==◌, slice_index_or, slice_set}
 use Rattle.std.proofs.lemmas.Bool.{cases_eq}
 use Rattle.std.proofs.lemmas.List.{get_or-set_same, get_or-set_other, length-set, length_push, same_from_push}
@@ -187,34 +187,6 @@ step_out graph signs round first marks rest key child last goes is =
       stands = last.stands;
       goes = goes ∙ ap (λ (n : Node). Some n) is;
     })
-
--- At first nothing is marked with the round but False.
-pub search_start : (graph : Graph) (signs : List (Option Bool)) (round : ℕ) (marks : List ℕ) (key : ℕ)
-    → ((other : ℕ) (b : Branch) → branch_at graph other ≡ Some b → other < length marks)
-    → ((other : ℕ) → slice_index_or marks other 0 ≢ round) → IsSearch graph signs round (inner key) marks (key ∷ [])
-search_start graph signs round marks key room fresh =
-    record {
-      known = start_marks graph signs round marks room fresh;
-      way = λ front other cut. let same = same_from_push [] front key other cut in
-          subst (λ (n : ℕ). Leads graph (next_in graph signs marks round) (inner key) front (inner n)) same.1
-          (subst (λ (l : List ℕ). Leads graph (next_in graph signs marks round) (inner key) l (inner key)) same.0 refl);
-      unmarked = λ front other cut. ne_eqb _ _ (fresh key);
-      failed = λ none. absurd (not_last [] key none);
-    }
-  where
-    start_dead : (graph : Graph) (signs : List (Option Bool)) (round : ℕ) (marks : List ℕ)
-        → ((other : ℕ) → slice_index_or marks other 0 ≢ round) → (node : Node) → is_node graph node ≡ true
-        → is_marked marks round node ≡ true → IsDead graph signs node
-    start_dead graph signs round marks fresh False stands is a agrees = refl
-    start_dead graph signs round marks fresh True stands is a agrees = absurd (let no : false ≡ true = is in cc)
-    start_dead graph signs round marks fresh (Inner key) stands is a agrees =
-        absurd (let no : (slice_index_or marks key.index 0 == round) ≡ false = ne_eqb _ _ (fresh key.index) in
-        let yes_it_is : (slice_index_or marks key.index 0 == round) ≡ true = is in cc)
-
-    start_marks : (graph : Graph) (signs : List (Option Bool)) (round : ℕ) (marks : List ℕ)
-        → ((other : ℕ) (b : Branch) → branch_at graph other ≡ Some b → other < length marks)
-        → ((other : ℕ) → slice_index_or marks other 0 ≢ round) → AreMarks graph signs round marks
-    start_marks graph signs round marks room fresh = record { room = room; dead = start_dead graph signs round marks fresh }
 
 -- how many steps are left at most: two for each node that isn't marked, but one for each on the way
 abbrev pub left : Graph → ℕ → List ℕ → List ℕ → ℕ

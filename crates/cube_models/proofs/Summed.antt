@@ -16,7 +16,7 @@ use Rattle.hint_chain.specs.Atoms.{clause_from_atoms, is_false}
 use Rattle.node_table.specs.declared.node.Node.{Node}
 use Rattle.node_table.specs.declared.node.Node.TheVariants.{False, True, Inner}
 use Rattle.node_table.specs.declared.node.Branch.{Branch}
-use Rattle.node_table.specs.Defined.{IsDefined, atom_in, atom_of, clause_named, defs_from, defs_of}
+use Rattle.node_table.specs.Defined.{IsDefined, atom_in, atom_of, clause_named, defs_of}
 use Rattle.node_table.specs.Diagram.{Graph, IsReduced, branch_at, is_node, variable_at}
 use Rattle.node_table.specs.Tied.{IsOwned}
 use Rattle.cube_models.specs.Denied.{sum_atoms}
@@ -27,34 +27,6 @@ use Rattle.cube_models.proofs.Searches.{found_branch}
 size_of_negation : (n : ℕ) → nat_abs (neg_ℤ (pos n)) ≡ n
 size_of_negation zero = refl
 size_of_negation (suc n) = refl
-
--- a child is True where there is no clause down to it
-no_high : (h l : Node) (first : ℕ) → (defs_from h l first).hd ≡ None → h ≡ True
-no_high False l first none = let e : ◌≡◌ {A = Option ℕ} (Some _) None = none in cc
-no_high True l first none = refl
-no_high (Inner key) l first none = let e : ◌≡◌ {A = Option ℕ} (Some _) None = none in cc
-
-no_low : (h l : Node) (first : ℕ) → (defs_from h l first).ld ≡ None → l ≡ True
-no_low h False first none = let e : ◌≡◌ {A = Option ℕ} (Some _) None = none in cc
-no_low h True first none = refl
-no_low h (Inner key) first none = let e : ◌≡◌ {A = Option ℕ} (Some _) None = none in cc
-
-always_last : (x : ℤ) (a : Atom) → clause_from_atoms (Of x ∷ a ∷ Always ∷ []) ≡ None
-always_last x Always = refl
-always_last x Never = refl
-always_last x (Of y) = refl
-
--- then there is no sum
-pub no_sum_high : (graph : Graph) (b : Branch) → (defs_of b).hd ≡ None → clause_from_atoms (sum_atoms graph b) ≡ None
-no_sum_high graph b none =
-    ap (λ (h : Node). clause_from_atoms (Of (neg_ℤ (pos b.variable)) ∷ atom_of graph h ∷ atom_of graph b.low ∷ []))
-    (no_high b.high b.low b.first none)
-
-pub no_sum_low : (graph : Graph) (b : Branch) → (defs_of b).ld ≡ None → clause_from_atoms (sum_atoms graph b) ≡ None
-no_sum_low graph b none =
-    ap (λ (l : Node). clause_from_atoms (Of (neg_ℤ (pos b.variable)) ∷ atom_of graph b.high ∷ atom_of graph l ∷ []))
-    (no_low b.high b.low b.first none)
-    ∙ always_last (neg_ℤ (pos b.variable)) (atom_of graph b.high)
 
 two_literals : (y z : ℤ) (atoms : List Atom) (literals : List ℤ) → clause_from_atoms atoms ≡ Some literals
     → clause_from_atoms (Of y ∷ Of z ∷ atoms) ≡ Some (y ∷ z ∷ literals)

@@ -1,5 +1,5 @@
 // The term of a formula: its clauses, conjoined one by one.
-ghost use Rattle.std.specs.Prelude.{◌≡◌, ◌≢◌, ◌≤◌, ◌<◌, ◌-◌, [], ℕ, IsTrue, MatchOption, length, slice_index_or};
+ghost use Rattle.std.specs.Prelude.{◌≡◌, [], IsTrue};
 ghost use Rattle.node_table.specs.declared.node.Node.TheVariants.{False};
 ghost use Rattle.node_table.specs.Progress.{error_of};
 ghost use Rattle.term_runner.specs.Runner.{IsRunner};
@@ -29,8 +29,8 @@ pub(crate) fn term_of_formula<S: Sink + Drop>(
     if formula.is_empty() {
         return Ok(runner.truth());
     }
-    if let Some(number) = first_empty(formula) {
-        return term_of(runner, number);
+    if let Some(number) = formula.first_empty() {
+        return term_of(runner, number as u32);
     }
     let mut term = term_of(runner, 1)?;
     'clauses: for place in 1..formula.len() {
@@ -40,20 +40,6 @@ pub(crate) fn term_of_formula<S: Sink + Drop>(
         term = with_clause(runner, term, place as u32 + 1)?;
     }
     Ok(term)
-}
-
-// The number of the first empty clause, if there is one.
-fn first_empty(formula: &Cnf) -> Option<u32>
-    ensures { MatchOption result ((place : ℕ) → place < length formula.now.clauses → slice_index_or formula.now.clauses place [] ≢ [])
-        (λ number. (1 ≤ number) × ((number ≤ length formula.now.clauses) × (slice_index_or formula.now.clauses (number - 1) [] ≡ []))) }
-{
-    formula.formula_law();
-    'clauses: for place in 0..formula.len() {
-        if formula.clause(place + 1).is_empty() {
-            return Some(place as u32 + 1);
-        }
-    }
-    None
 }
 
 fn is_false(node: Node) -> bool

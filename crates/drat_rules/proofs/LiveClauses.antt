@@ -101,9 +101,6 @@ pub among_values : (live : Live) (id : ℕ) (clause : List ℤ) → clause_at li
 among_values live id clause at = find_among id clause (finmap.entries live) (sym (finmap.get-entries live id) ∙ at)
 
 -- and a value has a number
-T_true : (b : Bool) → T b → b ≡ true
-T_true true h = refl
-T_true false h = absurd h
 
 T_parts : (b c : Bool) → T (b && c) → T b × T c
 T_parts true c h = (tt, h)

@@ -114,11 +114,6 @@ AreVerified-DratRefutes same clauses steps r =
     no_refusal (length steps + 1) (list_any adds_empty steps) (first_fault_by same 1 clauses steps) r.verified in
     record { good = both.0; empty = both.1 }
 
-pub DratRefutes-AreVerified : (same : Equality) (clauses : List (List ℤ)) (steps : List DratStep)
-    → first_fault_by same 1 clauses steps ≡ None
-    → list_any adds_empty steps ≡ true → DratRefutesBy same clauses steps
-DratRefutes-AreVerified same clauses steps good empty = record { verified = rw (good, empty) refl }
-
 -- the premise of formulas
 no_zero-literals : (vars : ℕ) (clause : List ℤ) → list_all (is_literal_of vars) clause ≡ true → has_no_zero clause ≡ true
 no_zero-literals vars [] h = refl

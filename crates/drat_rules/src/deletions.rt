@@ -1,7 +1,7 @@
 // Which clause a deletion takes out.
 
 /// When a clause that stands is told to be the one that a deletion names. The first such clause is taken out.
-#[derive(Clone, Copy, Debug, PartialEq, Eq)]
+#[derive(Clone, Copy)]
 pub enum Deletions {
     /// Where it is the same list of literals.
     ByList,

@@ -171,4 +171,5 @@ module _ (cut : IsCut) where
     first_number = first_number_is;
     later_number = later_number_is;
     stays_begun = λ draft number is. is;
+    stays_on_line = λ draft number. refl;
   }

@@ -2,3 +2,4 @@ pub mod Lines
 pub mod DratForm
 pub mod ReadBack
 pub mod DratLines
+pub mod DratNumbers

@@ -13,7 +13,7 @@ use std::marker::Model;
 use text_scan::{Token, kept_word_law, signed_number};
 
 /// What was read of a line: nothing, or tokens of an addition or of a deletion.
-#[derive(Clone, Copy, Debug, PartialEq, Eq)]
+#[derive(Clone, Copy, PartialEq, Eq)]
 pub enum DratKind {
     Empty,
     Adds,
@@ -21,7 +21,7 @@ pub enum DratKind {
 }
 
 /// A line of a DRAT proof: the numbers of its tokens so far.
-#[derive(Debug, Drop)]
+#[derive(Drop)]
 pub struct DratLine {
     alloc: Global,
     line: u64,
@@ -127,8 +127,12 @@ impl LineForm for DratLine {
     }
 
     #[inline(always)]
-    fn take_number(&mut self, number: i64) -> Result<(), OutOfMemory> {
-        self.put_number(number)
+    fn take_numbers(&mut self, numbers: &[i64]) -> Result<(), OutOfMemory> {
+        if self.broken {
+            return Ok(());
+        }
+        self.numbers.extend_from_slice(numbers)?;
+        Ok(())
     }
 
     fn blank_step(&self) -> DratStep {
@@ -150,7 +154,7 @@ impl LineForm for DratLine {
 }
 
 impl DratLine {
-    // One number more, unless a token was none. Mostly there is room for it.
+    // One number more, unless a token was none.
     #[tactic(auto, using(crate::proofs::DratForm::numbers_push, crate::proofs::DratForm::keeps_last))]
     #[inline(always)]
     fn put_number(&mut self, number: i64) -> Result<(), OutOfMemory>
@@ -161,11 +165,7 @@ impl DratLine {
         if self.broken {
             return Ok(());
         }
-        if self.numbers.len() < self.numbers.capacity() {
-            self.numbers.push_reserved(number);
-        } else {
-            self.numbers.push(number)?;
-        }
+        self.numbers.push(number)?;
         Ok(())
     }
 }

@@ -2,7 +2,7 @@
 use cnf_base::LitList;
 
 /// A step of a proof in the textual DRAT format (Wetzler, Heule, Hunt 2014).
-#[derive(Debug, Drop)]
+#[derive(Drop)]
 pub enum DratStep {
     /// Adds a clause.
     Add { lits: LitList },

@@ -71,10 +71,6 @@ module _ (n : FalseSet) (own : ChildPart) (part : Part) (of : IsOfChild n own pa
   pub never_always : own.child ≡ Always → ⊥
   never_always is = both_ways (has_child Always part.clause) refl (subst (λ a. has_child a part.clause ≡ true) is of.has)
 
--- what is chosen from behind a part
-chosen_by : (n : FalseSet) (hints : List ℕ) (part : Part) (rest : List (Option Part)) → Option (List ℕ)
-chosen_by n hints part rest = option_map (λ more. hints ++ more) (greedy n (Some part ∷ rest))
-
 pub goes_on_none : (n : FalseSet) (hints : List ℕ) (part : Option Part) (rest : List (Option Part)) → AreOfChild n None part
     → GoesOn false hints hints n n part rest
 goes_on_none n hints None rest of = refl

@@ -7,7 +7,7 @@ use crate::inline::ShortClause;
 use cnf_base::Lit;
 
 /// What a node puts into a clause.
-#[derive(Clone, Copy, Debug, PartialEq, Eq)]
+#[derive(Clone, Copy)]
 pub enum Atom {
     /// The constant True.
     Always,

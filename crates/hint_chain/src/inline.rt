@@ -6,7 +6,7 @@ use cnf_base::Lit;
 use std::marker::Model;
 
 /// At most N literals, inline.
-#[derive(Clone, Copy, Debug)]
+#[derive(Clone, Copy)]
 pub struct InlineLiterals<const N: usize> {
     literals: [Lit; N],
     count: usize,

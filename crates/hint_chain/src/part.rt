@@ -5,7 +5,7 @@ use crate::inline::ShortClause;
 use cnf_base::{Id, Lit};
 
 /// A live clause of at most four literals, and its number.
-#[derive(Clone, Copy, Debug)]
+#[derive(Clone, Copy)]
 pub struct Part {
     id: Id,
     clause: ShortClause,

@@ -15,7 +15,7 @@ use cnf_base::{Id, Lit};
 use lrat_rules::is_among;
 
 /// A node's defining clause between the node and a child: its number, and what the child puts into it.
-#[derive(Clone, Copy, Debug)]
+#[derive(Clone, Copy)]
 pub struct ChildPart {
     pub id: Id,
     pub child: Atom,
@@ -23,7 +23,7 @@ pub struct ChildPart {
 
 /// The parts of one side of a step: from the result's child up to the result, if there is one, from the operands to their children, and
 /// the number of what was found for the children.
-#[derive(Clone, Copy, Debug)]
+#[derive(Clone, Copy)]
 pub struct StepParts {
     pub result: Option<ChildPart>,
     pub first: Option<ChildPart>,

@@ -8,7 +8,7 @@ use std::alloc::Global;
 
 /// A node of a clause's diagram: its literal of the clause, and the numbers of its clauses from the children up, where
 /// they exist.
-#[derive(Clone, Copy, Debug)]
+#[derive(Clone, Copy)]
 pub struct UnitPart {
     pub lit: Lit,
     /// The clause from the high child up.

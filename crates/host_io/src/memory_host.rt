@@ -17,7 +17,7 @@ use std::marker::Model;
 use thiserror::Error;
 
 /// No memory was left.
-#[derive(Clone, Copy, Debug, PartialEq, Eq, Error)]
+#[derive(Clone, Copy, Debug, Error)]
 #[error("out of memory")]
 pub struct HostOutOfMemory;
 

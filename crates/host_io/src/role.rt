@@ -5,7 +5,7 @@ ghost use Rattle.host_io.specs.Files.{code_of};
 /// What a file or a stream is to the program. `Cnf`, `Order`, `Buckets` (the order by which buckets are formed), `Schedule`,
 /// `ProofIn` and `Cubes` (the questions about a formula) are opened and read, `ProofOut` and `Made` are created and written, `Out`
 /// and `Err` are the standard streams.
-#[derive(Clone, Copy, Debug, PartialEq, Eq)]
+#[derive(Clone, Copy, Debug)]
 pub enum Role {
     Cnf,
     Order,

@@ -26,9 +26,6 @@ abs_neg (suc n) = refl
 same_int : (x y : ℤ) → int_eq x y ≡ true → x ≡ y
 same_int x y is = (Decides-int_eq x y).0 is
 
-int_itself : (x : ℤ) → int_eq x x ≡ true
-int_itself x = (Decides-int_eq x x).1 refl
-
 false_unless : (b : Bool) → (b ≡ true → ⊥) → b ≡ false
 false_unless true h = absurd (h refl)
 false_unless false h = refl
@@ -86,9 +83,6 @@ module _ (literals : Literals) (splits : Splitting) (graph : Graph) (reduced : I
           ]
         ])
 
-    pub low_over : IsOverNodes graph clause
-    low_over y there above = owned y there
-
     pub high_clause : clause_from_atoms (where_true (pos (variable_at graph o.level)) (implication_atoms graph o.u o.v))
         ≡ Some (neg_ℤ (pos (variable_at graph o.level)) ∷ clause)
     high_clause = ap (λ c. option_map (λ literals. neg_ℤ (pos (variable_at graph o.level)) ∷ literals) c) is
@@ -100,6 +94,3 @@ module _ (literals : Literals) (splits : Splitting) (graph : Graph) (reduced : I
 
       pub high_apart : are_apart (neg_ℤ (pos (variable_at graph o.level)) ∷ clause) ≡ true
       high_apart = high_both.0
-
-      pub high_over : IsOverNodes graph (neg_ℤ (pos (variable_at graph o.level)) ∷ clause)
-      high_over = high_both.1

@@ -12,5 +12,3 @@ pub mod Verdicts
 pub mod Turns
 pub mod Wanted
 pub mod Overlong
-pub mod FalseStamps
-pub mod Passes

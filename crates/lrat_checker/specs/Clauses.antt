@@ -1,10 +1,9 @@
 -- How the live clauses are stored: short ones of usual numbers in chunks of 128 places, the others in a map.
-use Rattle.std.specs.Prelude.{◌≡◌, ℕ, zero, suc, ◌<◌, ◌/◌, ◌%◌, ℤ, List, [], Option, None, Some, true, is_some, slice_index_or}
+use Rattle.std.specs.Prelude.{◌≡◌, ℕ, zero, suc, ◌<◌, ◌/◌, ◌%◌, ℤ, List, [], Option, None, Some, true, is_some, slice_index_or, take, min, ◌==◌, if◌then◌else◌}
 use Rattle.std.specs.Coded.{Coded, coded_ℤ, coded_list, coded_option}
 use Rattle.std.specs.FinMap as map
 use Rattle.lrat_rules.specs.State.{Live, with_clause}
 use Rattle.lrat_checker.specs.declared.slot.Slot.{Slot}
-use Rattle.lrat_checker.specs.declared.slot.Slot.TheVariants.{Free, Unit, Binary, Ternary, Quaternary}
 
 -- nothing, or a live clause
 abbrev pub Place : Type 0
@@ -19,11 +18,7 @@ places_code = coded_list (coded_option (coded_list coded_ℤ))
 
 -- what a slot holds
 abbrev pub clause_in : Slot → Place
-clause_in Free = None
-clause_in (Unit literals) = Some literals
-clause_in (Binary literals) = Some literals
-clause_in (Ternary literals) = Some literals
-clause_in (Quaternary literals) = Some literals
+clause_in slot = if slot.len == 0 then None else Some (take (min slot.len 4) slot.literals)
 
 -- what stands at a number's place in the chunks
 abbrev pub near_at : List Places → ℕ → Place

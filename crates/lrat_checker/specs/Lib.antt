@@ -1,5 +1,3 @@
-pub mod Stamps
-pub mod Stamped
 pub mod Walk
 pub mod Clauses
 pub mod Counts

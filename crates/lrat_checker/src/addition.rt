@@ -1,20 +1,19 @@
 // When an addition is good: its number is greater than all earlier ones, and its hints refute the clause's negation,
 // or its first literal, the pivot, has a refutation for each candidate. (LRAT: RUP and RAT steps.)
-ghost use Rattle.std.specs.Prelude.{◌≡◌, ◌<◌, not, [], None, IfOk, IfNone, OnOk, OnErr, IsTrue};
+ghost use Rattle.std.specs.Prelude.{◌≡◌, ◌<◌, not, [], None, IfOk, IfNone, OnErr, IsTrue};
 ghost use Rattle.cnf_base.specs.ProofText.{is_empty};
 ghost use Rattle.lrat_rules.specs.Addition.{fault, fault_after_hints};
-ghost use Rattle.lrat_checker.specs.Stamped.{set_of, before_of};
+ghost use Rattle.lrat_rules.specs.FalseLiterals.{set_of, before_of};
 ghost use Rattle.lrat_checker.specs.Ends.{outcome_at};
 ghost use Rattle.lrat_checker.specs.Cuts.{group_uses, uses_of};
 ghost use Rattle.lrat_checker.specs.Memory.{judging_keeps};
 
-use crate::chain::Chain;
 use crate::live::IndexedClauses;
 use crate::propagation::{HintsEnd, run_hints};
 use crate::resolvents::resolvents_fault;
 use crate::uses::Uses;
 use cnf_base::{Group, Id, Lit, OutOfMemory};
-use lrat_rules::Reason;
+use lrat_rules::{Chain, Reason};
 
 /// Why the addition of this clause under this number isn't good; where it is, which hints its check took.
 pub fn addition_fault(

@@ -1,15 +1,15 @@
 // The candidates of an addition: the live clauses with the pivot's negation. Each has to be blocked or to have a group.
 ghost use Rattle.std.specs.Prelude.{◌≡◌, ◌&&◌, ◌||◌, ◌==◌, nat_lt};
-ghost use Rattle.std.specs.List.{list_any, list_all};
+ghost use Rattle.std.specs.List.{list_all};
 ghost use Rattle.std.specs.Option.{option_copied};
 ghost use Rattle.lrat_rules.specs.State.{clause_at};
 ghost use Rattle.lrat_rules.specs.Addition.{is_candidate, holds_negated};
-ghost use Rattle.lrat_checker.specs.Stamped.{set_of, before_of};
+ghost use Rattle.lrat_rules.specs.FalseLiterals.{set_of, before_of};
 ghost use Rattle.lrat_checker.specs.Walk.{settles, settles_at, has_group, IsCountOfNamed};
 
-use crate::chain::Chain;
 use crate::clauses::Clauses;
 use cnf_base::{Group, Id, Lit};
+use lrat_rules::{Chain, is_among};
 
 /// How many candidates the groups name, counting those whose numbers are greater than all before, so none twice.
 pub fn named_candidates(clauses: &Clauses, pivot: Lit, groups: &[Group]) -> usize
@@ -42,10 +42,12 @@ fn is_candidate(clauses: &Clauses, pivot: Lit, id: Id) -> bool
     }
 }
 
-fn holds_negated(clause: &[Lit], pivot: Lit) -> bool
+/// Whether a clause holds the pivot's negation.
+#[inline(always)]
+pub fn holds_negated(clause: &[Lit], pivot: Lit) -> bool
     ensures { result ≡ holds_negated pivot clause.now }
 {
-    clause.contains(&pivot.negated())
+    is_among(clause, pivot.negated())
 }
 
 /// Whether each of these numbers is of no live clause or of one that settles.

@@ -11,7 +11,7 @@ use cnf_base::{Lit, OutOfMemory};
 use std::alloc::Global;
 use std::marker::Model;
 
-#[derive(Debug, Drop)]
+#[derive(Drop)]
 pub struct Chunk {
     slots: Vec<Slot>,
     taken: u32,
@@ -53,18 +53,20 @@ impl Chunk {
         }
     }
 
-    /// Makes the slots, where there are none. A refusal changes nothing.
-    pub fn reserve(&mut self, alloc: Global) -> Result<(), OutOfMemory>
+    /// Makes the slots, where there are none, of one that is freed. A refusal changes nothing.
+    #[inline(always)]
+    pub fn reserve(&mut self, alloc: Global, slot: &Slot) -> Result<(), OutOfMemory>
         ensures same { (i : ℕ) → slice_index_or self.new i None ≡ slice_index_or self.old i None }
         ensures ok { OnOk result (128 ≤ length self.new) }
     {
         if self.slots.len() < 128 {
-            self.slots = free_slots(alloc)?;
+            self.slots = free_slots(alloc, slot)?;
         }
         Ok(())
     }
 
     /// Puts a clause into a place.
+    #[inline(always)]
     pub fn put(&mut self, place: usize, slot: Slot)
         requires { place < length self.old }
         ensures { self.new ≡ set self.old place (clause_in slot) }
@@ -81,7 +83,8 @@ impl Chunk {
         if self.clause(place).is_none() {
             return false;
         }
-        self.slots[place] = Slot::Free;
+        let slot = &mut self.slots[place];
+        slot.free();
         self.taken = self.taken.saturating_sub(1);
         if self.taken == 0 && is_blank(self.slots.as_slice()) {
             self.slots = Vec::new(alloc);
@@ -96,10 +99,12 @@ fn is_blank(slots: &[Slot]) -> bool
     slots.iter().all(|slot| slot.clause().is_none())
 }
 
-fn free_slots(alloc: Global) -> Result<Vec<Slot>, OutOfMemory>
+#[inline(never)]
+fn free_slots(alloc: Global, slot: &Slot) -> Result<Vec<Slot>, OutOfMemory>
     ensures size { IfOk result (λ slots. length slots.items ≡ 128) }
     ensures free { IfOk result (λ slots. (i : ℕ) → slice_index_or (map clause_in slots.items) i None ≡ None) }
 {
-    let slots = Vec::from_array(alloc, [Slot::Free; 128])?;
+    let mut slots = Vec::new(alloc);
+    slots.resize(128, slot.freed())?;
     Ok(slots)
 }

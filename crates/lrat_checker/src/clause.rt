@@ -6,7 +6,7 @@ use std::alloc::Global;
 use std::marker::Model;
 
 /// A live clause.
-#[derive(Debug, Drop)]
+#[derive(Drop)]
 pub struct Clause {
     literals: Vec<Lit>,
 }

@@ -9,21 +9,20 @@ ghost use Rattle.std.specs.Option.{option_copied};
 ghost use Rattle.std.specs.FinMap as map;
 ghost use Rattle.lrat_rules.specs.State.{clause_at, with_clause};
 ghost use Rattle.lrat_rules.specs.Addition.{is_settled};
-ghost use Rattle.lrat_checker.specs.Stamped.{set_of, before_of};
+ghost use Rattle.lrat_rules.specs.FalseLiterals.{set_of, before_of};
 ghost use Rattle.lrat_checker.specs.Clauses.{near_at, clause_in};
 ghost use Rattle.lrat_checker.specs.Holders.{KeepsAll, IsIndexOf, is_entered};
 ghost use Rattle.lrat_checker.specs.Walk.{passes_at, settles_at};
 
 use crate::candidates::{settles_clause, settles_place};
-use crate::chain::Chain;
 use crate::chunk::Chunk;
 use crate::clause::Clause;
 use crate::holders::Holders;
 use crate::slot::Slot;
 use cnf_base::{Group, Id, Lit, OutOfMemory};
+use lrat_rules::Chain;
 use std::alloc::Global;
 use std::collections::HashMap;
-use std::fmt;
 use std::marker::Model;
 
 /// Clauses by number.
@@ -98,13 +97,14 @@ impl Clauses {
         number / 128 < self.chunks.len() as u64 || number / 4 < self.inserted.saturating_add(16384)
     }
 
+    #[inline(always)]
     fn insert_near(&mut self, id: Id, literals: &[Lit], slot: Slot) -> Result<(), OutOfMemory>
         requires { clause_in slot ≡ Some literals.now }
         ensures ok { OnOk result (self.new ≡ with_clause self.old id literals.now) }
         ensures err { OnErr result (self.new ≡ self.old) }
     {
         let number = id.get();
-        reach(&mut self.chunks, self.alloc, number)?;
+        reach(&mut self.chunks, self.alloc, number, &slot)?;
         put(&mut self.chunks, number, slot);
         if number <= self.top {
             self.far.remove(&number);
@@ -175,15 +175,6 @@ impl Clauses {
     }
 }
 
-impl fmt::Debug for Clauses {
-    fn fmt<W: fmt::Write>(&self, f: &mut fmt::Formatter<W>) -> fmt::Result {
-        f.debug_struct("Clauses")
-            .field("chunks", &self.chunks)
-            .field("far", &self.far.len())
-            .finish()
-    }
-}
-
 // The clause at a number's place in the chunks.
 #[inline(always)]
 fn near_clause(chunks: &[Chunk], number: u64) -> Option<&[Lit]>
@@ -195,8 +186,14 @@ fn near_clause(chunks: &[Chunk], number: u64) -> Option<&[Lit]>
     }
 }
 
-// Makes chunks up to a number, and the places of its own.
-fn reach(chunks: &mut Vec<Chunk>, alloc: Global, number: u64) -> Result<(), OutOfMemory>
+// Makes chunks up to a number, and the places of its own, of a slot that is freed.
+#[inline(always)]
+fn reach(
+    chunks: &mut Vec<Chunk>,
+    alloc: Global,
+    number: u64,
+    slot: &Slot,
+) -> Result<(), OutOfMemory>
     ensures same { (n : ℕ) → near_at chunks.new.items n ≡ near_at chunks.old.items n }
     ensures index { OnOk result (number / 128 < length chunks.new.items) }
     ensures place { OnOk result (128 ≤ length (slice_index_or chunks.new.items (number / 128) [])) }
@@ -205,21 +202,28 @@ fn reach(chunks: &mut Vec<Chunk>, alloc: Global, number: u64) -> Result<(), OutO
     while chunks.len() <= index {
         chunks.push(Chunk::new(alloc))?;
     }
-    reserve(chunks, alloc, index)
+    reserve(chunks, alloc, index, slot)
 }
 
 // Makes the places of a chunk.
-fn reserve(chunks: &mut Vec<Chunk>, alloc: Global, index: usize) -> Result<(), OutOfMemory>
+#[inline(always)]
+fn reserve(
+    chunks: &mut Vec<Chunk>,
+    alloc: Global,
+    index: usize,
+    slot: &Slot,
+) -> Result<(), OutOfMemory>
     requires { index < length chunks.old.items }
     ensures same { (n : ℕ) → near_at chunks.new.items n ≡ near_at chunks.old.items n }
     ensures len { length chunks.new.items ≡ length chunks.old.items }
     ensures ok { OnOk result (128 ≤ length (slice_index_or chunks.new.items index [])) }
 {
     let chunk = &mut chunks[index];
-    chunk.reserve(alloc)
+    chunk.reserve(alloc, slot)
 }
 
 // Puts a clause into the place of a number.
+#[inline(always)]
 fn put(chunks: &mut Vec<Chunk>, number: u64, slot: Slot)
     requires index { number / 128 < length chunks.old.items }
     requires place { 128 ≤ length (slice_index_or chunks.old.items (number / 128) []) }

@@ -1,5 +1,5 @@
 // How often each literal stands in the live clauses. So it is seen at once that no candidates are left but those that groups name.
-ghost use Rattle.std.specs.Prelude.{◌≡◌, ◌+◌, ◌-◌, ◌≤◌, ℤ, OnOk, count_by, if◌then◌else◌};
+ghost use Rattle.std.specs.Prelude.{◌≡◌, ◌+◌, ◌-◌, ◌≤◌, ℤ, OnOk, if◌then◌else◌};
 ghost use Rattle.std.specs.Ordering.{int_eq};
 ghost use Rattle.lrat_checker.specs.Counts.{count_of, times_in};
 
@@ -8,7 +8,7 @@ use lrat_rules::ByLiteral;
 use std::alloc::Global;
 
 /// A count for each literal.
-#[derive(Debug, Drop)]
+#[derive(Drop)]
 pub struct Counts(ByLiteral<u32>);
 
 #[tactic(auto, unfolding(crate::specs::Counts::count_of))]
@@ -46,7 +46,23 @@ impl Counts {
         }
     }
 
+    #[inline(always)]
     fn raise(&mut self, literal: Lit) -> Result<(), OutOfMemory>
+        ensures kept { (x : ℤ) → count_of self.old x ≤ count_of self.new x }
+        ensures ok { OnOk result ((x : ℤ) → count_of self.new x ≡ (if int_eq x literal then count_of self.old x
+            + 1 else count_of self.old x)) }
+    {
+        if let Some(count) = self.0.get_mut(literal) {
+            *count = count.checked_add(1).ok_or(OutOfMemory)?;
+            return Ok(());
+        }
+        self.raise_first(literal)
+    }
+
+    // The same of a literal that may have no count yet.
+    #[cold]
+    #[inline(never)]
+    fn raise_first(&mut self, literal: Lit) -> Result<(), OutOfMemory>
         ensures kept { (x : ℤ) → count_of self.old x ≤ count_of self.new x }
         ensures ok { OnOk result ((x : ℤ) → count_of self.new x ≡ (if int_eq x literal then count_of self.old x
             + 1 else count_of self.old x)) }
@@ -58,6 +74,7 @@ impl Counts {
         Ok(())
     }
 
+    #[inline(always)]
     fn lower(&mut self, literal: Lit)
         ensures { (x : ℤ) → count_of self.new x ≡ (if int_eq x literal then count_of self.old x - 1 else count_of self.old x) }
     {

@@ -10,7 +10,6 @@ use crate::numbers::Numbers;
 use cnf_base::{Lit, OutOfMemory};
 use std::alloc::Global;
 use std::collections::HashMap;
-use std::fmt;
 
 /// The numbers of the clauses that hold a literal.
 #[derive(Drop)]
@@ -85,13 +84,5 @@ impl Holders {
             None => false,
             Some(numbers) => numbers.leave(clauses, gone),
         }
-    }
-}
-
-impl fmt::Debug for Holders {
-    fn fmt<W: fmt::Write>(&self, f: &mut fmt::Formatter<W>) -> fmt::Result {
-        f.debug_struct("Holders")
-            .field("literals", &self.lists.len())
-            .finish()
     }
 }

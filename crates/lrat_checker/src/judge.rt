@@ -11,16 +11,15 @@ ghost use Rattle.lrat_checker.specs.Cuts.{uses_of, uses_of_step};
 ghost use Rattle.lrat_checker.specs.Memory.{may_want_memory};
 
 use crate::addition::addition_fault;
-use crate::chain::Chain;
 use crate::live::IndexedClauses;
 use crate::uses::Uses;
 use cnf_base::{Cnf, Group, Id, Lit, OutOfMemory, Step};
-use lrat_rules::Reason;
+use lrat_rules::{Chain, Reason};
 use std::alloc::Global;
 use std::marker::Model;
 
 /// Judges the steps of a proof in turn, from a formula's clauses on.
-#[derive(Debug, Drop)]
+#[derive(Drop)]
 pub struct Judge {
     alloc: Global,
     live: IndexedClauses,

@@ -6,7 +6,6 @@
 
 mod addition;
 mod candidates;
-mod chain;
 mod chunk;
 mod clause;
 mod clauses;
@@ -19,7 +18,6 @@ mod numbers;
 mod propagation;
 mod resolvents;
 mod slot;
-mod stamps;
 mod text;
 mod uses;
 mod verdict;

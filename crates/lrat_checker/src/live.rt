@@ -8,21 +8,21 @@ ghost use Rattle.std.specs.FinMap as map;
 ghost use Rattle.lrat_rules.specs.State.{clause_at, with_clause, without_clauses};
 ghost use Rattle.lrat_rules.specs.Chain.{FalseSet};
 ghost use Rattle.lrat_rules.specs.Addition.{is_settled};
-ghost use Rattle.lrat_checker.specs.Stamped.{set_of, before_of};
+ghost use Rattle.lrat_rules.specs.FalseLiterals.{set_of, before_of};
 ghost use Rattle.lrat_checker.specs.Counts.{count_of, times_at};
 ghost use Rattle.lrat_checker.specs.Holders.{KeepsAll, KeepsAllLive, is_entered};
 
 use crate::candidates::{each_settled, named_candidates};
-use crate::chain::Chain;
 use crate::clauses::Clauses;
 use crate::counts::Counts;
 use crate::holders::Holders;
 use cnf_base::{Group, Id, Lit, OutOfMemory};
+use lrat_rules::Chain;
 use std::alloc::Global;
 use std::marker::Model;
 
 /// The live clauses.
-#[derive(Debug, Drop)]
+#[derive(Drop)]
 pub struct IndexedClauses {
     alloc: Global,
     clauses: Clauses,

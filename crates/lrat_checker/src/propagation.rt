@@ -2,18 +2,17 @@
 // or is bad. (LRAT: reverse unit propagation with hints.)
 ghost use Rattle.std.specs.Prelude.{◌≡◌, IfOk, OnOk, OnErr, IsTrue};
 ghost use Rattle.lrat_rules.specs.Chain.{chain as chain_of};
-ghost use Rattle.lrat_checker.specs.Stamped.{set_of, before_of};
+ghost use Rattle.lrat_rules.specs.FalseLiterals.{set_of, before_of};
 ghost use Rattle.lrat_checker.specs.Ends.{outcome_at};
 ghost use Rattle.lrat_checker.specs.Cuts.{used};
 ghost use Rattle.lrat_checker.specs.Memory.{forces_literal};
 
-use crate::chain::Chain;
 use crate::live::IndexedClauses;
 use cnf_base::{Id, OutOfMemory};
-use lrat_rules::{Effect, Reason};
+use lrat_rules::{Chain, Effect, Reason};
 
 /// Where a run over hints ends.
-#[derive(Clone, Copy, Debug, PartialEq, Eq)]
+#[derive(Clone, Copy)]
 pub enum HintsEnd {
     /// All hints were taken, and none of them is a conflict.
     NoConflict,

@@ -3,15 +3,15 @@
 ghost use Rattle.std.specs.Prelude.{◌≡◌, ◌++◌, map, None, IfOk, IfNone, OnOk};
 ghost use Rattle.lrat_rules.specs.Chain.{chain as chain_of};
 ghost use Rattle.lrat_rules.specs.Addition.{with_candidate, outcome_fault, group_fault, groups_fault, resolvents_fault};
-ghost use Rattle.lrat_checker.specs.Stamped.{set_of, before_of};
+ghost use Rattle.lrat_rules.specs.FalseLiterals.{set_of, before_of};
 ghost use Rattle.lrat_checker.specs.Cuts.{used, group_use};
 
-use crate::chain::Chain;
+use crate::candidates::holds_negated;
 use crate::live::IndexedClauses;
 use crate::propagation::{HintsEnd, run_hints};
 use crate::uses::Uses;
 use cnf_base::{Group, Id, Lit, OutOfMemory};
-use lrat_rules::Reason;
+use lrat_rules::{Chain, Reason};
 
 /// The first fault of the groups in turn, or else that a candidate is neither blocked nor named by a group. Where there is none,
 /// it is told how many hints of each group were taken.
@@ -79,8 +79,7 @@ fn group_fault(
     let Some(clause) = live.clause(group.id) else {
         return Ok((Some(Reason::GroupStray), 0));
     };
-    let negated = pivot.negated();
-    if !clause.contains(&negated) {
+    if !holds_negated(clause, pivot) {
         return Ok((Some(Reason::GroupStray), 0));
     }
     if chain.is_blocked(clause, pivot) {

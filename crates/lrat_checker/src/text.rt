@@ -13,6 +13,7 @@ ghost use Rattle.lrat_checker.specs.Memory.{steps_may_want_memory, reading_may_w
 ghost use Rattle.lrat_checker.specs.TextVerdict.{end_verdict, error_answer, steps_verdict, text_verdict, verdict_so_far, Answers};
 
 use crate::judge::Judge;
+use crate::uses::Uses;
 use crate::verdict::{CheckError, Verdict};
 use cnf_base::{Cnf, Id, IdList, Step};
 use host_io::Source;
@@ -48,14 +49,16 @@ pub fn check<S: Source>(alloc: Global, formula: &Cnf, source: &mut S) -> Result<
         id: Id(0),
         ids: IdList::new(alloc),
     };
-    judge_steps(&mut judge, &mut reader, &mut step, source)
+    let mut uses = Uses::new(alloc);
+    judge_steps(&mut judge, &mut reader, &mut step, &mut uses, source)
 }
 
-// Judges the steps that the reader still gives, each in the same place.
+// Judges the steps that the reader still gives, each in the same place, with the same lists.
 fn judge_steps<S: Source>(
     judge: &mut Judge,
     reader: &mut StepReader,
     step: &mut Step,
+    uses: &mut Uses,
     source: &mut S,
 ) -> Result<Verdict, CheckError>
     requires { reader.old.status ≡ Reading }
@@ -83,7 +86,7 @@ fn judge_steps<S: Source>(
         match reader.next_into(source, step) {
             Ok(Some(line)) => {
                 reader.near_law();
-                match judge.step(step)? {
+                match judge.step_with(step, uses)? {
                     Some(reason) => return Ok(Verdict::Refused { line, reason }),
                     None => has_empty = or_adds_empty(has_empty, step),
                 }

@@ -5,7 +5,7 @@ use cnf_base::{Items, OutOfMemory};
 use std::alloc::Global;
 
 /// How many hints the check of an addition took: of its positive hints, and of the hints of each group that it looked at.
-#[derive(Debug, Drop)]
+#[derive(Drop)]
 pub struct Uses {
     pub hints: usize,
     pub groups: Items<usize>,

@@ -6,7 +6,7 @@ use lrat_rules::Reason;
 use thiserror::Error;
 
 /// What a proof is over a formula.
-#[derive(Clone, Copy, Debug, PartialEq, Eq)]
+#[derive(Clone, Copy)]
 pub enum Verdict {
     /// Each line is a good step, and some line adds the empty clause.
     Verified,
@@ -15,7 +15,7 @@ pub enum Verdict {
 }
 
 /// Why there is no verdict.
-#[derive(Clone, Copy, Debug, PartialEq, Eq, Error)]
+#[derive(Clone, Copy, Debug, Error)]
 pub enum CheckError {
     #[error("a read failed")]
     ReadFault,

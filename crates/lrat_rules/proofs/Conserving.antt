@@ -1,14 +1,14 @@
 -- Conservative steps keep each assignment that satisfies the formula, on the formula's variables.
-use Rattle.std.proofs.Common.{◌≡◌, ◌≤◌, ◌<◌, ◌+◌, ◌||◌, ◌&&◌, ℕ, suc, Bool, true, false, not, ℤ, pos, negsuc, List, [], ◌∷◌, Option, None}
+use Rattle.std.proofs.Common.{◌≡◌, ◌≤◌, ◌+◌, ◌||◌, ℕ, suc, true, false, not, ℤ, pos, negsuc, List, [], ◌∷◌, Option, None}
 use Rattle.std.proofs.Common.{Some, refl}
-use Rattle.std.proofs.Common.{sym, ap, ap₂, ◌∙◌, subst, arith, inl, inr, eqb-true, eq-eqb}
-use Rattle.std.specs.Prelude.{◌⊎◌, ◌==◌, nat_abs, nat_lt, nat_le, if◌then◌else◌}
-use Rattle.std.specs.List.{list_all, list_any}
-use Rattle.std.proofs.lemmas.Bool.{and_parts, or_cases, leb-true, ltb-true, both_ways}
+use Rattle.std.proofs.Common.{ap, ap₂, ◌∙◌, arith, inl, inr, eqb-true, eq-eqb}
+use Rattle.std.specs.Prelude.{◌==◌, nat_abs, nat_lt, nat_le, if◌then◌else◌}
+use Rattle.std.specs.List.{list_all}
+use Rattle.std.proofs.lemmas.Bool.{and_parts, or_cases, leb-true, ltb-true}
 use Rattle.cnf_base.specs.declared.list.Group.{Group}
 use Rattle.cnf_base.specs.declared.step.Step.{Step}
 use Rattle.cnf_base.specs.declared.step.Step.TheVariants.{Add, Delete}
-use Rattle.cnf_base.specs.ProofText.{Line, is_printable}
+use Rattle.cnf_base.specs.ProofText.{is_printable}
 use Rattle.cnf_base.specs.Truth.{Assignment, Satisfies, AreClausesOf, literal_holds, clause_holds, is_literal_of}
 use Rattle.lrat_rules.specs.declared.outcome.Reason.{Reason}
 use Rattle.lrat_rules.specs.State.{State, Live, clause_at, start, with_clause, SatisfiesLive}

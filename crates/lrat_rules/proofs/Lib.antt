@@ -1,5 +1,4 @@
 pub mod Tests
-pub mod Trails
 pub mod Strictness
 pub mod Definitions
 pub mod Starts
@@ -12,5 +11,6 @@ pub mod Derivations
 pub mod Conserving
 pub mod Samples
 pub mod Passes
+pub mod FalseStamps
 pub mod MarksAtStart
 pub mod FewerMarks

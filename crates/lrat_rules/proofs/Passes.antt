@@ -1,11 +1,11 @@
 -- One pass over a hint's clause.
-use Rattle.std.proofs.Common.{◌≡◌, ℕ, ◌+◌, ◌<◌, ◌≤◌, Bool, true, false, not, ◌||◌, ◌&&◌, ℤ, List, ◌∷◌, ◌++◌, length, get_or, drop, Option}
+use Rattle.std.proofs.Common.{◌≡◌, ℕ, ◌+◌, ◌<◌, ◌≤◌, true, false, ℤ, List, ◌∷◌, length, get_or, drop, Option}
 use Rattle.std.proofs.Common.{None, Some, if◌then◌else◌, int_eq, refl, sym, ap, ◌∙◌}
-use Rattle.std.specs.List.{filter, list_any, list_all}
+use Rattle.std.specs.List.{list_all}
 use Rattle.std.proofs.lemmas.List.{drop_more, drop_all}
 use Rattle.lrat_rules.specs.declared.outcome.Effect.{Effect}
 use Rattle.lrat_rules.specs.declared.outcome.Effect.TheVariants.{Unit as Forced, NotUnit}
-use Rattle.lrat_rules.specs.Chain.{FalseSet, literals_of, outside, effect_of_outside}
+use Rattle.lrat_rules.specs.Chain.{FalseSet, outside, effect_of_outside}
 use Rattle.lrat_rules.specs.Pass.{forced_with, agrees, effect_of_forced}
 
 -- the effect of the literals that are left, behind the forced one if there is one so far

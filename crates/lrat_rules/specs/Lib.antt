@@ -9,7 +9,7 @@ pub mod Conservative
 pub mod Marks
 pub mod FalseLiterals
 pub mod ByLiteral
-pub mod Flags
+pub mod Stamps
 pub mod Trail
 pub mod Pass
 pub mod ReasonNumber

@@ -9,7 +9,6 @@ ghost use Rattle.lrat_rules.specs.ByLiteral.{place_of, entry, lends_entry};
 use cnf_base::{Lit, OutOfMemory};
 use std::alloc::Global;
 use std::collections::HashMap;
-use std::fmt;
 
 // Below this are the places of the literals of the variables below 2 ^ 22, for which a list by place is short enough.
 const NEAR_PLACES: usize = 8_388_608;
@@ -74,15 +73,6 @@ impl<T: Copy> ByLiteral<T> {
         } else {
             self.far.get_mut(&literal.get())
         }
-    }
-}
-
-impl<T> fmt::Debug for ByLiteral<T> {
-    fn fmt<W: fmt::Write>(&self, f: &mut fmt::Formatter<W>) -> fmt::Result {
-        f.debug_struct("ByLiteral")
-            .field("near", &self.near.len())
-            .field("far", &self.far.len())
-            .finish()
     }
 }
 

@@ -5,7 +5,6 @@ ghost use Rattle.lrat_rules.specs.Chain.{literals_of, effect};
 ghost use Rattle.lrat_rules.specs.Pass.{effect_of_forced, forced_with, agrees};
 
 use crate::outcome::Effect;
-use crate::trail::FalseTrail;
 use cnf_base::Lit;
 
 /// The effect of a hint's clause where these literals are false.
@@ -15,22 +14,6 @@ pub fn effect_on(literals: &[Lit], clause: &[Lit]) -> Effect
     let mut forced = None;
     for literal in clause {
         if is_among(literals, *literal) {
-            continue;
-        }
-        if !force(&mut forced, *literal) {
-            return Effect::NotUnit;
-        }
-    }
-    effect_of_forced(forced)
-}
-
-/// The same where those of a trail are false.
-pub fn effect_under(trail: &FalseTrail, clause: &[Lit]) -> Effect
-    ensures { result ≡ effect (literals_of trail.now) clause.now }
-{
-    let mut forced = None;
-    for literal in clause {
-        if trail.contains(*literal) {
             continue;
         }
         if !force(&mut forced, *literal) {
@@ -53,9 +36,9 @@ pub fn is_among(literals: &[Lit], literal: Lit) -> bool
     false
 }
 
-// Forces a literal that isn't false. The answer is whether no other one was forced before.
+/// Forces a literal that isn't false. The answer is whether no other one was forced before.
 #[inline(always)]
-fn force(forced: &mut Option<Lit>, literal: Lit) -> bool
+pub(crate) fn force(forced: &mut Option<Lit>, literal: Lit) -> bool
     ensures forced { forced.new ≡ forced_with forced.old literal }
     ensures alone { result ≡ agrees forced.old literal }
 {
@@ -68,8 +51,9 @@ fn force(forced: &mut Option<Lit>, literal: Lit) -> bool
     }
 }
 
+/// The effect at the clause's end.
 #[inline(always)]
-fn effect_of_forced(forced: Option<Lit>) -> Effect
+pub(crate) fn effect_of_forced(forced: Option<Lit>) -> Effect
     ensures { result ≡ effect_of_forced forced }
 {
     match forced {

@@ -7,11 +7,10 @@ mod by_literal;
 mod chain;
 mod effect;
 mod examples;
-mod flags;
 mod laws;
 mod outcome;
 mod soundness;
-mod trail;
+mod stamps;
 
 pub use by_literal::ByLiteral;
 pub use chain::Chain;

@@ -5,7 +5,7 @@ ghost use Rattle.lrat_rules.specs.ReasonNumber.{number_of};
 use cnf_base::Lit;
 
 /// The effect of a hint's clause on a set of false literals.
-#[derive(Clone, Copy, Debug, PartialEq, Eq)]
+#[derive(Clone, Copy)]
 pub enum Effect {
     /// Each literal of the clause is false.
     Conflict,

@@ -1,7 +1,7 @@
 -- Numbers that are taken from the scanner at once say what their tokens say.
-use Rattle.std.proofs.Common.{◌≡◌, ℕ, ◌≤◌, Bool, true, false, ℤ, pos, negsuc, w64, to_z, of_z, List, ◌++◌}
-use Rattle.std.proofs.Common.{◌==◌, if◌then◌else◌, sym, ◌∙◌, ap, subst, arith}
-use Rattle.std.specs.Prelude.{◌+◌, IsTrue, length, nat_abs}
+use Rattle.std.proofs.Common.{◌≡◌, ℕ, ◌≤◌, Bool, true, false, ℤ, pos, negsuc, w64, to_z, of_z, List, [], ◌∷◌, ◌++◌}
+use Rattle.std.proofs.Common.{◌==◌, if◌then◌else◌, refl, sym, ◌∙◌, ap, subst, arith}
+use Rattle.std.specs.Prelude.{◌+◌, ◌<◌, IsTrue, length, nat_abs}
 use Rattle.std.proofs.lemmas.Bool.Decides.{nat_tests}
 use Rattle.std.proofs.lemmas.Int.{to_z-of_z}
 use Rattle.text_scan.specs.Capped.{cap}
@@ -9,16 +9,16 @@ use Rattle.host_io.specs.Channel.{Channel}
 use Rattle.text_scan.specs.Decides.{gained, Decides, Decides-map}
 use Rattle.text_scan.specs.Scan.{block_size}
 use Rattle.text_scan.specs.Items.{Items, next_word}
-use Rattle.text_scan.specs.Scan.{TookNumber, ahead, so_far as scan_so_far, is_reading as is_scanning, is_faulted, fuel}
+use Rattle.text_scan.specs.Scan.{Scan, TookNumber, TookNumbers, ahead, so_far as scan_so_far, is_reading as is_scanning, is_faulted, fuel}
 use Rattle.lrat_text.specs.declared.reader.ReaderStatus.TheVariants.{Reading}
-use Rattle.lrat_text.specs.Form.{Form, IsForm}
+use Rattle.lrat_text.specs.Form.{Form, IsForm, with_numbers}
 use Rattle.lrat_text.specs.LineSteps.{broken_off}
 use Rattle.lrat_text.specs.LineReader.{ReaderOf, AnswerOf, with_token, drafted, BeginsLine, GoesOn, Gives, GivesSoFar, Settles}
 use Rattle.lrat_text.specs.LineReader.{steps_ahead, open_count, so_far}
 use Rattle.lrat_text.specs.LineWants.{wants_after, wants_ahead, may_want, Spends, Leads}
 use Rattle.lrat_text.proofs.Settled.{token_goes, before_gives}
 use Rattle.lrat_text.proofs.SoFar.{before_so_far}
-use Rattle.lrat_text.proofs.Wanted.{Leads-then, Leads-by, near_ahead, token_leads, token_wants, before_spends}
+use Rattle.lrat_text.proofs.Wanted.{Leads-refl, Leads-then, Leads-by, near_ahead, token_leads, token_wants, before_spends}
 
 -- a small number is read back from 64 bits
 pub read_back : (number : ℤ) → nat_abs number ≤ cap → to_z w64 (of_z w64 number) ≡ number
@@ -47,6 +47,34 @@ module _ {Draft Step : Type 0} (form : Form Draft Step) (law : IsForm form) wher
         less = omega (arith, took.gave.less);
       }
 
+  -- none
+  GoesOn-none : (old new : ReaderOf Draft) → new.scan ≡ old.scan → new.draft ≡ old.draft → new.status ≡ old.status → new.line ≡ old.line
+      → GoesOn form old new
+  GoesOn-none old new scan draft status line = record {
+    steps = λ more. sym (ap (λ s. drafted form (ahead s more) new.draft) scan ∙ ap (drafted form (ahead old.scan more)) draft);
+    so_far = λ more. sym (ap (λ s. drafted form (broken_off (scan_so_far s more)) new.draft) scan
+        ∙ ap (drafted form (broken_off (scan_so_far old.scan more))) draft);
+    scanning = ap (λ s. is_scanning s.status) scan;
+    faulted = ap (λ s. is_faulted s.status) scan;
+    begun = ap form.is_begun draft;
+    status = status;
+    line = line;
+    less = omega (arith, ap fuel scan);
+  }
+
+module _ {Draft Step : Type 0} (form : Form Draft Step) where
+  pub GoesOn-then : {a b c : ReaderOf Draft} → GoesOn form a b → GoesOn form b c → GoesOn form a c
+  GoesOn-then p q = record {
+    steps = λ more. p.steps more ∙ q.steps more;
+    so_far = λ more. p.so_far more ∙ q.so_far more;
+    scanning = q.scanning ∙ p.scanning;
+    faulted = q.faulted ∙ p.faulted;
+    begun = q.begun ∙ p.begun;
+    status = q.status ∙ p.status;
+    line = q.line ∙ p.line;
+    less = omega (arith, p.less, q.less);
+  }
+
 -- its draft, and what memory is wanted for
 module _ {Draft Step : Type 0} (form : Form Draft Step) (law : IsForm form) (number : ℤ) (old new : ReaderOf Draft) (took : TookNumber number (form.line old.draft) old.scan new.scan)
     (begun : form.is_begun old.draft ≡ true) where
@@ -70,18 +98,58 @@ module _ {Draft Step : Type 0} (form : Form Draft Step) (law : IsForm form) (num
       (token_wants form (length more) old.draft took.word (ahead new.scan more) begun same_word word
       (near_ahead form new.scan (form.with_word old.draft took.word) more small))
 
-module _ {Draft Step : Type 0} (form : Form Draft Step) where
-  pub GoesOn-then : {a b c : ReaderOf Draft} → GoesOn form a b → GoesOn form b c → GoesOn form a c
-  GoesOn-then p q = record {
-    steps = λ more. p.steps more ∙ q.steps more;
-    so_far = λ more. p.so_far more ∙ q.so_far more;
-    scanning = q.scanning ∙ p.scanning;
-    faulted = q.faulted ∙ p.faulted;
-    begun = q.begun ∙ p.begun;
-    status = q.status ∙ p.status;
-    line = q.line ∙ p.line;
-    less = omega (arith, p.less, q.less);
-  }
+-- numbers in turn
+module _ {Draft Step : Type 0} (form : Form Draft Step) (law : IsForm form) where
+  abbrev behind : ReaderOf Draft → ℤ → Scan → ReaderOf Draft
+  behind old number scan = record { scan = scan; draft = form.with_number old.draft number; status = old.status; line = old.line }
+
+  on_line : (numbers : List ℤ) (number : ℤ) (draft : Draft) (from to : Scan) → TookNumbers numbers (form.line draft) from to
+      → TookNumbers numbers (form.line (form.with_number draft number)) from to
+  on_line numbers number draft from to took = subst (λ line. TookNumbers numbers line from to) (sym (law.stays_on_line draft number)) took
+
+  pub GoesOn-numbers : (numbers : List ℤ) (old new : ReaderOf Draft) → TookNumbers numbers (form.line old.draft) old.scan new.scan
+      → form.is_begun old.draft ≡ true → new.draft ≡ with_numbers form old.draft numbers → new.status ≡ old.status → new.line ≡ old.line
+      → GoesOn form old new
+  GoesOn-numbers [] old new took begun draft status line = GoesOn-none form law old new took draft status line
+  GoesOn-numbers (number ∷ numbers) old new (scan, one, rest) begun draft status line =
+      GoesOn-then form (GoesOn-number form law number old (behind old number scan) one begun refl refl refl)
+      (GoesOn-numbers numbers (behind old number scan) new (on_line numbers number old.draft scan new.scan rest)
+      (law.stays_begun old.draft number begun) draft status line)
+
+  pub numbers_lead : (numbers : List ℤ) (old new : ReaderOf Draft) → TookNumbers numbers (form.line old.draft) old.scan new.scan
+      → form.is_begun old.draft ≡ true → new.draft ≡ with_numbers form old.draft numbers → (more : List ℕ)
+      → Leads (wants_ahead form old more) (wants_ahead form new more)
+  numbers_lead [] old new took begun draft more =
+      subst (Leads (wants_ahead form old more)) (sym (ap (λ s. wants_after form (ahead s more) new.draft) took
+      ∙ ap (wants_after form (ahead old.scan more)) draft)) (Leads-refl (wants_ahead form old more))
+  numbers_lead (number ∷ numbers) old new (scan, one, rest) begun draft more =
+      Leads-then (number_leads form law number old (behind old number scan) one begun refl more)
+      (numbers_lead numbers (behind old number scan) new (on_line numbers number old.draft scan new.scan rest)
+      (law.stays_begun old.draft number begun) draft more)
+
+  one_wants : (number : ℤ) (numbers : List ℤ) (old : ReaderOf Draft) (scan : Scan)
+      → TookNumbers (number ∷ numbers) (form.line old.draft) old.scan scan → form.is_begun old.draft ≡ true
+      → IsTrue (form.keeps_number (with_numbers form old.draft (number ∷ numbers))) → length scan.unread ≤ block_size → (more : List ℕ)
+      → IsTrue (may_want (length more) (wants_ahead form old more))
+  one_wants number [] old scan (middle, one, rest) begun keeps small more =
+      number_wants form law number old (behind old number middle) one begun keeps
+      (subst (λ (s : Scan). length s.unread ≤ block_size) rest small) more
+  one_wants number (next ∷ numbers) old scan (middle, one, rest) begun keeps small more =
+      (number_leads form law number old (behind old number middle) one begun refl more).wants (length more)
+      (one_wants next numbers (behind old number middle) scan (on_line (next ∷ numbers) number old.draft middle scan rest)
+      (law.stays_begun old.draft number begun) keeps small more)
+
+  pub numbers_want : (numbers : List ℤ) (old : ReaderOf Draft) (scan : Scan) → TookNumbers numbers (form.line old.draft) old.scan scan
+      → form.is_begun old.draft ≡ true → 0 < length numbers → IsTrue (form.keeps_number (with_numbers form old.draft numbers))
+      → length scan.unread ≤ block_size → (more : List ℕ) → IsTrue (may_want (length more) (wants_ahead form old more))
+  numbers_want [] old scan took begun some keeps small more = absurd (omega (arith, some))
+  numbers_want (number ∷ numbers) old scan took begun some keeps small more = one_wants number numbers old scan took begun keeps small more
+
+-- no read failed
+pub took_sound : (numbers : List ℤ) (line : ℕ) (old new : Scan) → TookNumbers numbers line old new → is_faulted old.status ≡ false
+    → is_faulted new.status ≡ false
+took_sound [] line old new same sound = ap (λ (s : Scan). is_faulted s.status) same ∙ sound
+took_sound (number ∷ numbers) line old new (middle, one, rest) sound = took_sound numbers line middle new rest (ap is_faulted one.status)
 
 -- Within a call: the steps from here on are those from the start on.
 pub record Stands {Draft Step : Type 0} (form : Form Draft Step) (tells : Bool) (from to : Channel) (first now : ReaderOf Draft) : Type 0 where

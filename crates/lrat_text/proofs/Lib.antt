@@ -3,6 +3,7 @@ pub mod DraftLemmas
 pub mod LratForm
 pub mod LratLines
 pub mod Zero
+pub mod Ends
 pub mod Drafted
 pub mod Lines
 pub mod Overlong
@@ -10,3 +11,4 @@ pub mod Wanted
 pub mod Settled
 pub mod SoFar
 pub mod GoesOn
+pub mod DraftNumbers

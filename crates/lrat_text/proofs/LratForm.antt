@@ -120,6 +120,12 @@ pub record IsKept : Type 0 where
   pub signed : (word : Word) → signed_number (kept word).bytes ≡ signed_number word.bytes
   pub deletion : (word : Word) → is_delete_word (kept word).bytes ≡ is_delete_word word.bytes
 
+same_line : (draft : DraftLine) (kind : Kind) (number : ℤ) → (draft_with_number_in kind draft number).line ≡ draft.line
+same_line draft Empty number = refl
+same_line draft Begun number = refl
+same_line draft Adds number = refl
+same_line draft Deletes number = refl
+
 abbrev word_at : ℕ → List ℕ → Word
 word_at line bytes = record { bytes = bytes; line = line }
 
@@ -170,4 +176,5 @@ module _ (keeps : IsKept) where
     first_number = number_begins;
     later_number = λ draft. number_taken draft draft.kind;
     stays_begun = λ draft. still_open draft draft.kind;
+    stays_on_line = λ draft. same_line draft draft.kind;
   }

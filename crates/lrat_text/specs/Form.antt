@@ -25,6 +25,11 @@ pub record Form (Draft Step : Type 0) : Type 0 where
   -- the step that it spells if it is ended here
   pub judged : Draft → Option Step
 
+-- the line with tokens in turn that spell these numbers
+abbrev pub with_numbers : {Draft Step : Type 0} → Form Draft Step → Draft → List ℤ → Draft
+with_numbers form draft [] = draft
+with_numbers form draft (number ∷ numbers) = with_numbers form (form.with_number draft number) numbers
+
 -- What a draft says of a line is what its tokens say, as far as they are kept, and a number says what its token says.
 pub record IsForm {Draft Step : Type 0} (form : Form Draft Step) : Type 0 where
   -- the draft of these tokens on a line
@@ -44,3 +49,4 @@ pub record IsForm {Draft Step : Type 0} (form : Form Draft Step) : Type 0 where
   pub later_number : (draft : Draft) (word : Word) (number : ℤ) → signed_number word.bytes ≡ Some number → nat_abs number ≤ cap
       → form.with_word draft word ≡ form.with_number draft number
   pub stays_begun : (draft : Draft) (number : ℤ) → form.is_begun draft ≡ true → form.is_begun (form.with_number draft number) ≡ true
+  pub stays_on_line : (draft : Draft) (number : ℤ) → form.line (form.with_number draft number) ≡ form.line draft

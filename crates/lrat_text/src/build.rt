@@ -1,12 +1,12 @@
 // From the numbers of a line to its step.
-ghost use Rattle.std.specs.Prelude.{◌≡◌, true, pos, slice_index_or, [], ◌∷◌, ◌++◌, ◌+◌, ◌<◌, ◌≤◌, ◌^◌, ℤ, nat_abs, List, map, take, drop};
+ghost use Rattle.std.specs.Prelude.{◌≡◌, true, ℕ, pos, slice_index_or, [], ◌∷◌, ◌++◌, ◌+◌, ◌<◌, nat_abs, map, take, drop};
 ghost use Rattle.std.specs.Prelude.{length, Option, None, Some, Ok, OnOk, OnErr, IfOk, IsTrue, IfSome, is_some};
 ghost use Rattle.std.specs.List.{list_all};
 ghost use Rattle.std.specs.Option.{option_map};
+ghost use Rattle.cnf_base.specs.declared.step.Step.TheVariants.{Add};
 ghost use Rattle.cnf_base.specs.Truth.{is_literal_of};
-ghost use Rattle.cnf_base.specs.ProofText.{addition_of};
-ghost use Rattle.cnf_base.specs.ProofText.{max_id, max_literal, is_id, is_hint, is_zero, split_at, given_if, hints_before_group, groups_of};
-ghost use Rattle.lrat_text.specs.Numbers.{addition_by, deletion_from, deletion_with};
+ghost use Rattle.cnf_base.specs.ProofText.{max_literal, is_id, is_hint, is_zero, split_at, given_if, hints_before_group, groups_of};
+ghost use Rattle.lrat_text.specs.Numbers.{addition_by, deletion_from, deletion_with, ended_list, IsIdFront};
 
 use crate::lists::Lists;
 use cnf_base::{Group, GroupList, Id, IdList, Lit, LitList, OutOfMemory, Step};
@@ -53,6 +53,28 @@ pub fn is_within(number: i64, most: u64) -> bool
     magnitude > 0 && magnitude <= most
 }
 
+// The same of the number at a place.
+#[inline(always)]
+fn is_within_at(numbers: &[i64], place: usize, most: u64) -> bool
+    requires { place < length numbers.now }
+    ensures { result ≡ is_literal_of most (slice_index_or numbers.now place (pos 0)) }
+{
+    is_within(numbers[place], most)
+}
+
+// The place, if 0 stands there.
+#[inline(always)]
+fn zero_at(numbers: &[i64], place: usize) -> Option<usize>
+    requires { place < length numbers.now }
+    ensures { result ≡ given_if (is_zero (slice_index_or numbers.now place (pos 0))) place }
+{
+    if is_zero_at(numbers, place) {
+        Some(place)
+    } else {
+        None
+    }
+}
+
 #[inline(always)]
 fn is_id(id: u64) -> bool
     ensures { result ≡ is_id id }
@@ -60,16 +82,20 @@ fn is_id(id: u64) -> bool
     id > 0 && id <= MAX_ID
 }
 
-// The list becomes the clause of these literals.
-fn put_clause(clause: &mut LitList, literals: &[i64]) -> Result<(), OutOfMemory>
-    requires { IsTrue (list_all (is_literal_of max_literal) literals.now) }
-    ensures { OnOk result (clause.new ≡ literals.now) }
+// The list becomes the clause of the literals before the first zero. Where that stands, if all before it are literals.
+fn put_clause(clause: &mut LitList, numbers: &[i64]) -> Result<Option<usize>, OutOfMemory>
+    ensures clause { IfOk result (λ end. ended_list (is_literal_of max_literal) numbers.now
+        ≡ option_map (λ n. (clause.new, drop (n + 1) numbers.now)) end) }
+    ensures within { IfOk result (λ end. IfSome end (λ n. n < length numbers.now)) }
 {
     clause.clear();
-    for literal in literals {
-        push_literal(clause, *literal)?;
+    for place in 0..numbers.len() {
+        if !is_within_at(numbers, place, MAX_LITERAL) {
+            return Ok(zero_at(numbers, place));
+        }
+        push_literal(clause, numbers[place])?;
     }
-    Ok(())
+    Ok(None)
 }
 
 /// Appends the literal that is this number.
@@ -95,60 +121,69 @@ fn put_ids(ids: &mut IdList, numbers: &[i64]) -> Result<(), OutOfMemory>
     Ok(())
 }
 
-// The list becomes the hints before the first group.
-fn put_hints(hints: &mut IdList, numbers: &[i64]) -> Result<(), OutOfMemory>
-    ensures { OnOk result (hints.new ≡ hints_before_group numbers.now) }
+// The list becomes the identifiers at the front, up to the first number that is none. How many they are.
+fn put_front(ids: &mut IdList, numbers: &[i64]) -> Result<usize, OutOfMemory>
+    ensures { IfOk result (λ count. IsIdFront count ids.new numbers.now) }
 {
-    hints.clear();
-    for number in numbers {
-        if *number < 0 {
-            return Ok(());
+    ids.clear();
+    for place in 0..numbers.len() {
+        let number = numbers[place];
+        if !(number > 0 && number <= MAX_ID as i64) {
+            return Ok(place);
         }
-        hints.push(Id(*number as u64))?;
+        ids.push(Id(number as u64))?;
     }
-    Ok(())
+    Ok(numbers.len())
 }
 
-// The hints of a group.
-fn group_hints(alloc: Global, numbers: &[i64]) -> Result<IdList, OutOfMemory>
-    ensures { OnOk result (result ≡ Ok (hints_before_group numbers.now)) }
-{
-    let mut hints = IdList::new(alloc);
-    put_hints(&mut hints, numbers)?;
-    Ok(hints)
-}
-
-// The list becomes the groups.
-fn put_groups(alloc: Global, groups: &mut GroupList, numbers: &[i64]) -> Result<(), OutOfMemory>
-    ensures { OnOk result (groups.new ≡ groups_of numbers.now) }
-{
-    groups.clear();
-    for (place, number) in numbers.iter().enumerate() {
-        if *number < 0 {
-            groups.push(Group {
-                id: Id(number.unsigned_abs()),
-                hints: group_hints(alloc, &numbers[place + 1..])?,
-            })?;
-        }
-    }
-    Ok(())
-}
-
-// The same of numbers of which so many stand before the first group.
-fn put_groups_behind(
+// The lists become the hints and the groups before the first zero. Where that stands, if all before it are hints.
+fn put_hints(
     alloc: Global,
+    hints: &mut IdList,
     groups: &mut GroupList,
     numbers: &[i64],
-    count: usize,
-) -> Result<(), OutOfMemory>
-    requires { count ≡ length (hints_before_group numbers.now) }
-    ensures { OnOk result (groups.new ≡ groups_of numbers.now) }
+) -> Result<Option<usize>, OutOfMemory>
+    ensures split { IfOk result (λ end. ended_list is_hint numbers.now
+        ≡ option_map (λ n. (take n numbers.now, drop (n + 1) numbers.now)) end) }
+    ensures within { IfOk result (λ end. IfSome end (λ n. n < length numbers.now)) }
+    ensures hints { IfOk result (λ end. IfSome end (λ n. hints.new ≡ hints_before_group (take n numbers.now))) }
+    ensures groups { IfOk result (λ end. IfSome end (λ n. groups.new ≡ groups_of (take n numbers.now))) }
 {
-    if count == numbers.len() {
-        groups.clear();
-        return Ok(());
+    groups.clear();
+    let mut end = put_front(hints, numbers)?;
+    'groups: while end < numbers.len() {
+        if !is_within_at(numbers, end, MAX_ID) {
+            return Ok(zero_at(numbers, end));
+        }
+        let mut own = IdList::new(alloc);
+        let count = put_front(&mut own, &numbers[end + 1..])?;
+        groups.push(Group {
+            id: Id(numbers[end].unsigned_abs()),
+            hints: own,
+        })?;
+        end += count + 1;
     }
-    put_groups(alloc, groups, numbers)
+    Ok(None)
+}
+
+// The lists become those of the addition that these numbers behind an identifier spell, if they spell one.
+fn put_lists(
+    alloc: Global,
+    clause: &mut LitList,
+    hints: &mut IdList,
+    groups: &mut GroupList,
+    numbers: &[i64],
+) -> Result<bool, OutOfMemory>
+    ensures { IfOk result (λ are. (id : ℕ) → is_id id ≡ true → addition_by id numbers.now ≡ given_if are (Add id clause.new hints.new groups.new)) }
+{
+    let Some(end) = put_clause(clause, numbers)? else {
+        return Ok(false);
+    };
+    let rest = &numbers[end + 1..];
+    match put_hints(alloc, hints, groups, rest)? {
+        None => Ok(false),
+        Some(end) => Ok(rest[end + 1..].is_empty()),
+    }
 }
 
 /// Whether these numbers behind an identifier spell an addition, which then is the step. Memory is wanted only for that.
@@ -161,45 +196,30 @@ pub fn put_addition(
     ensures step { IfOk result (λ is_step. addition_by id numbers.now ≡ given_if is_step step.new) }
     ensures memory { OnErr result (IsTrue (is_some (addition_by id numbers.now))) }
 {
-    let Some((end, are_literals)) = first_zero(numbers, MAX_LITERAL) else {
-        return Ok(false);
-    };
-    let rest = &numbers[end + 1..];
-    let Some((hints_end, are_hints)) = first_zero(rest, MAX_ID) else {
-        return Ok(false);
-    };
-    put_addition_of(
-        lists,
-        id,
-        &numbers[..end],
-        are_literals,
-        &rest[..hints_end],
-        are_hints,
-        &rest[hints_end + 1..],
-        step,
-    )
+    match put_as_read(lists, id, numbers, step) {
+        Ok(is_step) => Ok(is_step),
+        Err(error) => {
+            if is_addition(id, numbers) {
+                Err(error)
+            } else {
+                Ok(false)
+            }
+        }
+    }
 }
 
-// The same of numbers that are parted, of which it is known whether they are good.
-fn put_addition_of(
+// The same in one pass, which may want memory for numbers that spell no addition. The lists of an addition are filled where they stand.
+fn put_as_read(
     lists: &mut Lists,
     id: u64,
-    literals: &[i64],
-    are_literals: bool,
-    hints: &[i64],
-    are_hints: bool,
-    rest: &[i64],
+    numbers: &[i64],
     step: &mut Step,
 ) -> Result<bool, OutOfMemory>
-    requires literals { are_literals ≡ list_all (is_literal_of max_literal) literals.now }
-    requires hints { are_hints ≡ list_all is_hint hints.now }
-    ensures step { IfOk result (λ is_step. addition_of id literals.now (hints.now, rest.now) ≡ given_if is_step step.new) }
-    ensures memory { OnErr result (IsTrue (is_some (addition_of id literals.now (hints.now, rest.now)))) }
+    ensures { IfOk result (λ is_step. addition_by id numbers.now ≡ given_if is_step step.new) }
 {
-    if !(is_id(id) && are_literals && are_hints && rest.is_empty()) {
+    if !is_id(id) {
         return Ok(false);
     }
-    // The lists of an addition are filled where they stand.
     if let Step::Add {
         id: place,
         lits,
@@ -208,17 +228,34 @@ fn put_addition_of(
     } = step
     {
         *place = Id(id);
-        put_clause(lits, literals)?;
-        put_hints(pos, hints)?;
-        put_groups_behind(lists.alloc, groups, hints, pos.as_slice().len())?;
-        return Ok(true);
+        return put_lists(lists.alloc, lits, pos, groups, numbers);
     }
     lists.take_back(step);
-    put_clause(&mut lists.clause, literals)?;
-    put_hints(&mut lists.hints, hints)?;
-    put_groups(lists.alloc, &mut lists.groups, hints)?;
+    let is_step = put_lists(
+        lists.alloc,
+        &mut lists.clause,
+        &mut lists.hints,
+        &mut lists.groups,
+        numbers,
+    )?;
     *step = lists.addition(id);
-    Ok(true)
+    Ok(is_step)
+}
+
+// Whether these numbers behind an identifier spell an addition.
+#[cold]
+#[inline(never)]
+fn is_addition(id: u64, numbers: &[i64]) -> bool
+    ensures { result ≡ is_some (addition_by id numbers.now) }
+{
+    let Some((end, are_literals)) = first_zero(numbers, MAX_LITERAL) else {
+        return false;
+    };
+    let rest = &numbers[end + 1..];
+    let Some((hints_end, are_hints)) = first_zero(rest, MAX_ID) else {
+        return false;
+    };
+    is_id(id) && are_literals && are_hints && rest[hints_end + 1..].is_empty()
 }
 
 /// Whether these numbers behind the `d` spell a deletion, which then is the step. Memory is wanted only for that.

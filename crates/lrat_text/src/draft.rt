@@ -1,10 +1,12 @@
 // A line of an LRAT proof as it is read, token by token.
-ghost use Rattle.std.specs.Prelude.{◌≡◌, ◌≤◌, [], None, Some, Ok, OnOk, OnErr, IfOk, Option, IsTrue, is_some};
-ghost use Rattle.std.specs.Option.{option_map};
-ghost use Rattle.cnf_base.specs.ProofText.{is_delete_word, given_if};
-ghost use Rattle.lrat_text.specs.declared.draft.Kind.TheVariants.{Empty};
-ghost use Rattle.lrat_text.specs.Draft.{no_draft, draft_of_word, draft_with, draft_with_number, draft_of_number, first_number, unsigned};
-ghost use Rattle.lrat_text.specs.Draft.{with_given, draft_as, has_numbers, judged, is_open, keeps_number, lrat_form};
+ghost use Rattle.std.specs.Prelude.{◌≡◌, ◌<◌, length, None, Some, Ok, OnOk, OnErr, Option, IsTrue};
+ghost use Rattle.std.specs.Int.{is_negative};
+ghost use Rattle.std.specs.List.{list_any};
+ghost use Rattle.cnf_base.specs.ProofText.{is_delete_word};
+ghost use Rattle.lrat_text.specs.declared.draft.Kind.TheVariants.{Empty, Begun, Adds, Deletes};
+ghost use Rattle.lrat_text.specs.Form.{with_numbers};
+ghost use Rattle.lrat_text.specs.Draft.{first_number};
+ghost use Rattle.lrat_text.specs.Draft.{with_given, draft_as, has_numbers, keeps_number, lrat_form};
 
 use crate::build::{put_addition, put_deletion};
 use crate::form::LineForm;
@@ -15,7 +17,7 @@ use std::marker::Model;
 use text_scan::{Token, kept_word_law, plain_number, signed_number};
 
 /// What was read of a line: nothing, its first token, or that it is an addition or a deletion.
-#[derive(Clone, Copy, Debug, PartialEq, Eq)]
+#[derive(Clone, Copy, PartialEq, Eq)]
 pub enum Kind {
     Empty,
     Begun,
@@ -24,7 +26,7 @@ pub enum Kind {
 }
 
 /// A line of an LRAT proof: the numbers of its tokens so far.
-#[derive(Debug, Drop)]
+#[derive(Drop)]
 pub struct LratLine {
     line: u64,
     kind: Kind,
@@ -63,12 +65,10 @@ fn first_number(number: i64) -> Option<u64>
     }
 }
 
-// A number without a sign.
-#[inline(always)]
-fn unsigned(number: i64) -> Option<i64>
-    ensures { result ≡ unsigned number }
+fn has_negative(numbers: &[i64]) -> bool
+    ensures { result ≡ list_any is_negative numbers.now }
 {
-    if number < 0 { None } else { Some(number) }
+    numbers.iter().any(|number| *number < 0)
 }
 
 impl LineForm for LratLine {
@@ -144,13 +144,13 @@ impl LineForm for LratLine {
     }
 
     #[inline(always)]
-    fn take_number(&mut self, number: i64) -> Result<(), OutOfMemory> {
-        // Most numbers are of additions.
-        if self.kind == Kind::Adds || self.kind == Kind::Begun {
-            self.kind = Kind::Adds;
-            return self.put_number(number);
+    fn take_numbers(&mut self, numbers: &[i64]) -> Result<(), OutOfMemory> {
+        match self.kind {
+            Kind::Empty => Ok(()),
+            Kind::Begun => self.begin_numbers(numbers),
+            Kind::Adds => self.add_numbers(numbers),
+            Kind::Deletes => self.delete_numbers(numbers),
         }
-        self.take_rare_number(number)
     }
 
     fn blank_step(&self) -> Step {
@@ -173,23 +173,57 @@ impl LineForm for LratLine {
 }
 
 impl LratLine {
-    // The same of any line. It stands apart, so that the loop over an addition's numbers stays small.
-    #[cold]
-    #[inline(never)]
-    fn take_rare_number(&mut self, number: i64) -> Result<(), OutOfMemory>
-        ensures ok { OnOk result (self.new ≡ draft_with_number self.old number) }
-        ensures memory { OnErr result (IsTrue (keeps_number (draft_with_number self.old number).numbers)) }
+    // Numbers in turn behind the first token.
+    #[inline(always)]
+    fn begin_numbers(&mut self, numbers: &[i64]) -> Result<(), OutOfMemory>
+        requires { self.old.kind ≡ Begun }
+        ensures ok { OnOk result (self.new ≡ with_numbers lrat_form self.old numbers.now) }
+        ensures some { OnErr result (0 < length numbers.now) }
+        ensures memory { OnErr result (IsTrue (keeps_number (with_numbers lrat_form self.old numbers.now).numbers)) }
         ensures kept { OnErr result (IsTrue (has_numbers self.new)) }
     {
-        match self.kind {
-            Kind::Empty => Ok(()),
-            Kind::Begun => {
-                self.kind = Kind::Adds;
-                self.put_number(number)
-            }
-            Kind::Adds => self.put_number(number),
-            Kind::Deletes => self.put(unsigned(number)),
+        if numbers.is_empty() {
+            return Ok(());
         }
+        self.kind = Kind::Adds;
+        self.add_numbers(numbers)
+    }
+
+    // Numbers in turn of an addition, unless a token was none.
+    #[inline(always)]
+    fn add_numbers(&mut self, numbers: &[i64]) -> Result<(), OutOfMemory>
+        requires { self.old.kind ≡ Adds }
+        ensures ok { OnOk result (self.new ≡ with_numbers lrat_form self.old numbers.now) }
+        ensures some { OnErr result (0 < length numbers.now) }
+        ensures memory { OnErr result (IsTrue (keeps_number (with_numbers lrat_form self.old numbers.now).numbers)) }
+        ensures kept { OnErr result (IsTrue (has_numbers self.new)) }
+    {
+        if self.broken {
+            return Ok(());
+        }
+        self.numbers.extend_from_slice(numbers)?;
+        Ok(())
+    }
+
+    // Numbers in turn of a deletion, of which none is negative.
+    #[cold]
+    #[inline(never)]
+    fn delete_numbers(&mut self, numbers: &[i64]) -> Result<(), OutOfMemory>
+        requires { self.old.kind ≡ Deletes }
+        ensures ok { OnOk result (self.new ≡ with_numbers lrat_form self.old numbers.now) }
+        ensures some { OnErr result (0 < length numbers.now) }
+        ensures memory { OnErr result (IsTrue (keeps_number (with_numbers lrat_form self.old numbers.now).numbers)) }
+        ensures kept { OnErr result (IsTrue (has_numbers self.new)) }
+    {
+        if self.broken {
+            return Ok(());
+        }
+        if has_negative(numbers) {
+            self.broken = true;
+            return Ok(());
+        }
+        self.numbers.extend_from_slice(numbers)?;
+        Ok(())
     }
 
     #[inline(always)]
@@ -205,7 +239,7 @@ impl LratLine {
         Ok(())
     }
 
-    // One number more, unless a token was none. Mostly there is room for it.
+    // One number more, unless a token was none.
     #[tactic(auto, using(crate::proofs::DraftLemmas::keeps_last))]
     #[inline(always)]
     fn put_number(&mut self, number: i64) -> Result<(), OutOfMemory>
@@ -216,11 +250,7 @@ impl LratLine {
         if self.broken {
             return Ok(());
         }
-        if self.numbers.len() < self.numbers.capacity() {
-            self.numbers.push_reserved(number);
-        } else {
-            self.numbers.push(number)?;
-        }
+        self.numbers.push(number)?;
         Ok(())
     }
 }

@@ -5,7 +5,7 @@ use cnf_base::OutOfMemory;
 use thiserror::Error;
 
 /// Why there is no further step before the end. A reader gives it again from then on.
-#[derive(Clone, Copy, Debug, PartialEq, Eq, Error)]
+#[derive(Clone, Copy, Debug, Error)]
 pub enum StepError {
     /// The line that spells no step.
     #[error("line {0} is no step of a proof")]

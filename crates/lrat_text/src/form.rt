@@ -1,7 +1,7 @@
 // What a reader needs of a form of lines.
-ghost use Rattle.std.specs.Prelude.{◌≡◌, OnOk, OnErr, IfOk, IsTrue, is_some};
+ghost use Rattle.std.specs.Prelude.{◌≡◌, ◌<◌, length, OnOk, OnErr, IfOk, IsTrue, is_some};
 ghost use Rattle.cnf_base.specs.ProofText.{given_if};
-ghost use Rattle.lrat_text.specs.Form.{Form, IsForm};
+ghost use Rattle.lrat_text.specs.Form.{Form, IsForm, with_numbers};
 
 use cnf_base::OutOfMemory;
 use std::alloc::Global;
@@ -49,10 +49,11 @@ pub trait LineForm: Drop {
         ensures memory { OnErr result (IsTrue (form.keeps_number (form.with_word self.old token.now))) }
         ensures kept { OnErr result (IsTrue (form.has_numbers self.new)) };
 
-    /// Takes one more token of the line, which spells this number.
-    fn take_number(&mut self, number: i64) -> Result<(), OutOfMemory>
-        ensures ok { OnOk result (self.new ≡ form.with_number self.old number) }
-        ensures memory { OnErr result (IsTrue (form.keeps_number (form.with_number self.old number))) }
+    /// Takes more tokens of the line in turn, which spell these numbers. Memory is wanted only where the last one is kept.
+    fn take_numbers(&mut self, numbers: &[i64]) -> Result<(), OutOfMemory>
+        ensures ok { OnOk result (self.new ≡ with_numbers form self.old numbers.now) }
+        ensures some { OnErr result (0 < length numbers.now) }
+        ensures memory { OnErr result (IsTrue (form.keeps_number (with_numbers form self.old numbers.now))) }
         ensures kept { OnErr result (IsTrue (form.has_numbers self.new)) };
 
     /// A step that takes no memory.

@@ -9,7 +9,7 @@ use std::alloc::Global;
 use std::mem::replace;
 
 /// The lists of an addition and of a deletion, but for those that stand in a step.
-#[derive(Debug, Drop)]
+#[derive(Drop)]
 pub struct Lists {
     pub alloc: Global,
     pub clause: LitList,

@@ -17,8 +17,11 @@ use std::alloc::Global;
 use std::marker::Model;
 use text_scan::{ScanError, Scanner, Token};
 
+/// How many numbers are taken from the scanner at once.
+const NUMBERS: usize = 32;
+
 /// Whether a reader still reads, and else what it answers from now on.
-#[derive(Clone, Copy, Debug, PartialEq, Eq)]
+#[derive(Clone, Copy)]
 enum ReaderStatus {
     Reading,
     Ended,
@@ -26,12 +29,14 @@ enum ReaderStatus {
 }
 
 /// Reads the lines of a textual proof as steps, in one form of lines.
-#[derive(Debug, Drop)]
+#[derive(Drop)]
 pub struct LineReader<F: LineForm> {
     scanner: Scanner,
     draft: F,
     status: ReaderStatus,
     line: u64,
+    // a place for the numbers that the scanner gives at once
+    numbers: [i64; NUMBERS],
 }
 
 /// Reads the lines of a textual LRAT proof as steps.
@@ -66,6 +71,7 @@ impl<F: LineForm> LineReader<F> {
             draft: F::new(alloc),
             status: ReaderStatus::Reading,
             line: 1,
+            numbers: [0; NUMBERS],
         }
     }
 
@@ -198,7 +204,8 @@ impl<F: LineForm> LineReader<F> {
         }
     }
 
-    // Takes the numbers that come next on the line that is begun, as far as they lie in what was read.
+    // Takes the numbers that come next on the line that is begun, as far as they lie in what was read and there are places for them. (Of a
+    // longer line the next one is then taken as a token, and those behind it in the next turn.)
     #[inline(always)]
     fn take_numbers(&mut self) -> Result<(), StepError>
         requires { self.old.status ≡ Reading }
@@ -214,16 +221,14 @@ impl<F: LineForm> LineReader<F> {
         if !self.draft.is_begun() {
             return Ok(());
         }
-        'numbers: loop {
-            let Some(number) = self.scanner.number_on(self.draft.line()) else {
-                return Ok(());
-            };
-            match self.draft.take_number(number) {
-                Ok(()) => continue,
-                Err(_) => {
-                    self.scanner.unread_law();
-                    return Err(self.fail(StepError::OutOfMemory));
-                }
+        let count = self
+            .scanner
+            .numbers_on(self.draft.line(), &mut self.numbers);
+        match self.draft.take_numbers(&self.numbers[..count]) {
+            Ok(()) => Ok(()),
+            Err(_) => {
+                self.scanner.unread_law();
+                Err(self.fail(StepError::OutOfMemory))
             }
         }
     }

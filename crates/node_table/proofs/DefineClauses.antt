@@ -1,6 +1,6 @@
 -- What a clause over atoms holds, and when there is one.
-use Rattle.std.proofs.Common.{◌≡◌, ℕ, ◌≤◌, true, false, not, ◌||◌, ℤ, pos, negsuc, neg_ℤ, nat_abs, zero, suc, ◌<◌, ◌≢◌, List, [], ◌∷◌}
-use Rattle.std.proofs.Common.{length, Option, None, Some, is_some, refl, sym, ap, ◌∙◌, arith}
+use Rattle.std.proofs.Common.{◌≡◌, ℕ, true, false, not, ◌||◌, ℤ, pos, negsuc, neg_ℤ, nat_abs, zero, suc, ◌<◌, ◌≢◌, List, [], ◌∷◌}
+use Rattle.std.proofs.Common.{Option, None, Some, is_some, refl, sym, ap, ◌∙◌, arith}
 use Rattle.std.specs.List.{list_any}
 use Rattle.std.specs.Option.{option_map}
 use Rattle.std.specs.Ordering.{int_eq}
@@ -27,14 +27,6 @@ holds-clause_from_atoms y (Never ∷ atoms) clause is = holds-clause_from_atoms 
 holds-clause_from_atoms y (Of literal ∷ atoms) clause is =
     let parts = literal_in_front literal (clause_from_atoms atoms) clause is in
     ap (list_any (int_eq y)) parts.2 ∙ ap (λ b. int_eq y literal || b) (holds-clause_from_atoms y atoms parts.0 parts.1)
-
-pub length-clause_from_atoms : (atoms : List Atom) (clause : List ℤ) → clause_from_atoms atoms ≡ Some clause → length clause ≤ length atoms
-length-clause_from_atoms [] clause is = let e : clause ≡ [] = cc in omega (arith, ap length e)
-length-clause_from_atoms (Always ∷ atoms) clause is = cc
-length-clause_from_atoms (Never ∷ atoms) clause is = omega (arith, length-clause_from_atoms atoms clause is)
-length-clause_from_atoms (Of literal ∷ atoms) clause is =
-    let parts = literal_in_front literal (clause_from_atoms atoms) clause is in
-    omega (arith, ap length parts.2, length-clause_from_atoms atoms parts.0 parts.1)
 
 -- when there is one
 pub is_some-clause_from_atoms : (a b : ℤ) (c : Atom) → is_some (clause_from_atoms (Of a ∷ Of b ∷ c ∷ [])) ≡ not (is_always c)

@@ -198,11 +198,6 @@ module _ (state : State) (u x : ℤ) (high low : Atom) (start : IsStart state u 
       ap (if_live (list_any (int_eq u))) (sym is) ∙ without u (neg_ℤ u) (neg_ℤ x) high refl opposite.0 (abs_neg x) start.new.high_apart in
       cc)
 
-  pub hu_definition : (clause : List ℤ) → clause_from_atoms (high_up u x high) ≡ Some clause → IsDefinition state.live clause []
-  hu_definition clause is =
-      definition_of state.live u (Of (neg_ℤ x) ∷ neg_atom high ∷ []) clause [] is negated_at_first
-      (EachHolder-none state.live (neg_ℤ u) (is_blocked_by (literals_of clause) u) negated_at_first)
-
   pub lu_definition : (clause : List ℤ) → clause_from_atoms (low_up u x low) ≡ Some clause → IsDefinition with_hu.live clause []
   lu_definition clause is =
       definition_of with_hu.live u (Of x ∷ neg_atom low ∷ []) clause [] is negated_after_hu

@@ -289,6 +289,3 @@ module _ (graph : Graph) (marks : List Bool) (old new : State) (key : ℕ) (stat
 
   pub deleted_among : KeepsClauses new.live old.live
   deleted_among id clause is = was_without old.live (unmarked_below graph marks key) id clause (sym (rest_is id) ∙ is)
-
-  pub deleted_top : new.top ≡ old.top
-  deleted_top = ap (λ (s : State). s.top) state

@@ -1,13 +1,13 @@
 -- The cofactors of a node at the level that was asked for.
-use Rattle.std.proofs.Common.{◌≡◌, ℕ, Some, is_some, refl, ap, ◌∙◌, arith, eq-eqb, ne_eqb}
+use Rattle.std.proofs.Common.{◌≡◌, ℕ, Some, is_some, ap, ◌∙◌, arith, eq-eqb}
 use Rattle.std.specs.Prelude.{if◌then◌else◌}
 use Rattle.node_table.specs.declared.node.Node.{Node}
-use Rattle.node_table.specs.declared.node.Node.TheVariants.{False, True, Inner}
+use Rattle.node_table.specs.declared.node.Node.TheVariants.{Inner}
 use Rattle.node_table.specs.declared.node.NodeKey.{NodeKey}
 use Rattle.node_table.specs.declared.node.Branch.{Branch}
-use Rattle.node_table.specs.Diagram.{Graph, IsBelow, branch_at, child_in}
+use Rattle.node_table.specs.Diagram.{Graph, branch_at, child_in}
 use Rattle.node_table.specs.Table.{HasChildren}
-use Rattle.node_table.proofs.Values.{branch_of_node, level_of-inner}
+use Rattle.node_table.proofs.Values.{level_of-inner}
 
 -- a node of the level has its own children
 pub children_of : (graph : Graph) (level : ℕ) (high low : Node) (key : NodeKey) (b : Branch) → branch_at graph key.index ≡ Some b → b.level
@@ -21,20 +21,4 @@ children_of graph level high low key b at here is_high is_low =
           ∙ is_high;
       low_child = ap (child_in (λ x. x.low) level (Inner key)) at ∙ ap (λ t. if t then b.low else Inner key) (eq-eqb b.level level here)
           ∙ is_low;
-    }
-
--- a node below the level is its own cofactor
-pub child_below : (graph : Graph) (level : ℕ) (node : Node) → IsBelow graph level node → HasChildren graph level node node node
-child_below graph level False below = record { stands = refl; not_above = omega (arith, below.below); high_child = refl; low_child = refl }
-child_below graph level True below = record { stands = refl; not_above = omega (arith, below.below); high_child = refl; low_child = refl }
-child_below graph level (Inner key) below =
-    let branch = branch_of_node graph key below.stands in
-    let other : branch.0.level ≡ level → ⊥ = λ same. omega (arith, same, below.below, level_of-inner graph key branch.0 branch.1) in
-    record {
-      stands = below.stands;
-      not_above = omega (arith, below.below);
-      high_child = ap (child_in (λ x. x.high) level (Inner key)) branch.1
-          ∙ ap (λ t. if t then branch.0.high else Inner key) (ne_eqb branch.0.level level other);
-      low_child = ap (child_in (λ x. x.low) level (Inner key)) branch.1
-          ∙ ap (λ t. if t then branch.0.low else Inner key) (ne_eqb branch.0.level level other);
     }

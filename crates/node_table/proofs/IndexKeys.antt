@@ -1,5 +1,5 @@
 -- What an index finds, before and after the key of a node took a place.
-use Rattle.std.proofs.Common.{◌≡◌, ◌⊎◌, ℕ, ◌+◌, ◌^◌, ◌<◌, ◌≤◌, List, [], ◌∷◌, length, get_or, None, Some, Contains, refl, sym, subst, ap}
+use Rattle.std.proofs.Common.{◌≡◌, ◌⊎◌, ℕ, ◌+◌, ◌^◌, ◌<◌, ◌≤◌, List, ◌∷◌, length, get_or, None, Some, Contains, refl, sym, subst, ap}
 use Rattle.std.proofs.Common.{◌∙◌, inl, inr, arith}
 use Rattle.std.proofs.lemmas.Bool.{cases_eq, cases_lt}
 use Rattle.std.proofs.lemmas.List.{length-set}
@@ -158,20 +158,3 @@ room_for_next size index nodes key node left part = record {
   counted = part.counted;
   room = omega (arith, part.places, part.all, part.room);
 }
-
-pub room_at_end : (size : ℕ) (index : Index) (nodes : Slab StoredNode) (left : List (ℕ × StoredNode)) → IsPartOf size index nodes left
-    → slab_len nodes < size → HasRoom index
-room_at_end size index nodes left part more = record { counted = part.counted; room = omega (arith, part.places, part.all, more) }
-
-pub none_left : (size : ℕ) (index : Index) (nodes : Slab StoredNode) (left : List (ℕ × StoredNode))
-    → ((key : ℕ) (node : StoredNode) → get nodes key ≡ Some node → key + 1 < 2 ^ 32) → left ≡ [] → IsPartOf size index nodes left
-    → IsIndexOf index nodes
-none_left size index nodes left keys none part =
-    record {
-      counted = part.counted;
-      keys = keys;
-      found = λ key node stored. elim (part.found key node stored) [
-        | inl there ↦ absurd (omega (arith, there.1, ap length none))
-        | inr found ↦ found
-      ];
-    }

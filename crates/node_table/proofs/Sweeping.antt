@@ -53,16 +53,6 @@ module _ {T : Type 0} where
     pub count : length now + slab_len mid ≡ length before + slab_len old
     pub no_less : length before ≤ length now
 
-  pub sweep_begins : (number : ℕ × T → ℕ) (marks : List Bool) (nodes : Slab T) (before : List ℕ)
-      → IsSweeping number marks nodes nodes before before 0
-  sweep_begins number marks nodes before = record {
-    swept = λ other h. absurd (omega (arith, h));
-    left = λ other h. refl;
-    given = refl;
-    count = refl;
-    no_less = omega arith;
-  }
-
   module _ (number : ℕ × T → ℕ) (marks : List Bool) (old mid later : Slab T) (before now : List ℕ) (key : ℕ)
       (sweeping : IsSweeping number marks old mid before now key)
       (here : get later key ≡ (if get_or marks key false then get mid key else None)) (others : (other : ℕ) → other ≢ key → get later other

@@ -14,21 +14,9 @@ no_nodes_left is = cc
 no_memory_no_nodes : ◌≡◌ {A = TableError} OutOfMemory NodeLimit → ⊥
 no_memory_no_nodes is = cc
 
-no_memory_no_ids : ◌≡◌ {A = TableError} OutOfMemory IdLimit → ⊥
-no_memory_no_ids is = cc
-
-no_memory_no_fault : ◌≡◌ {A = TableError} OutOfMemory WriteFault → ⊥
-no_memory_no_fault is = cc
-
 module _ {T : Type 0} (result : Result T TableError) (memory : IsErrAnd result (λ e. e ≡ OutOfMemory)) where
   pub memory_not_nodes : result ≡ Err NodeLimit → ⊥
   memory_not_nodes is = no_memory_no_nodes (came_from result OutOfMemory NodeLimit memory is)
-
-  pub memory_not_ids : result ≡ Err IdLimit → ⊥
-  memory_not_ids is = no_memory_no_ids (came_from result OutOfMemory IdLimit memory is)
-
-  pub memory_not_fault : result ≡ Err WriteFault → ⊥
-  memory_not_fault is = no_memory_no_fault (came_from result OutOfMemory WriteFault memory is)
 
 no_ids_no_fault : ◌≡◌ {A = TableError} IdLimit WriteFault → ⊥
 no_ids_no_fault is = cc

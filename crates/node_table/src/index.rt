@@ -12,7 +12,6 @@ use crate::stored::{Child, StoredNode};
 use cnf_base::OutOfMemory;
 use slab::Slab;
 use std::alloc::Global;
-use std::fmt;
 use std::hash::{BuildHasher, BuildHasherDefault, FoldHasher};
 
 // How many values the lower half of a hash has; there are no more places.
@@ -133,12 +132,6 @@ impl Index {
         'entries: for (key, node) in nodes.iter() {
             self.enter(key as u32, node);
         }
-    }
-}
-
-impl fmt::Debug for Index {
-    fn fmt<W: fmt::Write>(&self, f: &mut fmt::Formatter<W>) -> fmt::Result {
-        f.debug_struct("Index").field("taken", &self.taken).finish()
     }
 }
 

@@ -6,7 +6,7 @@ use cnf_base::Id;
 use std::hash::{Hash, Hasher};
 
 /// Names an inner node of a table, by its place in lists by key.
-#[derive(Clone, Copy, Debug, PartialEq, Eq, Hash)]
+#[derive(Clone, Copy, Debug, PartialEq, Eq)]
 pub struct NodeKey {
     pub index: u32,
 }
@@ -50,7 +50,7 @@ fn hash_word(node: Node) -> u32
 
 /// The numbers of a node's defining clauses, where they exist: from the high and the low child up to the node, and from
 /// the node down to them.
-#[derive(Clone, Copy, Debug)]
+#[derive(Clone, Copy)]
 pub struct Defs {
     pub hu: Option<Id>,
     pub lu: Option<Id>,
@@ -60,7 +60,7 @@ pub struct Defs {
 
 /// What an inner node is: the place of its variable in the order, its children where that is true and where it is
 /// false, its extension variable, and the first of its defining clauses, whose numbers are consecutive.
-#[derive(Clone, Copy, Debug, PartialEq, Eq)]
+#[derive(Clone, Copy)]
 pub struct Branch {
     pub level: u32,
     pub variable: u32,
@@ -71,7 +71,7 @@ pub struct Branch {
 
 /// Why a clause over nodes holds: it is true by itself, since it has both signs of a variable or a true constant, or
 /// it is the live clause of this number.
-#[derive(Clone, Copy, Debug)]
+#[derive(Clone, Copy)]
 pub enum Justification {
     Trivial,
     Clause(Id),

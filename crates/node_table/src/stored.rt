@@ -8,13 +8,13 @@ const HALF: u64 = 1 << 32;
 
 /// A child in one word: 0 for False, 1 for True, and from 2 on the inner nodes. Both ways are written so that they compile
 /// to no jump.
-#[derive(Clone, Copy, Debug, PartialEq, Eq, Hash)]
+#[derive(Clone, Copy, PartialEq, Eq, Hash)]
 pub struct Child {
     pub(crate) word: u32,
 }
 
 /// A clause number in two words.
-#[derive(Clone, Copy, Debug)]
+#[derive(Clone, Copy)]
 pub struct Halves {
     pub(crate) high: u32,
     pub(crate) low: u32,
@@ -22,7 +22,7 @@ pub struct Halves {
 
 /// The level, the extension variable, the children where the level's variable is true and where it is false, and the number
 /// of the first defining clause.
-#[derive(Clone, Copy, Debug)]
+#[derive(Clone, Copy)]
 pub struct StoredNode {
     pub(crate) level: u32,
     pub(crate) variable: u32,

@@ -8,7 +8,7 @@ use host_io::Sink;
 use node_table::{Node, Table};
 
 /// Two operands, the level of the earlier one, and the cofactors of both there.
-#[derive(Clone, Copy, Debug)]
+#[derive(Clone, Copy)]
 pub struct Operands {
     pub u: Node,
     pub v: Node,

@@ -16,7 +16,7 @@ use host_io::Sink;
 use node_table::{Defs, Justification, Node, Table};
 
 /// What is kept of the clauses between a node and its children: where the variable of a level is true, and where it is false.
-#[derive(Clone, Copy, Debug)]
+#[derive(Clone, Copy)]
 pub struct ChildParts {
     pub high: Option<ChildPart>,
     pub low: Option<ChildPart>,

@@ -125,11 +125,6 @@ module _ (clauses : List (List ℤ)) (index : Index) (of_clauses : IsIndexOf cla
       go rest (Some n) true is all = ap (option_map (λ numbers. n ∷ numbers)) (rest all)
       go rest (Some n) false is all = absurd (let e : true ≡ false = is in cc)
 
--- denied lists are keys
-keys_append : (lists others : List (List ℤ)) → AreKeys lists → AreKeys others → AreKeys (lists ++ others)
-keys_append [] others are more = more
-keys_append (wrong ∷ lists) others are more = (are.0, keys_append lists others are.1 more)
-
 -- lists of so many literals, none of which is 0
 abbrev AreOf : ℕ → List (List ℤ) → Type 0
 AreOf n [] = Unit {0}

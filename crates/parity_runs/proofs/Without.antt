@@ -1,11 +1,12 @@
 -- A run without sums, and when there are none.
 use Rattle.std.proofs.Common.{◌≡◌, ◌∙◌, ◌||◌, ℕ, zero, suc, Bool, true, false, ℤ, List, [], ◌∷◌, length, map, Result}
 use Rattle.std.proofs.Common.{refl, sym, ap, subst, arith, inl, inr}
-use Rattle.std.specs.Prelude.{IsFalse, IsTrue, neg_ℤ, pos, negsuc}
+use Rattle.std.specs.Prelude.{IsFalse, IsTrue, MatchOption, Option, None, Some, is_some, neg_ℤ, pos, negsuc}
 use Rattle.std.specs.List.{flat_map, list_all, list_any}
 use Rattle.std.specs.Ordering.{int_eq}
 use Rattle.std.proofs.lemmas.Bool.{and_parts, cases_Bool, or_from, or_parts}
 use Rattle.std.proofs.lemmas.Bool.Decides.{Decides-int_eq}
+use Rattle.cnf_base.specs.EmptyClause.{HaveLiterals, IsFirstEmpty}
 use Rattle.cnf_base.specs.Formula.{Formula}
 use Rattle.cnf_base.specs.Truth.{AreClausesOf, is_literal_of}
 use Rattle.host_io.specs.Channel.{Channel}
@@ -23,6 +24,12 @@ use Rattle.term_runner.specs.Ends.{Ends}
 use Rattle.term_runner.specs.Price.{IsPaidFor}
 use Rattle.parity_runs.specs.Ends.{EndsBehind, EndsWithParity, IsPaidBehind}
 use Rattle.parity_runs.proofs.Stands.{so_far_wider}
+
+-- whether a first empty clause is found tells whether there is one
+pub told_empty : (clauses : List (List ℤ)) (found : Option ℕ) → MatchOption found (HaveLiterals clauses) (IsFirstEmpty clauses)
+    → is_some found ≡ has_empty_clause clauses
+told_empty clauses None have = sym have.none
+told_empty clauses (Some number) is = sym is.some
 
 none_in_conflict : AreInConflict [] → ⊥
 none_in_conflict conflict = let e : false ≡ true = conflict.sum 0 in cc

@@ -2,7 +2,6 @@
 ghost use Rattle.std.specs.Prelude.{◌≡◌, ◌≤◌, [], length, IsTrue};
 ghost use Rattle.schedule_plan.specs.Limits.{AreLimits};
 ghost use Rattle.schedule_plan.specs.Plan.{IsAdmissible};
-ghost use Rattle.term_runner.specs.Clauses.{has_empty_clause};
 ghost use Rattle.parity_runs.specs.Ends.{EndsWithParity};
 
 use crate::behind::go_on;
@@ -38,7 +37,7 @@ pub fn run_with_parity<S: Sink + Drop>(
     marks_law();
     in_use_law();
     formula.formula_law();
-    if has_empty(formula) {
+    if formula.first_empty().is_some() {
         return run_plan_into(alloc, formula, order, plan, limits, sink);
     }
     let Ok(equations) = Equations::of(alloc, formula) else {
@@ -57,16 +56,4 @@ pub fn run_with_parity<S: Sink + Drop>(
     // What was lent goes back.
     let _sink = sink;
     result
-}
-
-// Whether a clause is empty.
-fn has_empty(formula: &Cnf) -> bool
-    ensures { result ≡ has_empty_clause formula.now.clauses }
-{
-    'clauses: for place in 0..formula.len() {
-        if formula.clause(place + 1).is_empty() {
-            return true;
-        }
-    }
-    false
 }

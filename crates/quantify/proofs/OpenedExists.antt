@@ -1,5 +1,5 @@
 -- A quantification that is split: its sides may be called and closed, and however they end, the call has ended.
-use Rattle.std.proofs.Common.{◌≡◌, ℕ, Bool, List, Result, Ok, Err, refl, ◌∙◌, arith, subst, sym}
+use Rattle.std.proofs.Common.{◌≡◌, ℕ, Bool, Result, Ok, Err, refl, ◌∙◌, arith, subst, sym}
 use Rattle.std.specs.Prelude.{IfOk, IsErrAnd}
 use Rattle.node_table.specs.declared.error.TableError.{TableError}
 use Rattle.node_table.specs.declared.error.TableError.TheVariants.{OutOfMemory}
@@ -13,7 +13,7 @@ use Rattle.operations.specs.declared.frames.Reply.{Reply}
 use Rattle.operations.specs.declared.frames.Reply.TheVariants.{Open}
 use Rattle.operations.specs.Results.{Quantified}
 use Rattle.operations.specs.Ended.{reached_all}
-use Rattle.operations.specs.Entries.{Entry, Fits, Fitting}
+use Rattle.operations.specs.Entries.{Fits, Fitting}
 use Rattle.operations.specs.Machine.{AwaitsLow, HighCame, IsAnswer, IsOpened, LowCame}
 use Rattle.quantify.specs.declared.quantify.Above.{Above}
 use Rattle.quantify.specs.declared.quantify.BothCaches.{BothCaches}
@@ -33,9 +33,6 @@ lent_further one two three first second = record { exists = second.exists ∙ fi
 
 pub lent_same : (caches : BothCaches) → AreLent caches caches
 lent_same caches = record { exists = refl; ors = refl }
-
-pub all_in : BothCaches → List Entry
-all_in caches = both_caches caches.exists.now caches.ors.now
 
 -- what both caches remember
 record RemembersBoth (before after : BothCaches) : Type 0 where

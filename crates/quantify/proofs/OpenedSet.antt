@@ -165,9 +165,6 @@ module _ {S : Type 0} (law : StepByStep S) (laws : Cofactors) (growth : Growth) 
 
     module _ (two : TableState S) (caches_two : SetCaches) (low : Node)
         (by_low : QuantifiesSet set one caches_one p.low p.next two caches_two (Ok low)) where
-      sound_two : IsSound two
-      sound_two = by_low.runs.steps.leaves.sound
-
       keeps_two : KeepsNodes one.graph two.graph
       keeps_two = by_low.runs.steps.extends.nodes
 

@@ -100,7 +100,7 @@ struct BothCaches<'a> {
 }
 
 /// A node above the level that is quantified, its own level, and its children.
-#[derive(Clone, Copy, Debug)]
+#[derive(Clone, Copy)]
 struct Above {
     node: Node,
     level: u32,

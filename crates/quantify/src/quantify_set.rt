@@ -83,7 +83,7 @@ struct SetCaches<'a> {
 
 /// A node, its own level, and its children; its place in the set, and theirs, which is the next one where the node's own level is
 /// chosen to be quantified.
-#[derive(Clone, Copy, Debug)]
+#[derive(Clone, Copy)]
 struct SetSides {
     node: Node,
     place: u32,

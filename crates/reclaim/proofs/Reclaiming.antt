@@ -14,7 +14,7 @@ use Rattle.node_table.specs.Made.{inner}
 use Rattle.node_table.specs.Marks.{AreMarks, AreReached, is_marked}
 use Rattle.node_table.specs.Swept.{IsSwept}
 use Rattle.node_table.specs.Table.{TableState, AddsNone, IsAddedTo, IsSound}
-use Rattle.operations.specs.Entries.{Entry, FitsEntry, Fits, Fitting, IsAccounted, IsNamed}
+use Rattle.operations.specs.Entries.{Entry, FitsEntry, Fits, Fitting, IsAccounted}
 use Rattle.operations.specs.Purged.{IsPurged, Purging}
 use Rattle.reclaim.specs.Reclaimed.{MayReclaim, Reclaims}
 
@@ -41,11 +41,6 @@ pub record SweepsAway {S : Type 0} (old new : TableState S) (marks : List Bool) 
 
 none_some : {A : Type 0} {o : Option A} {x : A} → o ≡ None → o ≡ Some x → ⊥
 none_some {A} {o} {x} none some = let e : None ≡ Some x = sym none ∙ some in cc
-
--- nothing is in a list without elements
-none_retired : (retired : List ℕ) (id : ℕ) → retired ≡ [] → Contains retired id → ⊥
-none_retired retired id empty there = let in_none : Contains [] id = subst (λ (ids : List ℕ). Contains ids id) empty there in
-    omega (arith, in_none.1)
 
 live_of : (live : Live) (id : ℕ) → is_some (clause_at live id) ≡ true → (clause : List ℤ) × (clause_at live id ≡ Some clause)
 live_of live id stands = found (clause_at live id) stands
@@ -82,10 +77,6 @@ module _ {S : Type 0} (fitting : Fitting S) (law : Purging S) (old one two : Tab
 
   was_live : (id : ℕ) (clause : List ℤ) → clause_at two.book.state.live id ≡ Some clause → clause_at old.book.state.live id ≡ Some clause
   was_live id clause is = sym (live_two id (unretired_two id clause is)) ∙ is
-
-  -- a clause that entries name still isn't retired
-  named_live : (id : ℕ) → IsNamed after id → clause_at two.book.state.live id ≡ clause_at old.book.state.live id
-  named_live id by = live_two id (fits_one.unretired id by)
 
   -- an added clause was one before
   added_two : (id : ℕ) → IsAddedTo two id → IsAddedTo old id

@@ -10,7 +10,7 @@ const MOST_CELLS: usize = 4_294_967_294;
 
 /// A copy of an inner node: its variable, and the keys of its children where that is true and where it is false. Key 0 is False, 1 is
 /// True, and i + 2 the cell at place i.
-#[derive(Clone, Copy, Debug)]
+#[derive(Clone, Copy)]
 pub struct Cell {
     pub variable: u32,
     pub high: u32,

@@ -18,7 +18,7 @@ use node_table::{Marks, Node, NodeKey, Table, cofactor_law, reach_law};
 use std::alloc::Global;
 
 /// A node without a copy, by its key, with its level.
-#[derive(Clone, Copy, Debug)]
+#[derive(Clone, Copy)]
 pub struct Uncopied {
     pub level: u32,
     pub key: u32,

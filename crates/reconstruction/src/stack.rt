@@ -23,7 +23,7 @@ use std::alloc::Global;
 
 /// Quantified variables, the first one first, each with the term that it was quantified from: a node of a table, and once it
 /// is stored a copy of it, in cells of 12 bytes that are never given back.
-#[derive(Debug, Drop)]
+#[derive(Drop)]
 pub struct Reconstruction {
     recent: Vec<Kept>,
     stored: Vec<Entry>,

@@ -354,19 +354,6 @@ from_first formula order place i small positive within in_items =
     (input_contained (length formula.clauses) i positive within) in
     upto_place formula order place (input i) i small here (omega (arith, times_itself i)) in_items
 
-pub at_first : (formula : Formula) (order : List ℕ) (i : ℕ) → 0 < i → i ≤ length formula.clauses
-    → 0 < counted i (items formula order (first_place formula order (input i)))
-at_first formula order i positive within =
-    let place = first_place formula order (input i) in
-    let here = Contains-append_left (all_inputs (length formula.clauses)) (results formula order place) (input i)
-    (input_contained (length formula.clauses) i positive within) in
-    omega (
-      arith,
-      times_itself i,
-      times_filtered i (λ term. first_place formula order term == place) (made formula order place)
-          (input i) here (eq-eqb place place refl),
-    )
-
 -- where the number of places between is below a number
 meets_within : (steps : ℕ) (formula : Formula) (order : List ℕ) (earlier place : ℕ) (one : Term) (i : ℕ) → place ≤ earlier + steps → earlier
     < place → place < length order

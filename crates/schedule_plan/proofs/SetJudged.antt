@@ -7,7 +7,7 @@ use Rattle.std.proofs.lemmas.Bool.{and_from, eqb-true, leb-true, lt-ltb}
 use Rattle.std.proofs.lemmas.Bool.Decides.{nat_tests}
 use Rattle.cnf_base.specs.Formula.{Formula}
 use Rattle.schedule_plan.specs.declared.plan.Move.TheVariants.{ExistsAll}
-use Rattle.schedule_plan.specs.declared.schedule.error.PlanKind.TheVariants.{StackShort, VariableInUse, VariableRange}
+use Rattle.schedule_plan.specs.declared.schedule.error.PlanKind.TheVariants.{VariableInUse, VariableRange}
 use Rattle.schedule_plan.specs.declared.schedule.judge.ScheduleJudge.{ScheduleJudge}
 use Rattle.schedule_plan.specs.declared.schedule.uses.Use.{Use}
 use Rattle.schedule_plan.specs.Plan.{Stage, Term, after_all, after_moves, holds_later, no_stage, some_value, term_has}
@@ -17,7 +17,7 @@ use Rattle.schedule_plan.specs.SetMove.{quantified_by, staged, trail_by}
 use Rattle.schedule_plan.proofs.SetMoves.{both_false, from_not, possible_set}
 use Rattle.schedule_plan.proofs.Standing.{possible_behind}
 use Rattle.schedule_plan.proofs.Starts.{any_stacked, starts_exists, starts_kept}
-use Rattle.schedule_plan.proofs.Steps.{Topped, term_count, topped}
+use Rattle.schedule_plan.proofs.Steps.{Topped, topped}
 use Rattle.schedule_plan.proofs.ToCome.{to_come_later}
 
 -- Tests over all variables of a set.
@@ -90,15 +90,6 @@ module _ (formula : Formula) (judge : ScheduleJudge) (stage : Stage) (start : �
   pub all_fault : (xs : List ℕ) → list_any (is_out_of_range formula) xs ≡ false
       → fault_of_move formula stage (ExistsAll xs) ≡ (if list_any (is_used judge.uses.items start) xs then Some VariableInUse else None)
   all_fault xs inside = ap (fault_of_all formula stage xs) on.is ∙ tested xs inside
-
-no_term : (stack : List Term) → length stack ≡ 0 → stack ≡ []
-no_term [] none = refl
-no_term (top ∷ rest) none = absurd (omega (arith, none))
-
-pub short_fault : (formula : Formula) (judge : ScheduleJudge) (stage : Stage) (xs : List ℕ) → IsAt formula judge stage
-    → length judge.starts.items ≡ 0 → fault_of_move formula stage (ExistsAll xs) ≡ Some StackShort
-short_fault formula judge stage xs at none =
-    ap (fault_of_all formula stage xs) (no_term stage.stack (term_count formula judge stage at ∙ none))
 
 -- Where the terms begin among the pushes.
 past : (e s : ℕ) → s ≤ e → nat_lt e s ≡ false

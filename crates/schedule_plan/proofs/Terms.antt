@@ -245,7 +245,3 @@ result_there i x (first ∷ more) held = (some_value x (conjunction first more),
 pub some_term : (x : ℕ) (terms : List Term) (term : Term) → result_of x terms ≡ term ∷ [] → (first : Term) × Contains terms first
 some_term x [] term made_here = absurd (omega (arith, ap length made_here))
 some_term x (first ∷ more) term made_here = (first, (0, omega arith, refl))
-
-pub no_terms : (terms : List Term) → ((term : Term) → Contains terms term → ⊥) → terms ≡ []
-no_terms [] none = refl
-no_terms (first ∷ more) none = absurd (none first (0, omega arith, refl))

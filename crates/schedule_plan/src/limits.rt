@@ -1,7 +1,7 @@
 // How much a run of a plan may use.
 
 /// How much a run may use.
-#[derive(Clone, Copy, Debug, PartialEq, Eq)]
+#[derive(Clone, Copy)]
 pub struct Limits {
     /// Entries of the cache of conjunctions, 1 to 100,000,000.
     pub cache: u32,

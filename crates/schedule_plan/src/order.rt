@@ -7,7 +7,7 @@ use std::alloc::Global;
 use std::marker::Model;
 
 /// An order of the variables 1, 2, .. up to their number: the first is the top one.
-#[derive(Debug, Drop)]
+#[derive(Drop)]
 pub struct Order {
     variables: Vec<u32>,
 }

@@ -7,7 +7,7 @@ use text_scan::ScanError;
 use thiserror::Error;
 
 /// What is wrong with the text of an order. The number of a kind is its place in this list.
-#[derive(Clone, Copy, Debug, PartialEq, Eq)]
+#[derive(Clone, Copy, Debug)]
 pub enum OrderKind {
     /// A token is no plain number.
     BadNumber = 1,
@@ -28,7 +28,7 @@ impl OrderKind {
 }
 
 /// Why no order was read. After any of them what was read is given up.
-#[derive(Clone, Copy, Debug, PartialEq, Eq, Error)]
+#[derive(Clone, Copy, Debug, Error)]
 pub enum OrderError {
     /// What is wrong, and the line.
     #[error("line {1}: {0:?}")]

@@ -38,7 +38,7 @@ pub enum Move {
 }
 
 /// A list of moves.
-#[derive(Debug, Drop)]
+#[derive(Drop)]
 pub struct Plan {
     moves: Vec<Move>,
 }

@@ -1,31 +1,10 @@
--- Where the first empty clause stands, and what a formula with one or without says.
-use Rattle.std.proofs.Common.{◌≡◌, ℕ, zero, suc, ◌<◌, Bool, true, false, List, [], ◌∷◌, ℤ, length, take, slice_index_or, refl, sym, ap, ◌∙◌}
+-- What a formula with an empty clause, or without one, says.
+use Rattle.std.proofs.Common.{◌≡◌, ℕ, zero, suc, ◌<◌, true, false, List, [], ◌∷◌, ℤ, length, slice_index_or, sym, ap, ◌∙◌}
 use Rattle.std.proofs.Common.{arith}
-use Rattle.std.specs.Prelude.{if◌then◌else◌}
-use Rattle.std.proofs.lemmas.Bool.{or_parts, or_left, or_right, and_parts}
+use Rattle.std.proofs.lemmas.Bool.{or_parts, and_parts}
 use Rattle.cnf_base.specs.Truth.{Assignment, Satisfies, clause_holds}
 use Rattle.cnf_base.specs.ProofText.{is_empty}
-use Rattle.term_runner.specs.Clauses.{has_empty_clause, first_empty}
-
-at_front : (b : Bool) (n : ℕ) → b ≡ true → (if b then 1 else n) ≡ 1
-at_front true n e = refl
-at_front false n e = cc
-
-further : (b : Bool) (n : ℕ) → b ≡ false → (if b then 1 else n) ≡ n
-further true n e = cc
-further false n e = refl
-
-pub first_at : (clauses : List (List ℤ)) (i : ℕ) → has_empty_clause (take i clauses) ≡ false → i < length clauses
-    → slice_index_or clauses i [] ≡ []
-    → (suc i ≡ first_empty clauses) × (has_empty_clause clauses ≡ true)
-first_at [] i before inside empty = absurd (omega (arith, inside))
-first_at (clause ∷ more) zero before inside empty =
-    let here : is_empty clause ≡ true = ap is_empty empty in
-    (sym (at_front (is_empty clause) (suc (first_empty more)) here), or_left (is_empty clause) _ here)
-first_at (clause ∷ more) (suc i) before inside empty =
-    let parts = or_parts (is_empty clause) _ before in
-    let later = first_at more i parts.1 (omega (arith, inside)) empty in
-    (ap suc later.0 ∙ sym (further (is_empty clause) (suc (first_empty more)) parts.0), or_right (is_empty clause) _ later.1)
+use Rattle.term_runner.specs.Clauses.{has_empty_clause}
 
 -- without an empty clause none is found
 pub full_at : (clauses : List (List ℤ)) (i : ℕ) → has_empty_clause clauses ≡ false → i < length clauses → slice_index_or clauses i [] ≡ []

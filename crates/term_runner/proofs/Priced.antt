@@ -1,5 +1,5 @@
 -- How many numbers a try of a move gives, and a move in two tries.
-use Rattle.std.proofs.Common.{◌≡◌, ℕ, zero, suc, ◌+◌, ◌*◌, ◌^◌, ◌≤◌, ◌∙◌, nat_cmp, Bool, List, Option, None, Some, refl, sym, ap, subst}
+use Rattle.std.proofs.Common.{◌≡◌, ℕ, zero, suc, ◌+◌, ◌*◌, ◌^◌, ◌≤◌, ◌∙◌, Bool, List, Option, None, Some, refl, sym, ap, subst}
 use Rattle.std.proofs.Common.{arith, inl, inr}
 use Rattle.std.specs.FinMap as map
 use Rattle.std.proofs.Math.Nat.{add-mul, mul-add, mul-one, one-mul, two-pow-succ}
@@ -7,7 +7,7 @@ use Rattle.cnf_base.specs.Formula.{Formula}
 use Rattle.node_table.specs.declared.error.TableError.{TableError}
 use Rattle.node_table.specs.declared.error.TableError.TheVariants.{NodeLimit, IdLimit, OutOfMemory, WriteFault}
 use Rattle.node_table.specs.declared.node.Branch.{Branch}
-use Rattle.node_table.specs.Diagram.{Graph, IsReduced, KeepsNodes, branch_at, levels}
+use Rattle.node_table.specs.Diagram.{IsReduced, KeepsNodes, branch_at, levels}
 use Rattle.node_table.specs.Laws.{Canonical, Growth}
 use Rattle.node_table.specs.Made.{inner}
 use Rattle.node_table.specs.Progress.{Leaves}
@@ -52,10 +52,6 @@ reduced_left old new (Some WriteFault) leaves = leaves.reduced
 -- so many moves and one more
 pub one_more : (count price : ℕ) → (count + 1) * price ≡ count * price + price
 one_more count price = add-mul count 1 price ∙ ap (λ n. count * price + n) (one-mul price)
-
--- no nodes
-pub no_nodes : (graph : Graph) → graph.nodes ≡ map.empty → live_nodes graph ≡ 0
-no_nodes graph empty = ap map.len empty ∙ map.len-empty nat_cmp Branch
 
 -- between two moves
 pub tidy_few : (live left width : ℕ) → IsTidy live left → left ≤ width → live ≤ 2 * width + 999

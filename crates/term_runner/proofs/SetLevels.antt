@@ -146,13 +146,6 @@ set_levels graph xs found once are each =
           ∙ sym (filter_reverse (is_among xs) graph.order);
     }
 
--- Levels found so far, of the first of some variables.
-pub none_found : (graph : Graph) → AreLevelsOf graph [] []
-none_found graph = record {
-  each = λ level there. absurd (omega (arith, there.1));
-  all = λ level small own. absurd (let e : false ≡ true = own in cc);
-}
-
 among_more : (xs : List ℕ) (x y : ℕ) → is_among (xs ++ x ∷ []) y ≡ (is_among xs y || (y == x))
 among_more [] x y = go (y == x)
   where

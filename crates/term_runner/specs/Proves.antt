@@ -1,4 +1,5 @@
--- What a call leaves that answers the unit of a node: the clause of its literal alone, the empty one where it is False, none where it is True.
+-- What a call leaves that answers the unit of a node: the clause of its literal alone, the empty one where it is False, none where it is
+-- True.
 use Rattle.std.specs.Prelude.{◌≡◌, ◌≢◌, ◌⊎◌, ◌<◌, ℕ, [], ◌∷◌, Result, Err, IfErr, IfOk}
 use Rattle.node_table.specs.declared.error.TableError.{TableError}
 use Rattle.node_table.specs.declared.error.TableError.TheVariants.{NodeLimit, WriteFault}

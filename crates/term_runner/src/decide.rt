@@ -24,7 +24,7 @@ ghost use Rattle.term_runner.specs.Terms.{HasOwnUnits, IsAtStage, IsOpen};
 ghost use Rattle.term_runner.specs.Trail.{AreVariables, IsRecoveredBy, IsTrail};
 
 use crate::held::HeldTerm;
-use crate::open::{are_tautologies, first_empty};
+use crate::open::are_tautologies;
 use crate::progress::Progress;
 use crate::terms::Terms;
 use clause_terms::{Model, Trail, recover};
@@ -79,7 +79,7 @@ impl<S: Sink + Drop> Terms<S> {
         if refuted {
             return Ok(None);
         }
-        if let Some(number) = first_empty(formula) {
+        if let Some(number) = formula.first_empty() {
             self.add_empty(Id(number as u64))?;
             return Ok(None);
         }

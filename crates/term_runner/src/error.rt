@@ -2,7 +2,7 @@
 use thiserror::Error;
 
 /// Why a plan was not run to an outcome.
-#[derive(Clone, Copy, Debug, PartialEq, Eq, Error)]
+#[derive(Clone, Copy, Debug, Error)]
 pub enum RunError {
     #[error("out of memory")]
     OutOfMemory,

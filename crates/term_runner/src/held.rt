@@ -5,7 +5,7 @@ ghost use Rattle.term_runner.specs.declared.held.HeldTerm.{HeldTerm as HeldValue
 use node_table::{Justification, Node, TableError};
 
 /// The node of a term, and its unit on the proof.
-#[derive(Clone, Copy, Debug)]
+#[derive(Clone, Copy)]
 pub struct HeldTerm {
     pub node: Node,
     pub unit: Justification,

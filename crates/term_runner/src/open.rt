@@ -1,11 +1,11 @@
-// What a formula shows before any diagram: an empty clause, or that all clauses are tautologies. A long clause is asked for
+// What a formula shows before any diagram, beside an empty clause: that all clauses are tautologies. A long clause is asked for
 // opposite literals by a sorted set of its literals, so that a clause takes some n · log n comparisons while there is
 // memory in proportion to it. A hash set is hardly faster, and slow for literals that are chosen for its fixed seed.
-ghost use Rattle.std.specs.Prelude.{◌≡◌, ◌-◌, ◌≤◌, [], IsTrue, IsFalse, IfOk, MatchOption, length, slice_index_or};
+ghost use Rattle.std.specs.Prelude.{◌≡◌, IfOk};
 ghost use Rattle.std.specs.BTreeSet.{IsFromIterResult};
 ghost use Rattle.std.specs.List.{list_all};
 ghost use Rattle.std.specs.Ordering.{int_cmp};
-ghost use Rattle.term_runner.specs.Clauses.{first_empty, has_empty_clause, is_tautology};
+ghost use Rattle.term_runner.specs.Clauses.{is_tautology};
 
 use cnf_base::{Cnf, Lit};
 use std::alloc::{AllocError, Global};
@@ -13,20 +13,6 @@ use std::collections::BTreeSet;
 
 // Up to so many literals a walk over the clause for each of them is faster than a set.
 const SHORT: usize = 64;
-
-/// The number of the first empty clause, from 1, if there is one.
-pub fn first_empty(formula: &Cnf) -> Option<usize>
-    ensures { MatchOption result (IsFalse (has_empty_clause formula.now.clauses))
-        (λ number. (number ≡ first_empty formula.now.clauses) × IsTrue (has_empty_clause formula.now.clauses) × (1 ≤ number)
-        × (number ≤ length formula.now.clauses) × (slice_index_or formula.now.clauses (number - 1) [] ≡ [])) }
-{
-    for i in 0..formula.len() {
-        if formula.clause(i + 1).is_empty() {
-            return Some(i + 1);
-        }
-    }
-    None
-}
 
 /// Whether each clause has both signs of a variable. It ends at the first that has not.
 pub fn are_tautologies(alloc: Global, formula: &Cnf) -> bool

@@ -7,7 +7,7 @@ use clause_terms::Model;
 use node_table::TableError;
 
 /// What was found of a formula, or at which limit it was left undecided.
-#[derive(Debug, Drop)]
+#[derive(Drop)]
 pub enum Outcome {
     /// No assignment satisfies it, and the proof says so.
     Unsat,
@@ -20,7 +20,7 @@ pub enum Outcome {
 }
 
 /// A finished run.
-#[derive(Debug, Drop)]
+#[derive(Drop)]
 pub struct Run {
     pub outcome: Outcome,
     /// The greatest clause number of the proof; that of the formula's last clause where the proof is empty.

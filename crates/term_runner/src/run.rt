@@ -8,7 +8,6 @@ ghost use Rattle.term_runner.specs.Opened.{EndsWithin};
 use crate::error::RunError;
 use crate::finish::refute;
 use crate::gauge::Gauge;
-use crate::open::first_empty;
 use crate::outcome::Run;
 use crate::progress::Progress;
 use crate::runner::{Parts, Runner};
@@ -118,7 +117,7 @@ pub(crate) fn run_with<S: Sink + Drop>(
     marks_law();
     lean_law::<S>();
     formula.formula_law();
-    if let Some(number) = first_empty(formula) {
+    if let Some(number) = formula.first_empty() {
         let mut ledger = Ledger::new(formula, sink, limits.max_ids);
         let result = refute(&mut ledger, number);
         ledger.book_law();

@@ -34,7 +34,7 @@ use operations::entry_law;
 use reclaim::reclaim;
 
 /// A term that a runner gave. It goes back by `release` alone.
-#[derive(Debug, Drop)]
+#[derive(Drop)]
 pub struct Term {
     pub(crate) held: HeldTerm,
 }

@@ -69,9 +69,6 @@ text_words comment place line (rest ∷ texts) = map (word_at line) (line_words 
 abbrev spelled : ℕ → Place → ℕ → List ℕ → List Word
 spelled comment place line bytes = text_words comment place line (pieces is_line_end bytes)
 
-pub pieces-nil : (test : ℕ → Bool) → pieces test [] ≡ [] ∷ []
-pieces-nil test = refl
-
 -- from the start of a line these are the words of its rows
 rows_start : (comment line : ℕ) (words : List (List ℕ)) (rows : List Row) → flat_map words_of_row (row_of comment line words ++ rows)
     ≡ map (word_at line) (uncommented comment words) ++ flat_map words_of_row rows

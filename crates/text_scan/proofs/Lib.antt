@@ -5,4 +5,4 @@ pub mod Kept
 pub mod WordAhead
 pub mod Numeral
 pub mod NumberAhead
-pub mod Digits
+pub mod NumbersAhead

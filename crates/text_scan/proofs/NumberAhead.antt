@@ -1,16 +1,34 @@
 -- A number at the front of some bytes is what the token there spells.
-use Rattle.std.proofs.Common.{◌≡◌, ℕ, zero, suc, ◌+◌, ◌-◌, ◌<◌, ◌≤◌, true, false, ℤ, pos, negsuc, SFits, w64, to_z, of_z, List, []}
-use Rattle.std.proofs.Common.{◌∷◌, length, get_or, take, drop, refl, sym, ◌∙◌, ap, arith, length-take, length-drop, Some}
+use Rattle.std.proofs.Common.{◌≡◌, ℕ, zero, suc, ◌+◌, ◌-◌, ◌*◌, ◌<◌, ◌≤◌, true, false, ℤ, pos, negsuc, SFits, w64, to_z, of_z, List, []}
+use Rattle.std.proofs.Common.{◌∷◌, ◌++◌, length, get_or, take, drop, refl, sym, ◌∙◌, ap, arith, length-take, length-drop, Some}
 use Rattle.std.proofs.lemmas.Int.{to_z-of_z}
 use Rattle.std.specs.Prelude.{Option, None, IfSome, ◌≢◌, ◌&&◌, neg_ℤ, nat_abs, nat_le, ◌==◌}
 use Rattle.std.specs.List.{list_all, list_any}
 use Rattle.std.proofs.lemmas.Bool.Decides.{nat_tests}
-use Rattle.std.proofs.lemmas.List.{take_all}
+use Rattle.std.proofs.lemmas.List.{take_more, take_all}
+use Rattle.std.proofs.lemmas.List.Folds.{list_all_more}
 use Rattle.cnf_base.specs.Number.{is_digit, value_after, signed_value}
 use Rattle.cnf_base.specs.Text.{is_blank}
 use Rattle.text_scan.specs.Block.{IsNumeralAtFront, IsNumberAtFront}
 use Rattle.text_scan.specs.Capped.{cap}
 use Rattle.text_scan.specs.Scan.{Scan, TookNumber}
+
+value_after-snoc : (digits : List ℕ) (value digit : ℕ) → value_after value (digits ++ digit ∷ []) ≡ 10 * value_after value digits
+    + (digit - 48)
+value_after-snoc [] value digit = refl
+value_after-snoc (first ∷ digits) value digit = value_after-snoc digits (10 * value + (first - 48)) digit
+
+-- one more digit at the front
+pub digits_more : (bytes : List ℕ) (len : ℕ) → len < length bytes → list_all is_digit (take len bytes) ≡ true
+    → is_digit (get_or bytes len 0) ≡ true → list_all is_digit (take (len + 1) bytes) ≡ true
+digits_more bytes len within all one = list_all_more is_digit bytes len 0 within ∙ rw (all, one) refl
+
+pub value_more : (bytes : List ℕ) (len value : ℕ) → len < length bytes → value ≡ value_after 0 (take len bytes) → 10 * value
+    + (get_or bytes len 0 - 48) ≡ value_after 0 (take (len + 1) bytes)
+value_more bytes len value within same =
+    ap (λ n. 10 * n + (get_or bytes len 0 - 48)) same
+    ∙ sym (value_after-snoc (take len bytes) 0 (get_or bytes len 0))
+    ∙ ap (value_after 0) (sym (take_more bytes len 0 within))
 
 digit_or_blank : (byte : ℕ) → is_digit byte ≡ true → is_blank byte ≡ false
 digit_or_blank byte digit = grind (arith, nat_tests)
@@ -18,11 +36,11 @@ digit_or_blank byte digit = grind (arith, nat_tests)
 digit_or_minus : (byte : ℕ) → is_digit byte ≡ true → (byte == 45) ≡ false
 digit_or_minus byte digit = grind (arith, nat_tests)
 
-pub first_digit : (byte : ℕ) (bytes : List ℕ) → list_all is_digit (byte ∷ bytes) ≡ true → is_digit byte ≡ true
+first_digit : (byte : ℕ) (bytes : List ℕ) → list_all is_digit (byte ∷ bytes) ≡ true → is_digit byte ≡ true
 first_digit byte bytes all = elim (is_digit byte) as (λ b. (b && list_all is_digit bytes) ≡ true → b
     ≡ true) [ true ↦ λ _. refl | false ↦ λ h. h ] all
 
-pub other_digits : (byte : ℕ) (bytes : List ℕ) → list_all is_digit (byte ∷ bytes) ≡ true → list_all is_digit bytes ≡ true
+other_digits : (byte : ℕ) (bytes : List ℕ) → list_all is_digit (byte ∷ bytes) ≡ true → list_all is_digit bytes ≡ true
 other_digits byte bytes all = elim (is_digit byte) as (λ b. (b && list_all is_digit bytes) ≡ true → list_all is_digit bytes
     ≡ true) [ true ↦ λ h. h | false ↦ λ h. cc ] all
 

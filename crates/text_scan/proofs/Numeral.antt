@@ -1,10 +1,8 @@
 -- The value of digits, cut, from any digit on.
-use Rattle.std.proofs.Common.{◌≡◌, ℕ, ◌+◌, ◌-◌, ◌*◌, ◌<◌, ◌≤◌, min, true, false, List, [], ◌∷◌, length, get_or, drop, refl, sym, ◌∙◌, ap}
-use Rattle.std.proofs.Common.{arith, add-one, drop-cons, None, Some}
-use Rattle.std.proofs.Math.Seq.{drop-length}
+use Rattle.std.proofs.Common.{◌≡◌, ℕ, ◌+◌, ◌-◌, ◌*◌, ◌<◌, ◌≤◌, min, true, List, [], ◌∷◌, length, get_or, drop, refl, sym, ◌∙◌, ap}
+use Rattle.std.proofs.Common.{arith, add-one, drop-cons}
 use Rattle.std.specs.List.{list_all}
-use Rattle.std.specs.Option.{option_map}
-use Rattle.cnf_base.specs.Number.{is_digit, is_numeral, numeral_value, value_after}
+use Rattle.cnf_base.specs.Number.{is_digit, value_after}
 use Rattle.text_scan.specs.Capped.{capped, cap}
 
 -- cutting at each digit is cutting in the end
@@ -22,19 +20,9 @@ pub record IsNumeralFrom (digits : List ℕ) (at value : ℕ) : Type 0 where
   pub value_is : capped (value_after value (drop at digits)) ≡ capped (value_after 0 digits)
   pub small : value ≤ cap
 
-numeral_test : (digits : List ℕ) → 0 < length digits → is_numeral digits ≡ list_all is_digit digits
-numeral_test [] some = absurd (omega arith)
-numeral_test (digit ∷ digits) some = refl
-
 module _ (digits : List ℕ) (at value : ℕ) (from : IsNumeralFrom digits at value) (below : at < length digits) where
   front : drop at digits ≡ get_or digits at 0 ∷ drop (at + 1) digits
   front = rw (add-one at) (drop-cons digits at 0 below)
-
-  -- a byte that is no digit
-  pub no_numeral : is_digit (get_or digits at 0) ≡ false → None ≡ option_map capped (numeral_value digits)
-  no_numeral other =
-      let none : list_all is_digit digits ≡ false = sym from.all ∙ ap (list_all is_digit) front ∙ rw other refl in
-      rw (numeral_test digits (omega arith), none) refl
 
   -- one more digit
   pub one_more_digit : is_digit (get_or digits at 0) ≡ true → IsNumeralFrom digits (at
@@ -48,13 +36,3 @@ module _ (digits : List ℕ) (at value : ℕ) (from : IsNumeralFrom digits at va
         value_is = capped-value_after rest (10 * value + (digit - 48)) ∙ ap (λ l. capped (value_after value l)) (sym front) ∙ from.value_is;
         small = omega arith;
       }
-
--- all were digits
-pub whole_numeral : (digits : List ℕ) (value : ℕ) → IsNumeralFrom digits (length digits) value → 0 < length digits → Some value
-    ≡ option_map capped (numeral_value digits)
-whole_numeral digits value from some =
-    let ended : drop (length digits) digits ≡ [] = drop-length digits in
-    let all : list_all is_digit digits ≡ true = sym from.all ∙ ap (list_all is_digit) ended in
-    let same : value ≡ capped (value_after 0 digits) = (let e : value ≡ capped value = omega (arith, from.small) in e
-    ∙ ap (λ l. capped (value_after value l)) (sym ended) ∙ from.value_is) in
-    rw (numeral_test digits some, all) (ap Some same)

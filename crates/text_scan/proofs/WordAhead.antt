@@ -32,7 +32,7 @@ letter_in_word comment line word byte other =
     rw (other, no_line_end byte other) (ap (λ (l : List ℕ). record { comment = comment; mode = Words; line = line; word = l })
     (word_with-take 65 word byte))
 
-or_left : (a b : Bool) → (a || b) ≡ false → a ≡ false
+pub or_left : (a b : Bool) → (a || b) ≡ false → a ≡ false
 or_left true b h = h
 or_left false b h = refl
 
@@ -150,7 +150,8 @@ cut_at_blank len bytes more within =
     ap (λ (l : List ℕ). l ++ more) split ∙ append_assoc (take len bytes) (get_or bytes len 0 ∷ drop (suc len) bytes) more
 
 -- the same of what is unread
-unread_run : (lex : Lex) (room len : ℕ) (unread : List ℕ) → begins_word lex (get_or unread 0 0) ≡ true → list_any is_blank (take len unread)
+pub unread_run : (lex : Lex) (room len : ℕ) (unread : List ℕ) → begins_word lex (get_or unread 0 0) ≡ true
+    → list_any is_blank (take len unread)
     ≡ false → len < length unread → is_blank (get_or unread len 0) ≡ true → len < room → (more : List ℕ) →
     items_from lex room (unread ++ more)
     ≡ next_word (record { bytes = take 65 (take len unread); line = lex.line })
@@ -170,7 +171,8 @@ unread_run lex room (suc len) (byte ∷ bytes) begins none within is_one under m
     ∙ token_run lex byte (take len bytes) (get_or bytes len 0) room (drop (suc len) bytes ++ more) begins rest is_one (omega (arith, count))
     ∙ rw (e, f) refl
 
-unread_front : (lex : Lex) (len : ℕ) (unread : List ℕ) → begins_word lex (get_or unread 0 0) ≡ true → list_any is_blank (take len unread)
+pub unread_front : (lex : Lex) (len : ℕ) (unread : List ℕ) → begins_word lex (get_or unread 0 0) ≡ true
+    → list_any is_blank (take len unread)
     ≡ false → len < length unread → is_blank (get_or unread len 0) ≡ true → (more : List ℕ) →
     front_from lex (unread ++ more)
     ≡ next_word (record { bytes = take 65 (take len unread); line = lex.line })

@@ -1,8 +1,9 @@
 -- How a scanner stands in its block of bytes.
-use Rattle.std.specs.Prelude.{◌≡◌, ℕ, ◌+◌, ◌^◌, ◌<◌, ◌≤◌, min, true, false, ℤ, nat_abs, List, length, take, slice_index, Some}
+use Rattle.std.specs.Prelude.{◌≡◌, ℕ, ◌+◌, ◌^◌, ◌<◌, ◌≤◌, min, Bool, true, false, ℤ, nat_abs, List, [], ◌∷◌, length, take, drop}
+use Rattle.std.specs.Prelude.{slice_index, Some}
 use Rattle.std.specs.List.{list_all, list_any}
 use Rattle.cnf_base.specs.Number.{is_digit, value_after, signed_number}
-use Rattle.cnf_base.specs.Text.{Word, is_blank}
+use Rattle.cnf_base.specs.Text.{Word, is_blank, is_line_end}
 use Rattle.text_scan.specs.Capped.{cap}
 use Rattle.text_scan.specs.Lexer.{begins_word}
 use Rattle.text_scan.specs.Scan.{Scan}
@@ -44,6 +45,14 @@ pub record IsNumberAtFront (bytes : List ℕ) (number : ℤ) (len : ℕ) : Type 
   pub blank : is_blank (slice_index bytes len) ≡ true
   pub number_is : signed_number (take len bytes) ≡ Some number
   pub small : nat_abs number ≤ cap
+
+-- Tokens that spell these numbers stand at the front of these bytes, a blank behind each, in so many bytes with the blanks, and no line end
+-- is among the blanks but the last; whether a line ended before them, and whether one has ended then.
+abbrev pub AreNumbersAtFront : Bool → List ℤ → List ℕ → ℕ → Bool → Type 0
+AreNumbersAtFront before [] bytes len after = (len ≡ 0) × (after ≡ before)
+AreNumbersAtFront before (number ∷ numbers) bytes len after =
+    (before ≡ false) × (size : ℕ) × IsNumberAtFront bytes number size × (rest : ℕ) × (len ≡ size + 1 + rest)
+    × AreNumbersAtFront (is_line_end (slice_index bytes size)) numbers (drop (size + 1) bytes) rest after
 
 -- the next byte begins a token of so many bytes, which spells this number
 pub record IsNumberAhead (scan : Scan) (number : ℤ) (len : ℕ) : Type 0 where

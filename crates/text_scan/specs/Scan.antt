@@ -1,7 +1,9 @@
 -- A scanner as its callers see it, and what a call gives.
-use Rattle.std.specs.Prelude.{◌≡◌, ℕ, ◌+◌, ◌<◌, Bool, true, false, ℤ, nat_abs, ◌≤◌, List, ◌++◌, Option, None, Some, Result, Ok, Err, ⊤}
+use Rattle.std.specs.Prelude.{◌≡◌, ℕ, ◌+◌, ◌-◌, ◌<◌, Bool, true, false, ℤ, nat_abs, ◌≤◌, List, [], ◌∷◌, ◌++◌, drop, if◌then◌else◌, Option}
+use Rattle.std.specs.Prelude.{None, Some, Result, Ok, Err, ⊤}
 use Rattle.cnf_base.specs.Number.{signed_number}
 use Rattle.cnf_base.specs.Text.{Word}
+use Rattle.text_scan.specs.declared.lexer.LexerMode.TheVariants.{LineStart}
 use Rattle.text_scan.specs.declared.scanner.ScanStatus.{ScanStatus}
 use Rattle.text_scan.specs.declared.scanner.ScanStatus.TheVariants.{Reading, Ended, Overlong, Faulted}
 use Rattle.text_scan.specs.declared.scanner.ScanError.{ScanError}
@@ -121,3 +123,18 @@ pub record TookNumber (number : ℤ) (at : ℕ) (old new : Scan) : Type 0 where
   pub gives : (more : List ℕ) → ahead old more ≡ next_word word (ahead new more)
   pub so_far : (more : List ℕ) → so_far old more ≡ next_word word (so_far new more)
   pub gave : GaveWord word old new
+
+-- what is known behind tokens of a line, if there are any, of so many bytes with the blanks behind them, the last of which may be its end
+abbrev pub passed : Scan → Bool → ℕ → Bool → Scan
+passed scan any len ended = record {
+  lex = if ended then record { comment = scan.lex.comment; mode = LineStart; line = scan.lex.line + 1; word = [] } else scan.lex;
+  room = scan.room - len;
+  unread = drop len scan.unread;
+  status = scan.status;
+  line = if any then scan.lex.line else scan.line;
+}
+
+-- Tokens on this line that spell these numbers were given in turn.
+abbrev pub TookNumbers : List ℤ → ℕ → Scan → Scan → Type 0
+TookNumbers [] at old new = new ≡ old
+TookNumbers (number ∷ numbers) at old new = (middle : Scan) × TookNumber number at old middle × TookNumbers numbers at middle new

@@ -1,5 +1,5 @@
 // One byte after another: which line it is, whether a comment, and the token that has begun.
-ghost use Rattle.std.specs.Prelude.{false, take, slice_index, ◌≡◌, ◌+◌, ◌^◌, ◌<◌, ◌≤◌, length, IsTrue};
+ghost use Rattle.std.specs.Prelude.{false, take, slice_index, ◌≡◌, ◌+◌, ◌^◌, ◌<◌, ◌≤◌, [], length, IsTrue};
 ghost use Rattle.std.specs.List.{list_any};
 ghost use Rattle.text_scan.specs.declared.lexer.LexerMode.TheVariants.{Words};
 ghost use Rattle.cnf_base.specs.Text.{is_blank, has_bytes};
@@ -9,7 +9,7 @@ use crate::token::{KEPT, SPACE, Token};
 use std::marker::Model;
 
 /// What stood on the line so far: blanks alone, a comment, or tokens.
-#[derive(Clone, Copy, Debug, PartialEq, Eq)]
+#[derive(Clone, Copy, PartialEq, Eq)]
 pub enum LexerMode {
     LineStart,
     Comment,
@@ -17,7 +17,7 @@ pub enum LexerMode {
 }
 
 /// What is known before the next byte.
-#[derive(Debug, Drop)]
+#[derive(Drop)]
 pub struct Lexer {
     comment: u8,
     mode: LexerMode,
@@ -115,6 +115,15 @@ impl Lexer {
             LexerMode::Comment => false,
             LexerMode::Words => true,
         }
+    }
+
+    /// Whether it stands behind a blank on a line that has a token. Then a byte that is no blank begins one.
+    #[inline(always)]
+    pub fn is_between_words(&self) -> bool
+        ensures mode { IsTrue result → self.now.mode ≡ Words }
+        ensures word { IsTrue result → self.now.word ≡ [] }
+    {
+        self.len == 0 && self.mode == LexerMode::Words
     }
 
     /// Takes a blank behind a token.

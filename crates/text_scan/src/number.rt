@@ -1,14 +1,14 @@
 // The numbers of tokens. A value is cut at a bound above every limit of the formats, so that numerals of any length are
 // judged.
-ghost use Rattle.std.specs.Prelude.{◌≡◌, ◌<◌, ◌≤◌, true, false, pos, neg_ℤ, nat_abs, length, None, Some, IfSome, if◌then◌else◌};
+ghost use Rattle.std.specs.Prelude.{◌≡◌, ◌+◌, ◌<◌, ◌≤◌, true, false, pos, neg_ℤ, nat_abs, length, take, None, Some, IfSome, if◌then◌else◌};
+ghost use Rattle.std.specs.List.{list_all};
 ghost use Rattle.std.specs.Option.{option_map};
-ghost use Rattle.cnf_base.specs.Number.{is_digit, numeral_value, plain_number, signed_number, signed_value};
-ghost use Rattle.text_scan.specs.Block.{IsNumberAtFront, IsNumeralAtFront};
+ghost use Rattle.cnf_base.specs.Number.{is_digit, numeral_value, value_after, plain_number, signed_number, signed_value};
+ghost use Rattle.text_scan.specs.Block.{AreNumbersAtFront, IsNumberAtFront, IsNumeralAtFront};
 ghost use Rattle.text_scan.specs.Capped.{capped, cap, capped_ℤ};
 
 use crate::lexer::is_blank;
 use crate::token::Token;
-use core::dec2flt::read_digits;
 
 /// The value at which numbers are cut.
 const CAP: u64 = 1_000_000_000_000_000_000;
@@ -113,6 +113,29 @@ pub fn number_at_front(bytes: &[u8]) -> Option<(i64, usize)>
     Some((with_sign(minus, value)?, start + len))
 }
 
+/// Puts the numbers at the front of these bytes into places, each read as `number_at_front` does, up to a line end, and as far as there are
+/// places. How many they are, how many bytes they have with the blanks behind them, and whether the last of these is a line end.
+#[inline(always)]
+pub fn numbers_at_front(bytes: &[u8], places: &mut [i64]) -> (usize, usize, bool)
+    ensures size { length places.new ≡ length places.old }
+    ensures within { result.0 ≤ length places.new }
+    ensures front { AreNumbersAtFront false (take result.0 places.new) bytes.now result.1 result.2 }
+{
+    let mut count = 0;
+    let mut at = 0;
+    let mut ended = false;
+    'numbers: while count < places.len() && !ended {
+        let Some((number, len)) = number_at_front(&bytes[at..]) else {
+            return (count, at, false);
+        };
+        places[count] = number;
+        count += 1;
+        ended = bytes[at + len] == b'\n';
+        at += len + 1;
+    }
+    (count, at, ended)
+}
+
 // The number of a value with a minus sign or without. No branch tells the signs apart: those of literals are as good as random. (One for
 // 'a minus sign and zero' would be compiled as one for the sign.)
 #[inline(always)]
@@ -137,16 +160,35 @@ fn negated_if(minus: bool, number: i64) -> i64
     if minus { -number } else { number }
 }
 
-// The value of the digits at the front, where there are at most 18, and a blank stands behind them. Eight digits are read at a time, without
-// a branch for how many there are: how long the numbers of a proof are is as good as random.
+// The value of the digits at the front, where there are at most 18, and a blank stands behind them.
 #[inline(always)]
 fn blank_ended(bytes: &[u8]) -> Option<(u64, usize)>
     requires { 18 < length bytes.now }
     ensures { IfSome result (λ found. IsNumeralAtFront bytes.now found.0 found.1) }
 {
-    let (len, value) = read_digits(bytes, 0, 0);
-    if len == 0 || len > DIGITS || !is_blank(bytes[len]) {
+    let (value, len) = digits_up_to(bytes, DIGITS);
+    if len == 0 || !is_blank(bytes[len]) {
         return None;
     }
     Some((value, len))
+}
+
+// The digits at the front, at most so many, and their value. Where their number is known when the program is built, the loop is
+// unrolled.
+#[inline(always)]
+fn digits_up_to(bytes: &[u8], most: usize) -> (u64, usize)
+    requires within { most < length bytes.now }
+    requires short { most ≤ 18 }
+    ensures most { result.1 ≤ most }
+    ensures digits { list_all is_digit (take result.1 bytes.now) ≡ true }
+    ensures value { result.0 ≡ value_after 0 (take result.1 bytes.now) }
+    ensures small { result.0 < cap }
+{
+    let mut len = 0;
+    let mut value: u64 = 0;
+    while len < most && is_digit(bytes[len]) {
+        value = 10 * value + (bytes[len] - b'0') as u64;
+        len += 1;
+    }
+    (value, len)
 }

@@ -1,5 +1,6 @@
 // The scanner: blocks of bytes from a source, cut into tokens byte by byte, up to a limit.
-ghost use Rattle.std.specs.Prelude.{◌≡◌, ◌≢◌, ℕ, ◌+◌, ◌^◌, ◌<◌, ◌≤◌, true, false, List, [], ◌++◌, length, None, Ok, Err, IsTrue, IfSome};
+ghost use Rattle.std.specs.Prelude.{◌≡◌, ◌≢◌, ℕ, ◌+◌, ◌^◌, ◌<◌, ◌≤◌, true, false, List, [], ◌++◌, length, take, None, Ok, Err, IsTrue};
+ghost use Rattle.std.specs.Prelude.{IfSome};
 ghost use Rattle.std.specs.Prelude.{IfOk, OnOk, OnErr, is_ok, if◌then◌else◌};
 ghost use Rattle.cnf_base.specs.Text.{has_bytes};
 ghost use Rattle.host_io.specs.Channel.{Rose};
@@ -7,13 +8,14 @@ ghost use Rattle.text_scan.specs.declared.scanner.ScanStatus.TheVariants.{Readin
 ghost use Rattle.text_scan.specs.declared.scanner.ScanError.TheVariants.{ReadFault};
 ghost use Rattle.text_scan.specs.Items.{items, items_of_front, the_end, too_long, next_word};
 ghost use Rattle.text_scan.specs.Lexer.{items_from, word_then};
-ghost use Rattle.text_scan.specs.Scan.{ahead, so_far, is_reading, is_faulted, given, Gives, GivesSoFar, Moves, TookNumber, last_answer};
+ghost use Rattle.text_scan.specs.Scan.{ahead, so_far, is_reading, is_faulted, given, Gives, GivesSoFar, Moves, TookNumber, TookNumbers};
+ghost use Rattle.text_scan.specs.Scan.{passed, last_answer};
 ghost use Rattle.text_scan.specs.Scan.{block_size};
 ghost use Rattle.text_scan.specs.Block.{IsWordAhead, IsNumberAhead};
 ghost use Rattle.text_scan.specs.Decides.{gained, Decides, OnlyReads};
 
 use crate::lexer::{Lexer, letters};
-use crate::number::number_at_front;
+use crate::number::{number_at_front, numbers_at_front};
 use crate::token::{SPACE, Token};
 use host_io::Source;
 use std::marker::Model;
@@ -35,7 +37,7 @@ pub enum ScanError {
 }
 
 /// Whether a scanner still reads, and else what it answers from now on.
-#[derive(Clone, Copy, Debug, PartialEq, Eq)]
+#[derive(Clone, Copy, PartialEq, Eq)]
 enum ScanStatus {
     Reading,
     Ended,
@@ -44,7 +46,7 @@ enum ScanStatus {
 }
 
 /// Cuts the text that a source gives into tokens.
-#[derive(Debug, Drop)]
+#[derive(Drop)]
 pub struct Scanner {
     block: [u8; BLOCK],
     // the first byte of the block that isn't looked at yet, the first that may not be, and the end of the bytes read
@@ -161,21 +163,45 @@ impl Scanner {
         }
     }
 
-    /// The number of the next token, where the token stands on this line, is a number below 10^18, and lies whole, with the
-    /// blank behind it, in what was read. It is then given, as `next` gives it; else nothing changes. It reads nothing, and
-    /// looks at each byte once. That it answers at all is no promise: what it leaves `next` gives.
+    /// Puts the numbers of the tokens that come next on this line into places, and tells how many: as far as each is a number below
+    /// 10^18 and lies whole, with the blank behind it, in what was read, and there are places. These tokens are then given, as `next`
+    /// gives them. It reads nothing, and looks at each byte once. That it puts any is no promise: what it leaves `next` gives.
     #[inline(always)]
-    pub fn number_on(&mut self, line: u64) -> Option<i64>
-        ensures took { IfSome result (λ number. TookNumber number line self.old self.new) }
-        ensures none { result ≡ None → self.new ≡ self.old }
+    pub fn numbers_on(&mut self, line: u64, places: &mut [i64]) -> usize
+        ensures size { length places.new ≡ length places.old }
+        ensures within { result ≤ length places.new }
+        ensures took { TookNumbers (take result places.new) line self.old self.new }
     {
         if !self.is_on(line) {
-            return None;
+            return 0;
         }
-        self.take_number()
+        if !self.lexer.is_between_words() {
+            return 0;
+        }
+        let (count, len, ended) = numbers_at_front(&self.block[self.at..self.stop], places);
+        self.pass_numbers(count > 0, len, ended);
+        count
     }
 
-    /// The same of a token that stands on another line.
+    // Passes the numbers of a line, if there are any, which have so many bytes with the blanks behind them, and a line end, if the last of
+    // these is one.
+    #[inline(always)]
+    fn pass_numbers(&mut self, any: bool, len: usize, ended: bool)
+        requires unread { len ≤ length self.old.unread }
+        requires room { len ≤ self.old.room }
+        requires some { IsTrue ended → 0 < len }
+        ensures { self.new ≡ passed self.old any len ended }
+    {
+        if any {
+            self.line = self.lexer.line();
+        }
+        if ended {
+            self.lexer.pass_word(b'\n');
+        }
+        self.at += len;
+    }
+
+    /// The same of the token that comes next, where it stands on another line; else nothing changes.
     #[inline(always)]
     pub fn number_past(&mut self, line: u64) -> Option<i64>
         ensures took { IfSome result (λ number. TookNumber number self.new.line self.old self.new) }

@@ -11,7 +11,7 @@ pub const KEPT: usize = 65;
 pub const SPACE: usize = 72;
 
 /// A token of a text. In contracts it is its bytes, at most 65 of them, and its line.
-#[derive(Debug, Drop)]
+#[derive(Drop)]
 pub struct Token {
     bytes: [u8; SPACE],
     len: usize,

@@ -230,8 +230,9 @@ fn push_end<E: Display + Drop>(
 // The next number of this line or of a later one, with its line.
 fn next_number(scanner: &mut Scanner) -> Option<(u64, i64)> {
     let line = scanner.line();
-    if let Some(number) = scanner.number_on(line) {
-        return Some((line, number));
+    let mut places = [0; 1];
+    if scanner.numbers_on(line, &mut places) == 1 {
+        return Some((line, places[0]));
     }
     let number = scanner.number_past(line)?;
     Some((scanner.line(), number))

@@ -1,14 +1,12 @@
 -- Variables that are kept, each once: one more keeps them so, and where each stands they are an order.
 use Rattle.std.proofs.Common.{◌≡◌, ℕ, suc, ◌+◌, ◌-◌, ◌<◌, Bool, true, false, List, [], ◌∷◌, ◌++◌, length, map, take, get_or, refl}
-use Rattle.std.proofs.Common.{replicate, sym, ap, ◌∙◌, arith, inl, inr}
+use Rattle.std.proofs.Common.{sym, ap, ◌∙◌, arith, inl, inr}
 use Rattle.std.proofs.Math.ListN.{set}
 use Rattle.std.specs.List.{sum_by}
 use Rattle.std.proofs.lemmas.List.{get_or-set_same, get_or-set_other, get_or_append_left, get_or-map, get_or-take, get_or_past}
-use Rattle.std.proofs.lemmas.List.{get_or-replicate}
-use Rattle.std.proofs.lemmas.List.{length-append, length-replicate, length-take-le, take_more, map-append, length-set, length-map}
+use Rattle.std.proofs.lemmas.List.{length-append, length-take-le, take_more, map-append, length-set, length-map}
 use Rattle.std.proofs.Math.Seq.{get_or-append_seam}
 use Rattle.std.proofs.lemmas.List.Sums.{sum_by-cons, sum_by-set}
-use Rattle.std.proofs.lemmas.List.Folds.{sum_by-replicate}
 use Rattle.std.proofs.lemmas.Bool.{cases_lt, cases_eq}
 use Rattle.cnf_base.specs.Order.{IsOrder}
 use Rattle.variable_order.specs.Completion.{Stands, to_come, AreKept}
@@ -35,19 +33,6 @@ one_less flags k inside unset =
     let one : to_come (get_or flags k false) ≡ 1 = ap to_come unset in
     omega (arith, e, one)
 
-pub kept_none : (vars : ℕ) → AreKept vars [] (replicate vars false)
-kept_none vars = record {
-  each = length-replicate vars false;
-  within = λ place h. absurd (omega arith);
-  apart = λ place other h. absurd (omega arith);
-  stand = λ vertex h.
-      let inside = inside_of_true (replicate vars false) vertex h in
-      let below : vertex < vars = omega (arith, length-replicate vars false) in
-      let no : false ≡ true = sym (get_or-replicate vars vertex false false below) ∙ h in
-      absurd cc;
-  count = let e = sum_by-replicate to_come vars false in omega (arith, e);
-}
-
 -- a variable that stands there has its flag set
 flag_of : {vars : ℕ} {variables : List ℕ} {flags : List Bool} → AreKept vars variables flags → (vertex : ℕ)
     → Stands (suc vertex) variables → get_or flags vertex false ≡ true
@@ -60,13 +45,6 @@ stands_before variables other variable stands = (
   stands.0,
   omega (arith, stands.1, length-append variables (other ∷ [])),
   get_or_append_left variables (other ∷ []) 0 stands.0 stands.1 ∙ stands.2,
-)
-
-pub stands_last : (variables : List ℕ) (variable : ℕ) → Stands variable (variables ++ variable ∷ [])
-stands_last variables variable = (
-  length variables,
-  omega (arith, length-append variables (variable ∷ [])),
-  get_or-append_seam variables variable [] 0,
 )
 
 -- the flag of another vertex stays
@@ -132,14 +110,6 @@ kept_more vars vertex variables flags kept below unset =
       ];
       count = let less = one_less flags vertex inside unset in omega (arith, longer, less, kept.count);
     }
-
--- where as many are kept as there are, no flag is left to set
-pub none_left : (vars vertex : ℕ) (variables : List ℕ) (flags : List Bool) → AreKept vars variables flags → vertex < vars
-    → get_or flags vertex false ≡ false → length variables < vars
-none_left vars vertex variables flags kept below unset =
-    let inside : vertex < length flags = omega (arith, kept.each) in
-    let less = one_less flags vertex inside unset in
-    omega (arith, less, kept.count)
 
 -- where all variables were kept they are an order
 pub all_kept : (vars : ℕ) (variables : List ℕ) (flags : List Bool) → AreKept vars variables flags

@@ -38,15 +38,6 @@ same_before n row column positive out =
     ap length (skipped (square_clauses n) (stays n) at column positive out) in
     omega (arith, count_append n row (column + 1), count_append n row column, step)
 
-pub begins : (n column : ℕ) (cursor : List ℕ) → StandsAt n column cursor → StandsWithin n 1 column cursor
-begins n column cursor at = record {
-  rows = at.rows;
-  few = λ r a b. omega (arith, at.few r a b);
-  few_below = λ r a b c. at.few r a c;
-  above = λ r a b. absurd (omega (arith, a, b));
-  below = λ r a b c. at.right r a c;
-}
-
 pub ends : (n row column : ℕ) (cursor : List ℕ) → n < row → StandsWithin n row column cursor → StandsAt n (column + 1) cursor
 ends n row column cursor past w = record {
   rows = w.rows;

@@ -3,7 +3,7 @@ use cnf_base::Cnf;
 use schedule_plan::{Order, Plan};
 
 /// A mutilated chessboard as a workload.
-#[derive(Debug, Drop)]
+#[derive(Drop)]
 pub struct Board {
     pub cnf: Cnf,
     pub order: Order,

@@ -16,7 +16,7 @@ use crate::square::{Domino, Square, clause_count, is_domino, number, stays};
 use host_io::{Failed, HeldBytes, Sink, emit, emit_number, write_all};
 
 /// How the variables of a line are quantified: one after another, or as a set at once.
-#[derive(Clone, Copy, Debug, PartialEq, Eq)]
+#[derive(Clone, Copy)]
 enum Way {
     InTurn,
     AtOnce,

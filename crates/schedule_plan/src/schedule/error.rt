@@ -7,7 +7,7 @@ use std::alloc::AllocFailed;
 use thiserror::Error;
 
 /// What is wrong with a schedule. The number of a kind is its place in this list.
-#[derive(Clone, Copy, Debug, PartialEq, Eq)]
+#[derive(Clone, Copy, Debug)]
 pub enum PlanKind {
     /// A line is no command.
     Syntax = 1,
@@ -36,7 +36,7 @@ impl PlanKind {
 }
 
 /// Why no plan was read. After any of them what was read is given up.
-#[derive(Clone, Copy, Debug, PartialEq, Eq, Error)]
+#[derive(Clone, Copy, Debug, Error)]
 pub enum PlanError {
     /// What is wrong, and the line.
     #[error("line {1}: {0:?}")]

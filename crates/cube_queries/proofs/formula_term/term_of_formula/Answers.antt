@@ -30,7 +30,7 @@ returns-then-is_empty-clause-takes g c =
 pub returns-in-Some-clause-takes : goal.returns-in-Some-clause-takes
 returns-in-Some-clause-takes g c =
     let at = c.in-Some.ensures in
-    empty_alone c.args.runner.now c.args.formula.now c.requires.formula c.requires.none_out c.in-Some.number at.0 at.1.0 at.1.1
+    empty_alone c.args.runner.now c.args.formula.now c.requires.formula c.requires.none_out c.in-Some.number at.from_one at.to_len at.empty
     c.term_of.new.runner c.term_of.result c.term_of.ensures.takes
 
 pub returns-in_err-term-clause-takes : goal.returns-in_err-term-clause-takes
@@ -115,8 +115,8 @@ pub returns-in-Some-clause-costs : goal.returns-in-Some-clause-costs
 returns-in-Some-clause-costs g c =
     let at = c.in-Some.ensures in
     empty_costs c.args.runner.now c.term_of.new.runner c.requires.none_out c.in-Some.number
-    (within_old c.args.runner.now c.args.formula.now c.requires.formula 0 (omega (arith, at.0, at.1.0)))
-    (ap (λ (f : Formula). clause_of_number f c.in-Some.number) c.requires.formula ∙ at.1.1) _ c.term_of.ensures.costs
+    (within_old c.args.runner.now c.args.formula.now c.requires.formula 0 (omega (arith, at.from_one, at.to_len)))
+    (ap (λ (f : Formula). clause_of_number f c.in-Some.number) c.requires.formula ∙ at.empty) _ c.term_of.ensures.costs
 
 pub returns-in_err-term-clause-costs : goal.returns-in_err-term-clause-costs
 returns-in_err-term-clause-costs g c =

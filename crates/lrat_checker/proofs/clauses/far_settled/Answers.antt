@@ -4,7 +4,7 @@ use Rattle.std.specs.Cmp.{nat_eq_equiv}
 use Rattle.std.specs.List.{list_all}
 use Rattle.std.specs.Map.Iter.{deref_pair}
 use Rattle.std.proofs.lemmas.Map.Iter.{hash_map_turn, iter_end}
-use Rattle.lrat_checker.specs.Stamped.{set_of}
+use Rattle.lrat_rules.specs.FalseLiterals.{set_of}
 use Rattle.lrat_checker.specs.Walk.{settles, settles_at}
 use Rattle.lrat_checker.proofs.Walks.{entries_pass, one_entry_more}
 use Rattle.lrat_checker.proofs.clauses.far_settled.Goals as goal

@@ -2,7 +2,7 @@
 use Rattle.std.proofs.Common.{◌≡◌, true, map}
 use Rattle.std.specs.List.{list_all}
 use Rattle.std.specs.Map.Iter.{deref_pair}
-use Rattle.lrat_checker.specs.Stamped.{set_of}
+use Rattle.lrat_rules.specs.FalseLiterals.{set_of}
 use Rattle.lrat_checker.specs.Walk.{settles}
 use Rattle.lrat_checker.proofs.clauses.far_settled.Given as goal
 

@@ -1,6 +1,6 @@
 -- What the loops of `near_settled` keep.
 use Rattle.std.proofs.Common.{◌≡◌, ℕ, ◌<◌, true}
-use Rattle.lrat_checker.specs.Stamped.{set_of}
+use Rattle.lrat_rules.specs.FalseLiterals.{set_of}
 use Rattle.lrat_checker.specs.Clauses.{near_at}
 use Rattle.lrat_checker.specs.Walk.{settles_at}
 use Rattle.lrat_checker.proofs.clauses.near_settled.Given as goal

@@ -2,7 +2,7 @@
 use Rattle.std.proofs.Common.{◌≡◌, ◌+◌, drop}
 use Rattle.std.specs.Prelude.{IsTrue}
 use Rattle.lrat_rules.specs.Chain.{chain as chain_of}
-use Rattle.lrat_checker.specs.Stamped.{set_of, before_of}
+use Rattle.lrat_rules.specs.FalseLiterals.{set_of, before_of}
 use Rattle.lrat_checker.specs.Cuts.{used}
 use Rattle.lrat_checker.specs.Memory.{forces_literal}
 use Rattle.lrat_checker.proofs.propagation.run_hints.Given as goal

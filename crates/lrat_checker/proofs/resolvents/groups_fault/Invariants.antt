@@ -2,7 +2,7 @@
 use Rattle.std.proofs.Common.{◌≡◌, ◌++◌, None, drop, take}
 use Rattle.std.specs.Prelude.{map}
 use Rattle.lrat_rules.specs.Addition.{groups_fault}
-use Rattle.lrat_checker.specs.Stamped.{set_of, before_of}
+use Rattle.lrat_rules.specs.FalseLiterals.{set_of, before_of}
 use Rattle.lrat_checker.specs.Cuts.{group_use}
 use Rattle.lrat_checker.proofs.resolvents.groups_fault.Given as goal
 

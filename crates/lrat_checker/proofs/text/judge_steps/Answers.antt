@@ -1,4 +1,5 @@
 -- What the reader's next answer says to the verdict.
+use Rattle.std.specs.Prelude.{Result}
 use Rattle.std.proofs.Common.{◌≡◌, ℕ, List, false, Some, None, Ok, Err, length, refl, sym, ◌∙◌, ap, subst, rules}
 use Rattle.host_io.specs.Channel.{Rose}
 use Rattle.text_scan.specs.Decides.{gained, OnlyReads-then, Decides-then, gained-then, front-then}
@@ -6,6 +7,8 @@ use Rattle.lrat_text.specs.declared.error.StepError.TheVariants.{ReadFault, OutO
 use Rattle.lrat_text.specs.Reader.{GaveStep, given, is_reading, steps_ahead, so_far}
 use Rattle.lrat_rules.specs.Run.{step_fault, after_step}
 use Rattle.lrat_checker.specs.TextVerdict.{end_verdict, error_answer, steps_verdict, Answers}
+use Rattle.lrat_checker.specs.declared.verdict.Verdict.{Verdict}
+use Rattle.lrat_checker.specs.declared.verdict.CheckError.{CheckError}
 use Rattle.lrat_checker.proofs.Turns.{at_end, at_error, at_bad_step, at_good_step, good_so_far, fault_so_far, later_wants, read_fault_alone}
 use Rattle.lrat_checker.proofs.Turns.{step_wants}
 use Rattle.lrat_checker.proofs.Wanted.{behind_wants, step_is_wanted, error_wants, memory_alone}
@@ -59,34 +62,34 @@ returns-in-Err-clause-unfailed g c = λ differ.
 pub steps-preserved : goal.steps-preserved
 steps-preserved g c =
     let is_good : step_fault c.steps.judge c.next_into.new.step ≡ None = sym c.in_ok-reason-in-Ok-Some.ensures.fault ∙ c.in-None.is in
-    let moved : c.step.new.self ≡ after_step c.steps.judge c.next_into.new.step = search rules in
+    let moved : c.step_with.new.self ≡ after_step c.steps.judge c.next_into.new.step = search rules in
     let gave : GaveStep c.in-Ok-Some.line c.steps.reader c.next_into.new.self = search rules in
     record {
       same = λ told.
           Decides-then _ (c.steps.invariant.same told) (c.in-Ok-Some.ensures.gives told)
           (λ bytes middle more before gives. before
-          ∙ at_good_step c.steps.judge c.steps.has_empty _ _ _ _ gives c.next_into.new.step c.in-Ok-Some.line c.step.new.self
+          ∙ at_good_step c.steps.judge c.steps.has_empty _ _ _ _ gives c.next_into.new.step c.in-Ok-Some.line c.step_with.new.self
           c.or_adds_empty-has_empty.result
           (ap (λ r. given c.next_into.new.step (Ok r)) c.in-Ok-Some.field-0-is) is_good moved c.or_adds_empty-has_empty.ensures);
       memory = λ told.
           Decides-then _ (c.steps.invariant.memory told) (c.in-Ok-Some.ensures.gives told)
           (λ bytes middle more before gives wants. before
-          (later_wants c.steps.judge _ _ _ _ gives c.next_into.new.step c.in-Ok-Some.line c.step.new.self
+          (later_wants c.steps.judge _ _ _ _ gives c.next_into.new.step c.in-Ok-Some.line c.step_with.new.self
           (ap (λ r. given c.next_into.new.step (Ok r)) c.in-Ok-Some.field-0-is) is_good moved wants));
       wants = λ told.
           Decides-then _ (c.steps.invariant.wants told) (c.in-Ok-Some.ensures.spends told (ap is_reading c.steps.invariant.reading))
           (λ bytes middle more before spends n wants. before n
-          (behind_wants c.steps.judge _ _ _ _ spends c.next_into.new.step c.in-Ok-Some.line c.step.new.self
+          (behind_wants c.steps.judge _ _ _ _ spends c.next_into.new.step c.in-Ok-Some.line c.step_with.new.self
           (ap (λ r. given c.next_into.new.step (Ok r)) c.in-Ok-Some.field-0-is) is_good moved n wants));
       so_far = λ told scanning.
           let good = good_so_far c.steps.judge c.steps.has_empty _ c.steps.reader c.next_into.new.self _
           (c.in-Ok-Some.ensures.so_far told (ap is_reading c.steps.invariant.reading))
-          c.next_into.new.step c.in-Ok-Some.line c.step.new.self c.or_adds_empty-has_empty.result
+          c.next_into.new.step c.in-Ok-Some.line c.step_with.new.self c.or_adds_empty-has_empty.result
           (ap (λ r. given c.next_into.new.step (Ok r)) c.in-Ok-Some.field-0-is) is_good moved c.or_adds_empty-has_empty.ensures scanning
           in
           front-then (λ bytes. steps_verdict c.args.judge.now false (so_far c.args.reader.now bytes))
           (λ bytes. steps_verdict c.steps.judge c.steps.has_empty (so_far c.steps.reader bytes))
-          (λ bytes. steps_verdict c.step.new.self c.or_adds_empty-has_empty.result (so_far c.next_into.new.self bytes))
+          (λ bytes. steps_verdict c.step_with.new.self c.or_adds_empty-has_empty.result (so_far c.next_into.new.self bytes))
           (c.steps.invariant.same told) (c.in-Ok-Some.ensures.gives told) (c.steps.invariant.so_far told good.0) good.1;
       reading = gave.reading;
       reads = OnlyReads-then c.steps.invariant.reads c.next_into.ensures.reads;
@@ -116,3 +119,76 @@ returns-in-Err-clause-wants g c = λ told is.
     Decides-then _ (c.steps.invariant.wants told) (c.in-Err.ensures.spends told (ap is_reading c.steps.invariant.reading))
     (λ bytes middle more before spends. before (length more)
     (error_wants c.steps.judge _ _ _ _ spends (ap Err memory)))
+
+-- what each exit leaves as the last turn did
+no_fault : {verdict : Verdict} {error : CheckError} → ◌≡◌ {A = Result Verdict CheckError} (Ok verdict) (Err error) → ⊥
+no_fault e = cc
+
+pub returns-in_err-reason-in-Ok-Some-clause-reads : goal.returns-in_err-reason-in-Ok-Some-clause-reads
+returns-in_err-reason-in-Ok-Some-clause-reads g c = OnlyReads-then c.steps.invariant.reads c.next_into.ensures.reads
+
+pub returns-in_err-reason-in-Ok-Some-clause-beside : goal.returns-in_err-reason-in-Ok-Some-clause-beside
+returns-in_err-reason-in-Ok-Some-clause-beside g c = c.next_into.ensures.beside ∙ c.steps.invariant.beside
+
+pub returns-in_err-reason-in-Ok-Some-clause-unfailed : goal.returns-in_err-reason-in-Ok-Some-clause-unfailed
+returns-in_err-reason-in-Ok-Some-clause-unfailed g c = λ _. c.in-Ok-Some.ensures.unfailed (λ e. cc) ∙ c.steps.invariant.unfailed
+
+pub returns-in-Some-clause-memory : goal.returns-in-Some-clause-memory
+returns-in-Some-clause-memory g c = λ told is reading. absurd (no_fault is)
+
+pub returns-in-Some-clause-wants : goal.returns-in-Some-clause-wants
+returns-in-Some-clause-wants g c = λ told is. absurd (no_fault is)
+
+pub returns-in-Some-clause-reader_stops : goal.returns-in-Some-clause-reader_stops
+returns-in-Some-clause-reader_stops g c = λ is differs. absurd (no_fault is)
+
+pub returns-in-Some-clause-reader_wants : goal.returns-in-Some-clause-reader_wants
+returns-in-Some-clause-reader_wants g c = λ is differs. absurd (no_fault is)
+
+pub returns-in-Some-clause-undecided : goal.returns-in-Some-clause-undecided
+returns-in-Some-clause-undecided g c = λ told is. absurd (no_fault is)
+
+pub returns-in-Some-clause-fault : goal.returns-in-Some-clause-fault
+returns-in-Some-clause-fault g c = λ is. absurd (no_fault is)
+
+pub returns-in-Some-clause-unfailed : goal.returns-in-Some-clause-unfailed
+returns-in-Some-clause-unfailed g c = λ _. c.in-Ok-Some.ensures.unfailed (λ e. cc) ∙ c.steps.invariant.unfailed
+
+pub returns-in-Some-clause-reads : goal.returns-in-Some-clause-reads
+returns-in-Some-clause-reads g c = OnlyReads-then c.steps.invariant.reads c.next_into.ensures.reads
+
+pub returns-in-Some-clause-beside : goal.returns-in-Some-clause-beside
+returns-in-Some-clause-beside g c = c.next_into.ensures.beside ∙ c.steps.invariant.beside
+
+pub returns-in-Ok-None-clause-memory : goal.returns-in-Ok-None-clause-memory
+returns-in-Ok-None-clause-memory g c = λ told is reading. absurd (no_fault is)
+
+pub returns-in-Ok-None-clause-wants : goal.returns-in-Ok-None-clause-wants
+returns-in-Ok-None-clause-wants g c = λ told is. absurd (no_fault is)
+
+pub returns-in-Ok-None-clause-reader_stops : goal.returns-in-Ok-None-clause-reader_stops
+returns-in-Ok-None-clause-reader_stops g c = λ is differs. absurd (no_fault is)
+
+pub returns-in-Ok-None-clause-reader_wants : goal.returns-in-Ok-None-clause-reader_wants
+returns-in-Ok-None-clause-reader_wants g c = λ is differs. absurd (no_fault is)
+
+pub returns-in-Ok-None-clause-undecided : goal.returns-in-Ok-None-clause-undecided
+returns-in-Ok-None-clause-undecided g c = λ told is. absurd (no_fault is)
+
+pub returns-in-Ok-None-clause-fault : goal.returns-in-Ok-None-clause-fault
+returns-in-Ok-None-clause-fault g c = λ is. absurd (no_fault is)
+
+pub returns-in-Ok-None-clause-unfailed : goal.returns-in-Ok-None-clause-unfailed
+returns-in-Ok-None-clause-unfailed g c = λ _. c.in-Ok-None.ensures.unfailed (λ e. cc) ∙ c.steps.invariant.unfailed
+
+pub returns-in-Ok-None-clause-reads : goal.returns-in-Ok-None-clause-reads
+returns-in-Ok-None-clause-reads g c = OnlyReads-then c.steps.invariant.reads c.next_into.ensures.reads
+
+pub returns-in-Ok-None-clause-beside : goal.returns-in-Ok-None-clause-beside
+returns-in-Ok-None-clause-beside g c = c.next_into.ensures.beside ∙ c.steps.invariant.beside
+
+pub returns-in-Err-clause-reads : goal.returns-in-Err-clause-reads
+returns-in-Err-clause-reads g c = OnlyReads-then c.steps.invariant.reads c.next_into.ensures.reads
+
+pub returns-in-Err-clause-beside : goal.returns-in-Err-clause-beside
+returns-in-Err-clause-beside g c = c.next_into.ensures.beside ∙ c.steps.invariant.beside

@@ -1,12 +1,12 @@
--- The literals so far, and those that follow are the clause.
-use Rattle.std.proofs.Common.{◌≡◌, true, ◌++◌, drop}
+-- The literals so far stand before this place.
+use Rattle.std.proofs.Common.{◌≡◌, true, take}
 use Rattle.std.specs.List.{list_all}
 use Rattle.cnf_base.specs.Truth.{is_literal_of}
 use Rattle.cnf_base.specs.ProofText.{max_literal}
 use Rattle.lrat_text.proofs.build.put_clause.Given as goal
 
-abbrev pub invariant-loop-literal : goal.invariant-loop-literal
-invariant-loop-literal l = record {
-  same : l.clause ++ drop l.literal-index l.literals ≡ l.literals;
-  range : list_all (is_literal_of max_literal) (drop l.literal-index l.literals) ≡ true;
+abbrev pub invariant-loop-place : goal.invariant-loop-place
+invariant-loop-place l = record {
+  same : l.clause ≡ take l.place l.numbers;
+  range : list_all (is_literal_of max_literal) (take l.place l.numbers) ≡ true;
 }

@@ -12,16 +12,16 @@ use Rattle.parity_runs.specs.Ends.{EndsWithParity}
 use Rattle.parity_runs.proofs.Began.{nothing_ends}
 use Rattle.parity_runs.proofs.Lent.{inner_kept, lender_kept}
 use Rattle.parity_runs.proofs.Told.{origin_kept, run_ends}
-use Rattle.parity_runs.proofs.Without.{ends_alone, ends_empty, none_listed, some_found, some_open}
+use Rattle.parity_runs.proofs.Without.{ends_alone, ends_empty, none_listed, some_found, some_open, told_empty}
 use Rattle.parity_runs.proofs.run.run_with_parity.Given.{Over}
 use Rattle.parity_runs.proofs.run.run_with_parity.Goals as goal
 use Rattle.parity_runs.proofs.run.run_with_parity.Goals.{After-go_on-sink}
 
-pub returns-then-has_empty-clause-ends : goal.returns-then-has_empty-clause-ends
-returns-then-has_empty-clause-ends g c =
+pub returns-then-is_some-clause-ends : goal.returns-then-is_some-clause-ends
+returns-then-is_some-clause-ends g c =
     ends_empty g.S.Sink.tells (g.S.Sink.channel c.args.sink.now) (g.S.Sink.channel c.run_plan_into.new.sink) c.args.formula.now
     c.args.order.now c.args.plan.now c.args.limits c.run_plan_into.result c.run_plan_into.ensures.ends
-    (let empty : has_empty_clause c.args.formula.now.clauses ≡ true = search rules in empty)
+    (sym (told_empty c.args.formula.now.clauses c.first_empty.result c.first_empty.ensures) ∙ sym c.is_some.ensures ∙ c.if-is_some.true)
 
 pub returns-in_default-clause-ends : goal.returns-in_default-clause-ends
 returns-in_default-clause-ends g c =
@@ -68,7 +68,8 @@ module _ (g : Over) (c : After-go_on-sink g) where
   ended =
       let items = c.in-Ok.equations.list.items in
       let clauses = c.args.formula.now.clauses in
-      let full : has_empty_clause clauses ≡ false = search rules in
+      let full : has_empty_clause clauses ≡ false = sym (told_empty clauses c.first_empty.result c.first_empty.ensures)
+      ∙ sym c.is_some.ensures ∙ c.if-is_some.false in
       let count : length items ≡ 0 → ⊥ = search rules in
       let some : equations clauses ≡ [] → ⊥ = some_found items (equations clauses) c.in-Ok.ensures.listed count in
       let open_clause : list_all is_tautology clauses ≡ false =

@@ -38,8 +38,8 @@ returns-in-Some-clause-ends g c =
     (subst (λ (s : g.row.S.Denot). EndsWithin g.S.Sink.tells (g.S.Sink.channel s)
     (g.S.Sink.channel c.refute-result.new.ledger.sink.now) formula c.args.order.now c.args.plan.now c.args.limits
     c.refute-result.result) same
-    (c.refute-result.ensures.ends formula c.args.order.now c.args.plan.now c.args.limits opened fresh c.in-Some.ensures.0 c.in-Some.ensures.1
-    (some_moves formula c.args.plan.now c.requires.plan c.in-Some.ensures.1)))
+    (c.refute-result.ensures.ends formula c.args.order.now c.args.plan.now c.args.limits opened fresh c.in-Some.ensures.first c.in-Some.ensures.some
+    (some_moves formula c.args.plan.now c.requires.plan c.in-Some.ensures.some)))
 
 pub returns-in_default-new-clause-ends : goal.returns-in_default-new-clause-ends
 returns-in_default-new-clause-ends g c =

@@ -6,7 +6,7 @@ use Rattle.std.specs.HashMap.{get}
 use Rattle.std.specs.List.{list_all}
 use Rattle.std.specs.Option.{option_copied}
 use Rattle.lrat_rules.specs.Addition.{is_settled}
-use Rattle.lrat_checker.specs.Stamped.{set_of}
+use Rattle.lrat_rules.specs.FalseLiterals.{set_of}
 use Rattle.lrat_rules.specs.State.{clause_at}
 use Rattle.lrat_checker.specs.Clauses.{near_at, stands_at, live_below}
 use Rattle.lrat_checker.specs.Walk.{settles, settles_at}

@@ -1,6 +1,6 @@
 -- What is left to show of `IndexedClauses::walk`.
 use Rattle.std.proofs.Common.{◌≡◌, neg_ℤ, ap, ◌∙◌}
-use Rattle.lrat_checker.specs.Stamped.{set_of}
+use Rattle.lrat_rules.specs.FalseLiterals.{set_of}
 use Rattle.lrat_checker.specs.Holders.{numbers_of}
 use Rattle.lrat_checker.proofs.Indexed.{index_settles}
 use Rattle.lrat_checker.proofs.live.IndexedClauses.walk.Goals as goal

@@ -1,64 +1,73 @@
--- One more number.
-use Rattle.std.proofs.Common.{◌≡◌, length, true, refl, sym, ◌∙◌, ap, subst, rules}
+-- The numbers that were taken go on with the line.
+use Rattle.std.proofs.Common.{◌≡◌, length, true, List, take, ℤ, refl, sym, ◌∙◌, subst}
 use Rattle.std.specs.Prelude.{IsTrue}
 use Rattle.lrat_text.specs.LineReader.{ReaderOf}
 use Rattle.lrat_text.specs.LineWants.{wants_ahead, may_want}
-use Rattle.lrat_text.proofs.GoesOn.{GoesOn-number, GoesOn-then, number_leads, number_wants, read_back}
-use Rattle.lrat_text.proofs.Wanted.{Leads-refl, Leads-then}
+use Rattle.lrat_text.proofs.GoesOn.{GoesOn-numbers, numbers_lead, numbers_want, took_sound}
 use Rattle.lrat_text.proofs.reader.LineReader.take_numbers.Goals as goal
 
-pub numbers-preserved : goal.numbers-preserved
-numbers-preserved g c =
+pub invariant_of-self : goal.invariant_of-self
+invariant_of-self g c = λ reading.
+    took_sound (take c.numbers_on-count.result c.numbers_on-count.new.places) c.line.result c.self.inside.scanner
+    c.numbers_on-count.new.self c.numbers_on-count.ensures.took (c.self.invariant reading)
+
+pub invariant_of-self-in-Err : goal.invariant_of-self-in-Err
+invariant_of-self-in-Err g c = λ reading.
+    took_sound (take c.numbers_on-count.result c.numbers_on-count.new.places) c.line.result c.self.inside.scanner
+    c.numbers_on-count.new.self c.numbers_on-count.ensures.took (c.self.invariant reading)
+
+pub returns-in-Ok-clause-ok : goal.returns-in-Ok-clause-ok
+returns-in-Ok-clause-ok g c =
     let form = g.F.LineForm.form in
-    let law = c.form_law.ensures in
+    let numbers : List ℤ = take c.numbers_on-count.result c.numbers_on-count.new.places in
     let old : ReaderOf _ = record {
-      scan = c.self-in-numbers.inside.scanner;
-      draft = c.self-in-numbers.inside.draft;
-      status = c.self-in-numbers.inside.status;
-      line = c.self-in-numbers.inside.line;
+      scan = c.self.inside.scanner;
+      draft = c.self.inside.draft;
+      status = c.self.inside.status;
+      line = c.self.inside.line;
     } in
     let new : ReaderOf _ = record {
-      scan = c.number_on.new.self;
-      draft = c.take_number.new.self;
-      status = c.self-in-numbers.inside.status;
-      line = c.self-in-numbers.inside.line;
+      scan = c.numbers_on-count.new.self;
+      draft = c.take_numbers.new.self;
+      status = c.self.inside.status;
+      line = c.self.inside.line;
     } in
-    let begun : form.is_begun old.draft ≡ true = ap (λ (r : ReaderOf _). form.is_begun r.draft) c.self-in-numbers.view_is ∙ c.numbers.invariant.goes.begun
-    ∙ ap (λ (r : ReaderOf _). form.is_begun r.draft) (sym c.self.view_is) ∙ sym c.is_begun.ensures ∙ c.if-not-is_begun.false in
-    let took = rw c.line.ensures at c.in-Some.ensures.took in
-    let taken : c.take_number.new.self ≡ form.with_number old.draft c.in-Some.number =
-    c.in-Ok.ensures.ok ∙ ap (form.with_number old.draft) (read_back c.in-Some.number took.small) in
-    record {
-      goes = GoesOn-then form c.numbers.invariant.goes
-          (rw (← c.self-in-numbers.view_is) (GoesOn-number form law c.in-Some.number old new took begun taken refl refl));
-      leads = λ more. Leads-then (c.numbers.invariant.leads more)
-          (rw (← c.self-in-numbers.view_is) (number_leads form law c.in-Some.number old new took begun taken more));
-    }
+    let begun : form.is_begun old.draft ≡ true = sym c.is_begun.ensures ∙ c.if-not-is_begun.false in
+    let took = rw c.line.ensures at c.numbers_on-count.ensures.took in
+    rw (← c.self.view_is) (GoesOn-numbers form c.form_law.ensures numbers old new took begun c.in-Ok.ensures.ok refl refl)
 
-pub numbers-init : goal.numbers-init
-numbers-init g c = record { goes = search rules; leads = λ more. Leads-refl _ }
+pub returns-in-Ok-clause-leads : goal.returns-in-Ok-clause-leads
+returns-in-Ok-clause-leads g c = λ more.
+    let form = g.F.LineForm.form in
+    let numbers : List ℤ = take c.numbers_on-count.result c.numbers_on-count.new.places in
+    let old : ReaderOf _ = record {
+      scan = c.self.inside.scanner;
+      draft = c.self.inside.draft;
+      status = c.self.inside.status;
+      line = c.self.inside.line;
+    } in
+    let new : ReaderOf _ = record {
+      scan = c.numbers_on-count.new.self;
+      draft = c.take_numbers.new.self;
+      status = c.self.inside.status;
+      line = c.self.inside.line;
+    } in
+    let begun : form.is_begun old.draft ≡ true = sym c.is_begun.ensures ∙ c.if-not-is_begun.false in
+    let took = rw c.line.ensures at c.numbers_on-count.ensures.took in
+    rw (← c.self.view_is) (numbers_lead form c.form_law.ensures numbers old new took begun c.in-Ok.ensures.ok more)
 
 pub returns-in-Err-clause-wants : goal.returns-in-Err-clause-wants
-returns-in-Err-clause-wants g c =
+returns-in-Err-clause-wants g c = λ more.
     let form = g.F.LineForm.form in
-    let law = c.form_law.ensures in
+    let numbers : List ℤ = take c.numbers_on-count.result c.numbers_on-count.new.places in
     let old : ReaderOf _ = record {
-      scan = c.self-in-numbers.inside.scanner;
-      draft = c.self-in-numbers.inside.draft;
-      status = c.self-in-numbers.inside.status;
-      line = c.self-in-numbers.inside.line;
+      scan = c.self.inside.scanner;
+      draft = c.self.inside.draft;
+      status = c.self.inside.status;
+      line = c.self.inside.line;
     } in
-    let new : ReaderOf _ = record {
-      scan = c.number_on.new.self;
-      draft = c.take_number.new.self;
-      status = c.self-in-numbers.inside.status;
-      line = c.self-in-numbers.inside.line;
-    } in
-    let begun : form.is_begun old.draft ≡ true = ap (λ (r : ReaderOf _). form.is_begun r.draft) c.self-in-numbers.view_is ∙ c.numbers.invariant.goes.begun
-    ∙ ap (λ (r : ReaderOf _). form.is_begun r.draft) (sym c.self.view_is) ∙ sym c.is_begun.ensures ∙ c.if-not-is_begun.false in
-    let took = rw c.line.ensures at c.in-Some.ensures.took in
-    let keeps : IsTrue (form.keeps_number (form.with_number old.draft c.in-Some.number)) =
-    rw (read_back c.in-Some.number took.small) at c.in-Err.ensures.memory in
-    λ more. (c.numbers.invariant.leads more).wants (length more)
-    (subst (λ (r : ReaderOf _). IsTrue (may_want (length more) (wants_ahead form r more))) c.self-in-numbers.view_is
-    (number_wants form law c.in-Some.number old new took begun keeps c.unread_law.ensures more))
+    let begun : form.is_begun old.draft ≡ true = sym c.is_begun.ensures ∙ c.if-not-is_begun.false in
+    let took = rw c.line.ensures at c.numbers_on-count.ensures.took in
+    subst (λ (r : ReaderOf _). IsTrue (may_want (length more) (wants_ahead form r more))) c.self.view_is
+    (numbers_want form c.form_law.ensures numbers old c.numbers_on-count.new.self took begun c.in-Err.ensures.some c.in-Err.ensures.memory
+    c.unread_law.ensures more)

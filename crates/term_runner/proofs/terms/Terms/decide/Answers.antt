@@ -74,7 +74,7 @@ returns-in_err-add_empty-clause-decides g c =
     (sym (handed_on _ came came c.from_residual.ensures.1 refl))
     (decides_no_line c.lean_law.ensures.lean c.in_use_law.ensures c.args.formula.now c.args.plan.now c.args.capacity old
     (all_entries c.args.self.now.caches) c.requires.over (continues g at) (none_yet g at) new c.in-Some.number c.add_empty.ensures.nodes
-    c.add_empty.ensures.adds c.in-Some.ensures.1 (some_moves c.args.formula.now c.args.plan.now c.requires.plan c.in-Some.ensures.1)
+    c.add_empty.ensures.adds c.in-Some.ensures.some (some_moves c.args.formula.now c.args.plan.now c.requires.plan c.in-Some.ensures.some)
     came refused.leaves (λ is. refused.no_node_limit (ap Err is)) (λ is. refused.id_limit (ap Err is)) refused.refused)
 
 pub returns-in-Some-clause-decides : goal.returns-in-Some-clause-decides
@@ -84,9 +84,9 @@ returns-in-Some-clause-decides g c =
     let done = c.in_ok-add_empty.ensures in
     decides_line c.lean_law.ensures.lean c.in_use_law.ensures c.args.formula.now c.args.plan.now c.args.capacity old
     (all_entries c.args.self.now.caches) c.requires.over (continues g at) (none_yet g at) c.add_empty.new.self.table c.in-Some.number
-    c.add_empty.ensures.nodes c.add_empty.ensures.adds c.in-Some.ensures.1
-    (some_moves c.args.formula.now c.args.plan.now c.requires.plan c.in-Some.ensures.1) c.live_law.ensures done.leaves done.state done.told
-    c.in-Some.ensures.0
+    c.add_empty.ensures.nodes c.add_empty.ensures.adds c.in-Some.ensures.some
+    (some_moves c.args.formula.now c.args.plan.now c.requires.plan c.in-Some.ensures.some) c.live_law.ensures done.leaves done.state done.told
+    c.in-Some.ensures.first
 
 pub returns-in_err-model-clause-decides : goal.returns-in_err-model-clause-decides
 returns-in_err-model-clause-decides g c =
@@ -113,7 +113,7 @@ returns-then-are_tautologies-clause-decides g c =
     c.in_ok-model.ensures.recovered))
 
 pub give_back-requires-clause-ready : goal.give_back-requires-clause-ready
-give_back-requires-clause-ready g c = record { over = c.requires.over; none_empty = c.in_default.ensures }
+give_back-requires-clause-ready g c = record { over = c.requires.over; none_empty = c.in_default.ensures.none }
 
 pub give_back-requires-clause-possible : goal.give_back-requires-clause-possible
 give_back-requires-clause-possible g c = (no_stage, at_start g (goal.at.give_back-requires-clause-possible g c).After-table_law)
@@ -182,7 +182,7 @@ returns-clause-decides g c =
     decides_moves c.lean_law.ensures.lean c.in_use_law.ensures c.args.formula.now c.args.plan.now c.args.capacity old
     (all_entries c.args.self.now.caches) c.requires.over (continues g at) (none_yet g at) c.steps_law.ensures c.give_back.new.self.table
     c.take_moves.new.self.table c.in_ok-self.ensures.leaves c.give_back.ensures.top
-    (sym c.are_tautologies.ensures ∙ c.if-are_tautologies.false) c.in_default.ensures c.take_moves.result moved.found moved.leaves moved.paid
+    (sym c.are_tautologies.ensures ∙ c.if-are_tautologies.false) c.in_default.ensures.none c.take_moves.result moved.found moved.leaves moved.paid
     moved.lean moved.short moved.no_empty
 
 -- it wasn't refuted before

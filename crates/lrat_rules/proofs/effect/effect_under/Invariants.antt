@@ -1,9 +1,0 @@
--- What the loops of `effect_under` keep.
-use Rattle.std.proofs.Common.{◌≡◌}
-use Rattle.lrat_rules.specs.Chain.{literals_of, effect}
-use Rattle.lrat_rules.proofs.Passes.{effect_at}
-use Rattle.lrat_rules.proofs.effect.effect_under.Given as goal
-
--- what the rest gives is what the whole gives
-abbrev pub invariant-loop-literal : goal.invariant-loop-literal
-invariant-loop-literal l = effect_at (literals_of l.trail) l.clause l.literal-index l.forced ≡ effect (literals_of l.trail) l.clause
