@@ -7,10 +7,10 @@ ghost use Rattle.drat_text.specs.Draft.{drat_form, drat_with};
 use crate::build::{put_addition, put_deletion};
 use crate::step::DratStep;
 use cnf_base::{LitList, OutOfMemory};
-use lrat_text::{LineForm, LineReader, kept_numbers_law};
+use lrat_text::{LineForm, LineReader, Numbers, kept_numbers_law};
 use std::alloc::Global;
 use std::marker::Model;
-use text_scan::{Token, kept_word_law, signed_number};
+use text_scan::{Scanner, Token, kept_word_law, signed_number};
 
 /// What was read of a line: nothing, or tokens of an addition or of a deletion.
 #[derive(Clone, Copy, PartialEq, Eq)]
@@ -30,7 +30,7 @@ pub struct DratLine {
     broken: bool,
     // the first number of an addition, so that a line is begun without memory
     first: i64,
-    numbers: Vec<i64>,
+    numbers: Numbers,
 }
 
 /// Reads the lines of a textual DRAT proof as steps.
@@ -42,7 +42,7 @@ impl Model for DratLine {
 
     ghost Value = { DratDraft };
 
-    ghost view = { λ d. record { line = d.line; kind = d.kind; numbers = if d.broken then None else Some (all_numbers d.kind d.first d.numbers.items) } };
+    ghost view = { λ d. record { line = d.line; kind = d.kind; numbers = if d.broken then None else Some (all_numbers d.kind d.first d.numbers) } };
 }
 
 #[inline(always)]
@@ -69,7 +69,7 @@ impl LineForm for DratLine {
             kind: DratKind::Empty,
             broken: false,
             first: 0,
-            numbers: Vec::new(alloc),
+            numbers: Numbers::new(alloc),
         }
     }
 
@@ -127,12 +127,10 @@ impl LineForm for DratLine {
     }
 
     #[inline(always)]
-    fn take_numbers(&mut self, numbers: &[i64]) -> Result<(), OutOfMemory> {
-        if self.broken {
-            return Ok(());
+    fn take_numbers(&mut self, scanner: &mut Scanner) {
+        if !self.broken {
+            self.numbers.take_from(self.line, scanner);
         }
-        self.numbers.extend_from_slice(numbers)?;
-        Ok(())
     }
 
     fn blank_step(&self) -> DratStep {

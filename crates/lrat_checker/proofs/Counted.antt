@@ -1,20 +1,20 @@
 -- The counts bound how often literals stand in the live clauses, and how many candidates there are.
-use Rattle.std.proofs.Common.{◌≡◌, ℕ, zero, suc, ◌+◌, ◌-◌, ◌<◌, ◌≤◌, ◌≢◌, Bool, true, false, not, ◌||◌, ◌&&◌, cond, max, ℤ, neg_ℤ, List, []}
-use Rattle.std.proofs.Common.{◌∷◌, Option, None, Some, count_by, length, get_or, nat_lt, add-one, refl, sym, ◌∙◌, ap, arith, int_eq}
+use Rattle.std.proofs.Common.{◌≡◌, ℕ, zero, suc, ◌+◌, ◌-◌, ◌<◌, ◌≤◌, ◌≢◌, Bool, true, false, not, ◌||◌, cond, max, ℤ, neg_ℤ, List, []}
+use Rattle.std.proofs.Common.{◌∷◌, Option, None, Some, count_by, length, get_or, add-one, refl, sym, ◌∙◌, ap, arith, int_eq}
 use Rattle.std.proofs.Common.{nat_cmp, eq-eqb, ne_eqb}
 use Rattle.std.specs.Prelude.{if◌then◌else◌, ◌==◌}
 use Rattle.std.specs.FinMap as finmap
 use Rattle.std.specs.List.{list_any, list_all}
 use Rattle.std.proofs.lemmas.List.Sums.{sum_by-cons}
-use Rattle.std.proofs.lemmas.Bool.{and_parts, and_from, or_left, or_right}
-use borrow.Author.Tests.{ltb-true}
+use Rattle.std.proofs.lemmas.Bool.{and_parts, or_left, or_right}
+use Rattle.std.proofs.lemmas.Map.Views.{exact_unsigned_eq}
 use Rattle.cnf_base.specs.declared.list.Group.{Group}
 use Rattle.lrat_rules.specs.State.{Live, clause_at, with_clause}
 use Rattle.lrat_rules.specs.Chain.{FalseSet}
 use Rattle.lrat_rules.specs.Addition.{if_live, holds_negated, is_blocked, is_candidate, is_settled}
 use Rattle.lrat_checker.specs.declared.counts.Counts.{Counts}
 use Rattle.lrat_checker.specs.Counts.{total, times_in, times_at, count_of, AreCounted}
-use Rattle.lrat_checker.specs.Walk.{has_group, one_where, IsCountOfNamed}
+use Rattle.lrat_checker.specs.Walk.{has_group, one_where, name_candidates, IsCountOfNumbers}
 use Rattle.lrat_checker.proofs.Stored.{with_at, without_at}
 use Rattle.lrat_checker.proofs.Totals.{total_le, total_less, total_grows, total_raised, total_lowered}
 
@@ -98,20 +98,30 @@ candidate_once : (pivot : ℤ) (o : Option (List ℤ)) → cond (if_live (holds_
 candidate_once pivot None = omega arith
 candidate_once pivot (Some clause) = held_once (int_eq (neg_ℤ pivot)) clause
 
--- named candidates are candidates
-named_less : (a b : Bool) → cond (a && b) 1 0 ≤ cond a 1 0
-named_less true true = omega arith
-named_less true false = omega arith
-named_less false b = omega arith
+-- a number that groups name, each a candidate, is a candidate
+named_candidate : (live : Live) (pivot : ℤ) (groups : List Group) (id : ℕ) → name_candidates live pivot groups ≡ true
+    → has_group groups id ≡ true → is_candidate live pivot id ≡ true
+named_candidate live pivot [] id all named = cc
+named_candidate live pivot (group ∷ groups) id all named =
+    let parts = and_parts (is_candidate live pivot group.id) (name_candidates live pivot groups) all in
+    elim (group.id == id) as (λ b. (group.id == id) ≡ b → (b || has_group groups id) ≡ true → is_candidate live pivot id ≡ true) [
+      | true ↦ λ same _. ap (is_candidate live pivot) (sym (exact_unsigned_eq group.id id same)) ∙ parts.0
+      | false ↦ λ _ later. named_candidate live pivot groups id parts.1 later
+    ] refl named
 
-unnamed_less : (a b : Bool) → a ≡ true → b ≡ false → cond (a && b) 1 0 + 1 ≤ cond a 1 0
+named_less : (a b : Bool) → (b ≡ true → a ≡ true) → cond b 1 0 ≤ cond a 1 0
+named_less a false each = omega arith
+named_less true true each = omega arith
+named_less false true each = let no : false ≡ true = each refl in absurd (cc)
+
+unnamed_less : (a b : Bool) → a ≡ true → b ≡ false → cond b 1 0 + 1 ≤ cond a 1 0
 unnamed_less true true e f = absurd (cc)
 unnamed_less true false e f = omega arith
 unnamed_less false b e f = absurd (cc)
 
 -- where groups name as many candidates as there can be, they name each
 module _ (counts : Counts) (live : Live) (pivot : ℤ) (groups : List Group) (count : ℕ) (counted : AreCounted counts live)
-    (named : IsCountOfNamed live pivot groups count)
+    (candidates_named : name_candidates live pivot groups ≡ true) (named : IsCountOfNumbers groups count)
     (enough : count_of counts (neg_ℤ pivot) ≤ count) where
   all_named : (id : ℕ) → is_candidate live pivot id ≡ true → has_group groups id ≡ true
   all_named id candidate =
@@ -120,9 +130,10 @@ module _ (counts : Counts) (live : Live) (pivot : ℤ) (groups : List Group) (co
         | false ↦ λ is.
             let bound = max named.bound (id + 1) in
             let candidates = one_where (is_candidate live pivot) in
-            let with_groups = one_where (λ k. is_candidate live pivot k && has_group groups k) in
+            let with_groups = one_where (has_group groups) in
             let less : total with_groups bound + 1 ≤ total candidates bound =
-            total_less with_groups candidates (λ i. named_less (is_candidate live pivot i) (has_group groups i)) id
+            total_less with_groups candidates (λ i. named_less (is_candidate live pivot i) (has_group groups i)
+            (named_candidate live pivot groups i candidates_named)) id
             (unnamed_less (is_candidate live pivot id) (has_group groups id) candidate is) bound (omega arith) in
             absurd (omega (
               arith,
@@ -152,7 +163,7 @@ module _ (counts : Counts) (live : Live) (pivot : ℤ) (groups : List Group) (co
     each [] = refl
     each (id ∷ ids) = rw (settled n id) (each ids)
 
--- one candidate more that a group names
+-- one number more that a group names
 group_here : (groups : List Group) (place : ℕ) (group : Group) → place < length groups → group ≡ get_or groups place group
     → has_group groups group.id ≡ true
 group_here [] place group lt is = absurd (omega arith)
@@ -161,17 +172,11 @@ group_here (first ∷ groups) zero group lt is = or_left (first.id == group.id) 
 group_here (first ∷ groups) (suc place) group lt is = or_right (first.id == group.id) (has_group groups group.id)
     (group_here groups place group (omega arith) is)
 
-module _ (live : Live) (pivot : ℤ) (groups : List Group) where
-  abbrev pub named_where : ℕ → ℕ
-  named_where = one_where (λ id. is_candidate live pivot id && has_group groups id)
-
-  pub named_next : (last named place : ℕ) (group : Group) → place < length groups → group ≡ get_or groups place group
-      → (nat_lt last group.id && is_candidate live pivot group.id) ≡ true
-      → named ≤ total named_where (last + 1) → named + 1 ≤ total named_where (group.id + 1)
-  named_next last named place group lt is next so_far =
-      let parts = and_parts (nat_lt last group.id) (is_candidate live pivot group.id) next in
-      let one : named_where group.id
-      ≡ 1 = ap (λ b. cond b 1 0) (and_from (is_candidate live pivot group.id) (has_group groups group.id) parts.1
-      (group_here groups place group lt is)) in
-      let more : total named_where (group.id + 1) ≡ total named_where group.id + named_where group.id = rw add-one refl in
-      omega (arith, total_grows named_where (last + 1) group.id (omega (arith, ltb-true last group.id parts.0)), one, more, so_far)
+pub named_next : (groups : List Group) (last named place : ℕ) (group : Group) → place < length groups → group ≡ get_or groups place group
+    → last < group.id → named ≤ total (one_where (has_group groups)) (last + 1)
+    → named + 1 ≤ total (one_where (has_group groups)) (group.id + 1)
+named_next groups last named place group lt is next so_far =
+    let named_where = one_where (has_group groups) in
+    let one : named_where group.id ≡ 1 = ap (λ b. cond b 1 0) (group_here groups place group lt is) in
+    let more : total named_where (group.id + 1) ≡ total named_where group.id + named_where group.id = rw add-one refl in
+    omega (arith, total_grows named_where (last + 1) group.id (omega (arith, next)), one, more, so_far)

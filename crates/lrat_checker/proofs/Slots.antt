@@ -1,7 +1,7 @@
--- What the places of a chunk hold as slots are put in, cleared and made.
+-- What the places of a chunk hold as slots are put in, taken out and made.
 use Rattle.std.proofs.Common.{◌≡◌, ℕ, zero, suc, ◌<◌, true, false, List, [], ◌∷◌, length, get_or, set, Option, None, Some, is_some, is_none}
 use Rattle.std.proofs.Common.{inl, inr, refl, sym, ◌∙◌, ap, arith, map, Bor, eq-eqb, ne_eqb}
-use Rattle.std.specs.Prelude.{if◌then◌else◌, ◌==◌}
+use Rattle.std.specs.Prelude.{if◌then◌else◌, ◌==◌, IfSome}
 use Rattle.std.specs.List.{list_all}
 use Rattle.std.specs.Option.{option_copied}
 use Rattle.std.proofs.lemmas.Bool.{and_parts, cases_eq, cases_lt}
@@ -41,17 +41,14 @@ taken_within places i some =
       | inr le ↦ let no : false ≡ true = ap is_some (sym (get_or_past places i None le)) ∙ some in cc
     ]
 
--- nothing is taken out of a place that has no clause
-pub unchanged : (places : Places) (i : ℕ) → get_or places i None ≡ None → (k : ℕ) → get_or places k None
-    ≡ (if k == i then None else get_or places k None)
-unchanged places i free k =
-    elim (cases_eq k i) [
-      | inl same ↦ ap (λ n. get_or places n None) same ∙ free ∙ ap (λ b. if b then None else get_or places k None) (sym (eq-eqb k i same))
-      | inr other ↦ ap (λ b. if b then None else get_or places k None) (sym (ne_eqb k i other))
-    ]
-
 -- a look-up found a clause
 pub found : {T : Type 0} (looked : Option (Bor T)) (place : Option T) → is_some looked ≡ true → option_copied looked ≡ place → is_some place
     ≡ true
 found None place taken is = cc
 found (Some x) place taken is = ap is_some (sym is)
+
+-- what is known of a slot that was found, beside that one was
+pub some_then : {T : Type 0} (taken : Option T) (P Q : T → Type 0) → IfSome taken P → (is_some taken ≡ true → (x : T) → P x → Q x)
+    → IfSome taken Q
+some_then None P Q is more = is
+some_then (Some x) P Q is more = more refl x is

@@ -118,6 +118,11 @@ absent at number none n =
       | inr other ↦ ap (λ b. if b then None else at n) (sym (ne_eqb n number other))
     ]
 
+-- a clause in the chunks is the one that stands there
+pub near_first : (near far : Place) → is_some near ≡ true → or_else near far ≡ near
+near_first None far some = cc
+near_first (Some clause) far some = refl
+
 -- nothing stands in the map beyond the greatest number
 pub far_beyond : (near far : ℕ → Place) (top number : ℕ) → AreStored near far top → top < number → far number ≡ None
 far_beyond near far top number stored lt = (either_none (near number) (far number) (stored.beyond number lt)).1

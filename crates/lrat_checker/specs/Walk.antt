@@ -1,6 +1,6 @@
 -- What is asked of the live clauses where candidates are left: of each, or of their number.
-use Rattle.std.specs.Prelude.{ℕ, ◌≤◌, Bool, true, not, ◌||◌, ◌&&◌, ℤ, List, Option, None, Some, ◌==◌, if◌then◌else◌}
-use Rattle.std.specs.List.{list_any}
+use Rattle.std.specs.Prelude.{ℕ, ◌≤◌, Bool, true, not, ◌||◌, ℤ, List, Option, None, Some, ◌==◌, if◌then◌else◌}
+use Rattle.std.specs.List.{list_any, list_all}
 use Rattle.cnf_base.specs.declared.list.Group.{Group}
 use Rattle.lrat_rules.specs.State.{Live}
 use Rattle.lrat_rules.specs.Chain.{FalseSet}
@@ -10,6 +10,10 @@ use Rattle.lrat_checker.specs.Counts.{total}
 -- a group names this number
 abbrev pub has_group : List Group → ℕ → Bool
 has_group groups id = list_any (λ group. group.id == id) groups
+
+-- each group names a candidate
+abbrev pub name_candidates : Live → ℤ → List Group → Bool
+name_candidates live pivot groups = list_all (λ group. is_candidate live pivot group.id) groups
 
 -- the clause of this number is no candidate, or is blocked, or has a group
 abbrev pub settles : FalseSet → ℤ → List Group → ℕ → List ℤ → Bool
@@ -28,7 +32,7 @@ settles_at n pivot groups id place = passes_at (settles n pivot groups) id place
 abbrev pub one_where : (ℕ → Bool) → ℕ → ℕ
 one_where test id = if test id then 1 else 0
 
--- at least so many candidates are named by groups
-pub record IsCountOfNamed (live : Live) (pivot : ℤ) (groups : List Group) (count : ℕ) : Type 0 where
+-- at least so many numbers are named by groups
+pub record IsCountOfNumbers (groups : List Group) (count : ℕ) : Type 0 where
   pub bound : ℕ
-  pub named : count ≤ total (one_where (λ id. is_candidate live pivot id && has_group groups id)) bound
+  pub named : count ≤ total (one_where (has_group groups)) bound

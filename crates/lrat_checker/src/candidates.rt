@@ -1,45 +1,30 @@
 // The candidates of an addition: the live clauses with the pivot's negation. Each has to be blocked or to have a group.
-ghost use Rattle.std.specs.Prelude.{◌≡◌, ◌&&◌, ◌||◌, ◌==◌, nat_lt};
+ghost use Rattle.std.specs.Prelude.{◌≡◌, ◌||◌, ◌==◌};
 ghost use Rattle.std.specs.List.{list_all};
 ghost use Rattle.std.specs.Option.{option_copied};
 ghost use Rattle.lrat_rules.specs.State.{clause_at};
-ghost use Rattle.lrat_rules.specs.Addition.{is_candidate, holds_negated};
+ghost use Rattle.lrat_rules.specs.Addition.{holds_negated};
 ghost use Rattle.lrat_rules.specs.FalseLiterals.{set_of, before_of};
-ghost use Rattle.lrat_checker.specs.Walk.{settles, settles_at, has_group, IsCountOfNamed};
+ghost use Rattle.lrat_checker.specs.Walk.{settles, settles_at, has_group, IsCountOfNumbers};
 
 use crate::clauses::Clauses;
 use cnf_base::{Group, Id, Lit};
 use lrat_rules::{Chain, is_among};
 
-/// How many candidates the groups name, counting those whose numbers are greater than all before, so none twice.
-pub fn named_candidates(clauses: &Clauses, pivot: Lit, groups: &[Group]) -> usize
-    ensures { IsCountOfNamed clauses.now pivot groups.now result }
+/// How many numbers the groups name, counting those that are greater than all before, so none twice.
+pub fn named_numbers(groups: &[Group]) -> usize
+    ensures { IsCountOfNumbers groups.now result }
 {
     let mut last = 0u64;
     let mut named = 0usize;
     for group in groups {
-        if is_next(clauses, pivot, last, group.id) {
-            last = group.id.get();
+        let number = group.id.get();
+        if last < number {
+            last = number;
             named += 1;
         }
     }
     named
-}
-
-// Whether the number is of a candidate, and greater than the last one.
-fn is_next(clauses: &Clauses, pivot: Lit, last: u64, id: Id) -> bool
-    ensures { result ≡ (nat_lt last id && is_candidate clauses.now pivot id) }
-{
-    last < id.get() && is_candidate(clauses, pivot, id)
-}
-
-fn is_candidate(clauses: &Clauses, pivot: Lit, id: Id) -> bool
-    ensures { result ≡ is_candidate clauses.now pivot id }
-{
-    match clauses.get(id) {
-        None => false,
-        Some(clause) => holds_negated(clause, pivot),
-    }
 }
 
 /// Whether a clause holds the pivot's negation.

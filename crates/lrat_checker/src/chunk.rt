@@ -1,7 +1,7 @@
 // A chunk of slots for 128 consecutive clause numbers. It counts its clauses, only to see in time when the last one is gone:
 // then it gives its memory back.
-ghost use Rattle.std.specs.Prelude.{◌≡◌, ◌<◌, ◌≤◌, ℕ, [], OnOk, IfOk, None, map, length, set, is_some, is_none, slice_index_or};
-ghost use Rattle.std.specs.Prelude.{if◌then◌else◌, ◌==◌};
+ghost use Rattle.std.specs.Prelude.{◌≡◌, ◌<◌, ◌≤◌, ℕ, [], OnOk, IfOk, IfSome, None, map, length, set, is_some, is_none};
+ghost use Rattle.std.specs.Prelude.{slice_index_or, if◌then◌else◌, ◌==◌};
 ghost use Rattle.std.specs.List.{list_all};
 ghost use Rattle.std.specs.Option.{option_copied};
 ghost use Rattle.lrat_checker.specs.Clauses.{clause_in};
@@ -75,21 +75,34 @@ impl Chunk {
         self.taken = self.taken.saturating_add(1);
     }
 
-    /// Takes the clause out of a place, and tells whether there was one.
-    pub fn clear(&mut self, alloc: Global, place: usize) -> bool
-        ensures taken { result ≡ is_some (slice_index_or self.old place None) }
+    /// Takes the clause out of a place, where there is one, and answers a slot with it.
+    #[inline(always)]
+    pub fn take(&mut self, alloc: Global, place: usize) -> Option<Slot>
+        ensures taken { is_some result ≡ is_some (slice_index_or self.old place None) }
+        ensures clause { IfSome result (λ slot. clause_in slot ≡ slice_index_or self.old place None) }
         ensures places { (i : ℕ) → slice_index_or self.new i None ≡ (if i == place then None else slice_index_or self.old i None) }
     {
         if self.clause(place).is_none() {
-            return false;
+            return None;
         }
-        let slot = &mut self.slots[place];
-        slot.free();
+        let slot = self.slots[place];
+        self.slots[place].free();
         self.taken = self.taken.saturating_sub(1);
-        if self.taken == 0 && is_blank(self.slots.as_slice()) {
+        if self.taken == 0 {
+            self.give_back(alloc);
+        }
+        Some(slot)
+    }
+
+    // Gives the memory back, where no clause is left.
+    #[cold]
+    #[inline(never)]
+    fn give_back(&mut self, alloc: Global)
+        ensures { (i : ℕ) → slice_index_or self.new i None ≡ slice_index_or self.old i None }
+    {
+        if is_blank(self.slots.as_slice()) {
             self.slots = Vec::new(alloc);
         }
-        true
     }
 }
 

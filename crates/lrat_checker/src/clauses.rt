@@ -2,7 +2,7 @@
 // 128 places, where number n has place n % 128 of chunk n / 128: they cost no allocation and no search, and a chunk whose
 // clauses are all gone gives its memory back. Longer clauses, and numbers far ahead of all others, stand in a hash map.
 ghost use Rattle.std.specs.Prelude.{◌≡◌, ◌+◌, ◌*◌, ◌<◌, ◌≤◌, ◌/◌, ◌%◌, ℕ, [], None, true, false, nat_eq, OnOk, OnErr, IsTrue, is_some};
-ghost use Rattle.std.specs.Prelude.{length, slice_index_or, if◌then◌else◌, ◌==◌};
+ghost use Rattle.std.specs.Prelude.{IfSome, IfNone, length, slice_index_or, if◌then◌else◌, ◌==◌};
 ghost use Rattle.std.specs.HashMap.{get};
 ghost use Rattle.std.specs.List.{list_all};
 ghost use Rattle.std.specs.Option.{option_copied};
@@ -122,7 +122,7 @@ impl Clauses {
         let number = id.get();
         let clause = Clause::of(self.alloc, literals)?;
         self.far.insert(number, clause)?;
-        clear(&mut self.chunks, self.alloc, number);
+        take(&mut self.chunks, self.alloc, number);
         self.top = self.top.max(number);
         self.inserted = self.inserted.saturating_add(1);
         Ok(())
@@ -169,9 +169,19 @@ impl Clauses {
         ensures { self.new ≡ map.remove self.old id }
     {
         let number = id.get();
-        if !clear(&mut self.chunks, self.alloc, number) {
+        if take(&mut self.chunks, self.alloc, number).is_none() {
             self.far.remove(&number);
         }
+    }
+
+    /// Takes out the clause of a number, where it stands in a chunk, and answers a slot with it.
+    #[inline(always)]
+    pub fn take_near(&mut self, id: Id) -> Option<Slot>
+        ensures clause { IfSome result (λ slot. clause_in slot ≡ clause_at self.old id) }
+        ensures gone { IfSome result (λ slot. self.new ≡ map.remove self.old id) }
+        ensures same { IfNone result (self.new ≡ self.old) }
+    {
+        take(&mut self.chunks, self.alloc, id.get())
     }
 }
 
@@ -233,24 +243,31 @@ fn put(chunks: &mut Vec<Chunk>, number: u64, slot: Slot)
     chunk.put((number % 128) as usize, slot);
 }
 
-// Takes the clause out of a number's place, and tells whether there was one.
-fn clear(chunks: &mut Vec<Chunk>, alloc: Global, number: u64) -> bool
-    ensures taken { result ≡ is_some (near_at chunks.old.items number) }
+// Takes the clause out of a number's place, where there is one, and answers a slot with it.
+#[inline(always)]
+fn take(chunks: &mut Vec<Chunk>, alloc: Global, number: u64) -> Option<Slot>
+    ensures taken { is_some result ≡ is_some (near_at chunks.old.items number) }
+    ensures clause { IfSome result (λ slot. clause_in slot ≡ near_at chunks.old.items number) }
     ensures places { (n : ℕ) → near_at chunks.new.items n ≡ (if n == number then None else near_at chunks.old.items n) }
 {
     let index = number / 128;
-    index < chunks.len() as u64
-        && clear_place(chunks, alloc, index as usize, (number % 128) as usize)
+    if index < chunks.len() as u64 {
+        take_place(chunks, alloc, index as usize, (number % 128) as usize)
+    } else {
+        None
+    }
 }
 
-fn clear_place(chunks: &mut Vec<Chunk>, alloc: Global, index: usize, place: usize) -> bool
+#[inline(always)]
+fn take_place(chunks: &mut Vec<Chunk>, alloc: Global, index: usize, place: usize) -> Option<Slot>
     requires index { index < length chunks.old.items }
     requires place { place < 128 }
-    ensures taken { result ≡ is_some (near_at chunks.old.items (128 * index + place)) }
+    ensures taken { is_some result ≡ is_some (near_at chunks.old.items (128 * index + place)) }
+    ensures clause { IfSome result (λ slot. clause_in slot ≡ near_at chunks.old.items (128 * index + place)) }
     ensures places { (n : ℕ) → near_at chunks.new.items n ≡ (if n == 128 * index + place then None else near_at chunks.old.items n) }
 {
     let chunk = &mut chunks[index];
-    chunk.clear(alloc, place)
+    chunk.take(alloc, place)
 }
 
 // Whether the candidates of the numbers below a bound, in the chunks, are blocked or have groups.

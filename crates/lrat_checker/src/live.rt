@@ -1,7 +1,7 @@
 // The live clauses by their numbers, with how often each literal stands in them. An addition whose groups name as many candidates
 // as the pivot's negation stands in clauses has named them all. Once that doesn't suffice, lists are made that tell in which
 // clauses a literal stands, and kept from then on; so proofs that name their candidates pay for no list.
-ghost use Rattle.std.specs.Prelude.{◌≡◌, ◌-◌, ℤ, true, None, OnOk, OnErr, IsTrue};
+ghost use Rattle.std.specs.Prelude.{◌≡◌, ◌-◌, ℤ, true, None, OnOk, OnErr, IsTrue, if◌then◌else◌};
 ghost use Rattle.std.specs.List.{list_all};
 ghost use Rattle.std.specs.Option.{option_copied};
 ghost use Rattle.std.specs.FinMap as map;
@@ -11,8 +11,9 @@ ghost use Rattle.lrat_rules.specs.Addition.{is_settled};
 ghost use Rattle.lrat_rules.specs.FalseLiterals.{set_of, before_of};
 ghost use Rattle.lrat_checker.specs.Counts.{count_of, times_at};
 ghost use Rattle.lrat_checker.specs.Holders.{KeepsAll, KeepsAllLive, is_entered};
+ghost use Rattle.lrat_checker.specs.Walk.{name_candidates};
 
-use crate::candidates::{each_settled, named_candidates};
+use crate::candidates::{each_settled, named_numbers};
 use crate::clauses::Clauses;
 use crate::counts::Counts;
 use crate::holders::Holders;
@@ -93,14 +94,42 @@ impl IndexedClauses {
     pub fn remove(&mut self, id: Id)
         ensures { self.new ≡ map.remove self.old id }
     {
-        lower(&mut self.counts, &self.clauses, id);
+        if !self.remove_near(id) {
+            self.remove_anywhere(id);
+        }
+    }
+
+    // Where there are no lists, takes out a clause that stands in a chunk, looked up but once, and tells whether it did.
+    #[inline(always)]
+    fn remove_near(&mut self, id: Id) -> bool
+        ensures { self.new ≡ (if result then map.remove self.old id else self.old) }
+    {
+        if self.indexed {
+            return false;
+        }
+        match self.clauses.take_near(id) {
+            None => false,
+            Some(slot) => {
+                lower(&mut self.counts, slot.clause());
+                true
+            }
+        }
+    }
+
+    // The same wherever the clause stands, and with lists, if there are any.
+    #[inline(never)]
+    fn remove_anywhere(&mut self, id: Id)
+        ensures { self.new ≡ map.remove self.old id }
+    {
+        lower(&mut self.counts, self.clauses.get(id));
         leave(&mut self.holders, self.indexed, &self.clauses, id);
         self.clauses.remove(id);
     }
 
     /// Whether each candidate of the pivot is blocked or has a group.
     pub fn all_settled(&mut self, chain: &Chain, pivot: Lit, groups: &[Group]) -> bool
-        requires { before_of chain.now ≡ None }
+        requires no_group { before_of chain.now ≡ None }
+        requires named { name_candidates self.old pivot groups.now ≡ true }
         ensures settled { result ≡ list_all (is_settled self.old (set_of chain.now) pivot groups.now) (map.keys self.old) }
         ensures same { self.new ≡ self.old }
     {
@@ -111,12 +140,12 @@ impl IndexedClauses {
         self.walk(chain, pivot, groups)
     }
 
-    // Whether the groups name as many candidates as the pivot's negation stands in clauses.
+    // Whether the groups, each of a candidate, name as many as the pivot's negation stands in clauses.
     fn all_named(&self, pivot: Lit, groups: &[Group]) -> bool
+        requires { name_candidates self.now pivot groups.now ≡ true }
         ensures { IsTrue result → (n : FalseSet) → true ≡ list_all (is_settled self.now n pivot groups.now) (map.keys self.now) }
     {
-        let named = named_candidates(&self.clauses, pivot, groups);
-        self.counts.of(pivot.negated()) as usize <= named
+        self.counts.of(pivot.negated()) as usize <= named_numbers(groups)
     }
 
     // Makes the lists, unless they are there or memory is wanted.
@@ -163,11 +192,12 @@ fn enter(
     Ok(())
 }
 
-// The counts of the literals of this number's clause fall.
-fn lower(counts: &mut Counts, clauses: &Clauses, id: Id)
-    ensures { (x : ℤ) → count_of counts.new x ≡ count_of counts.old x - times_at x (clause_at clauses.now id) }
+// The counts of a clause's literals fall.
+#[inline(always)]
+fn lower(counts: &mut Counts, clause: Option<&[Lit]>)
+    ensures { (x : ℤ) → count_of counts.new x ≡ count_of counts.old x - times_at x (option_copied clause.entry) }
 {
-    if let Some(literals) = clauses.get(id) {
+    if let Some(literals) = clause {
         counts.leave(literals);
     }
 }

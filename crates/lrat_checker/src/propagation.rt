@@ -23,6 +23,7 @@ pub enum HintsEnd {
 }
 
 /// Takes the hints in turn, up to the first conflict or bad hint, and answers how many it took.
+#[inline(always)]
 pub fn run_hints(
     live: &IndexedClauses,
     chain: &mut Chain,

@@ -1,28 +1,21 @@
 -- Numbers in turn behind the tokens of a line.
-use Rattle.std.proofs.Common.{◌≡◌, ℕ, ◌<◌, true, false, ◌||◌, ℤ, pos, negsuc, List, [], ◌∷◌, ◌++◌, length, Option, None, Some, refl, sym}
+use Rattle.std.proofs.Common.{◌≡◌, ℕ, ◌+◌, ◌-◌, ◌<◌, ◌≤◌, true, false, ◌||◌, ℤ, take, drop, length-take, length-append, pos, negsuc, List, [], ◌∷◌, ◌++◌, length, Option, None, Some, refl, sym}
 use Rattle.std.proofs.Common.{◌∙◌, ap, arith, append_assoc, append-nil, true≢false}
-use Rattle.std.proofs.Common.{Bool, if◌then◌else◌, Result, Ok, Err, OnOk, OnErr}
+use Rattle.std.proofs.Common.{if◌then◌else◌}
+use Rattle.std.proofs.lemmas.List.{take-append-le, take_all}
+use Rattle.std.proofs.Math.Seq.{take-append-add, drop-append_seam}
 use Rattle.std.proofs.lemmas.Bool.Decides.{nat_tests}
 use Rattle.std.specs.Int.{is_negative}
 use Rattle.std.specs.List.{list_any}
 use Rattle.lrat_text.specs.declared.draft.Kind.{Kind}
 use Rattle.lrat_text.specs.declared.draft.Kind.TheVariants.{Empty, Begun, Adds, Deletes}
 use Rattle.lrat_text.specs.Form.{with_numbers}
-use Rattle.lrat_text.specs.Draft.{DraftLine, lrat_form, keeps_number}
+use Rattle.lrat_text.specs.Draft.{DraftLine, lrat_form, is_adding}
 
 abbrev pub line_with : ℕ → Kind → Option ℕ → Option (List ℤ) → DraftLine
 line_with line kind id numbers = record { line = line; kind = kind; id = id; numbers = numbers }
 
-pub as_line : (draft : DraftLine) (kind : Kind) (numbers : Option (List ℤ)) → draft.kind ≡ kind → draft.numbers ≡ numbers
-    → draft ≡ line_with draft.line kind draft.id numbers
-as_line draft kind numbers kind_is numbers_are = λ i. record { line = draft.line; kind = kind_is i; id = draft.id; numbers = numbers_are i }
-
 -- of a line with a token that is no number nothing is kept
-pub none_added : (numbers : List ℤ) (line : ℕ) (id : Option ℕ) → with_numbers lrat_form (line_with line Adds id None) numbers
-    ≡ line_with line Adds id None
-none_added [] line id = refl
-none_added (number ∷ numbers) line id = none_added numbers line id
-
 pub none_deleted : (numbers : List ℤ) (line : ℕ) (id : Option ℕ) → with_numbers lrat_form (line_with line Deletes id None) numbers
     ≡ line_with line Deletes id None
 none_deleted [] line id = refl
@@ -60,42 +53,37 @@ pub begun : (numbers : List ℤ) (line : ℕ) (id : Option ℕ) (own : Option (L
 begun [] line id own some = absurd (omega (arith, some))
 begun (number ∷ numbers) line id own some = refl
 
-pub not_begun : (numbers : List ℤ) (line : ℕ) (id : Option ℕ) (own : Option (List ℤ))
-    → with_numbers lrat_form (line_with line Empty id own) numbers
-    ≡ line_with line Empty id own
-not_begun [] line id own = refl
-not_begun (number ∷ numbers) line id own = not_begun numbers line id own
+-- numbers behind those of a line that is an addition, or becomes one with them
+pub adds_more : (kind : Kind) (line : ℕ) (id : Option ℕ) (own numbers : List ℤ) → is_adding kind ≡ true → 0 < length numbers
+    → with_numbers lrat_form (line_with line kind id (Some own)) numbers ≡ line_with line Adds id (Some (own ++ numbers))
+adds_more Empty line id own numbers adding some = absurd (true≢false (sym adding))
+adds_more Begun line id own numbers adding some = begun numbers line id (Some own) some ∙ added numbers line id own
+adds_more Adds line id own numbers adding some = added numbers line id own
+adds_more Deletes line id own numbers adding some = absurd (true≢false (sym adding))
 
--- the last of some numbers is kept
-pub keeps_more : (own numbers : List ℤ) → 0 < length numbers → keeps_number (Some (own ++ numbers)) ≡ true
-keeps_more [] [] some = absurd (omega (arith, some))
-keeps_more [] (number ∷ numbers) some = refl
-keeps_more (first ∷ own) numbers some = refl
+-- numbers behind those of a deletion
+pub deletes_more : (numbers : List ℤ) (line : ℕ) (id : Option ℕ) (own : List ℤ)
+    → with_numbers lrat_form (line_with line Deletes id (Some own)) numbers
+    ≡ line_with line Deletes id (if list_any is_negative numbers then None else Some (own ++ numbers))
+deletes_more numbers line id own =
+    elim (list_any is_negative numbers) as (λ b. list_any is_negative numbers ≡ b
+    → with_numbers lrat_form (line_with line Deletes id (Some own)) numbers
+    ≡ line_with line Deletes id (if b then None else Some (own ++ numbers))) [
+      | true ↦ λ some. deletion_broken numbers line id own some
+      | false ↦ λ none. deleted numbers line id own none
+    ] refl
 
--- a line that was read from its fields: of this kind, with these numbers or none
-module _ (now : DraftLine) (line : ℕ) (kind to : Kind) (id : Option ℕ) (broken : Bool) (own : List ℤ)
-    (view : line_with line kind id (if broken then None else Some own) ≡ now) (kind_is : now.kind ≡ to) where
-  pub held : broken ≡ false → now ≡ line_with now.line to now.id (Some own)
-  held whole = as_line now to (Some own) kind_is (sym (ap (λ (draft : DraftLine). draft.numbers) view)
-      ∙ ap (λ b. if b then None else Some own) whole)
+-- what stands behind the numbers that there were
+pub behind : (own numbers : List ℤ) → take (length (own ++ numbers) - length own) (drop (length own) (own ++ numbers)) ≡ numbers
+behind own numbers =
+    let size : length (own ++ numbers) - length own ≡ length numbers = omega (arith, length-append own numbers) in
+    rw size (ap (take (length numbers)) (drop-append_seam own numbers) ∙ take_all (length numbers) numbers (omega arith))
 
-  pub lost : broken ≡ true → now ≡ line_with now.line to now.id None
-  lost gone = as_line now to None kind_is (sym (ap (λ (draft : DraftLine). draft.numbers) view)
-      ∙ ap (λ b. if b then None else Some own) gone)
-
-  pub written : (numbers : Option (List ℤ)) → line_with line kind id numbers ≡ line_with now.line to now.id numbers
-  written numbers = λ i. line_with (ap (λ (draft : DraftLine). draft.line) view i) ((ap (λ (draft : DraftLine). draft.kind) view
-      ∙ kind_is) i)
-      (ap (λ (draft : DraftLine). draft.id) view i) numbers
-
-pub on_err : {A E : Type 0} (answer : Result A E) (P : Type 0) → P → OnErr answer P
-on_err (Ok a) P p = tt
-on_err (Err e) P p = p
-
-pub on_ok_map : {A E : Type 0} (answer : Result A E) (P Q : Type 0) → (P → Q) → OnOk answer P → OnOk answer Q
-on_ok_map (Ok a) P Q f p = f p
-on_ok_map (Err e) P Q f p = tt
-
-pub on_err_map : {A E : Type 0} (answer : Result A E) (P Q : Type 0) → (P → Q) → OnErr answer P → OnErr answer Q
-on_err_map (Ok a) P Q f p = tt
-on_err_map (Err e) P Q f p = f p
+-- numbers that are put into places behind some
+pub put_behind : (count more : ℕ) (places put rest : List ℤ) → count ≤ length places → more ≤ length put
+    → take (count + more) (take count places ++ (put ++ rest)) ≡ take count places ++ take more put
+put_behind count more places put rest within fits =
+    let size : length (take count places) ≡ count = length-take count places ∙ omega (arith, within) in
+    ap (λ n. take (n + more) (take count places ++ (put ++ rest))) (sym size)
+    ∙ take-append-add (take count places) (put ++ rest) more
+    ∙ ap (λ l. take count places ++ l) (take-append-le more put rest fits)

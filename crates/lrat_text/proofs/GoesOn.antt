@@ -1,7 +1,7 @@
 -- Numbers that are taken from the scanner at once say what their tokens say.
 use Rattle.std.proofs.Common.{◌≡◌, ℕ, ◌≤◌, Bool, true, false, ℤ, pos, negsuc, w64, to_z, of_z, List, [], ◌∷◌, ◌++◌}
 use Rattle.std.proofs.Common.{◌==◌, if◌then◌else◌, refl, sym, ◌∙◌, ap, subst, arith}
-use Rattle.std.specs.Prelude.{◌+◌, ◌<◌, IsTrue, length, nat_abs}
+use Rattle.std.specs.Prelude.{◌+◌, IsTrue, length, nat_abs}
 use Rattle.std.proofs.lemmas.Bool.Decides.{nat_tests}
 use Rattle.std.proofs.lemmas.Int.{to_z-of_z}
 use Rattle.text_scan.specs.Capped.{cap}
@@ -15,10 +15,10 @@ use Rattle.lrat_text.specs.Form.{Form, IsForm, with_numbers}
 use Rattle.lrat_text.specs.LineSteps.{broken_off}
 use Rattle.lrat_text.specs.LineReader.{ReaderOf, AnswerOf, with_token, drafted, BeginsLine, GoesOn, Gives, GivesSoFar, Settles}
 use Rattle.lrat_text.specs.LineReader.{steps_ahead, open_count, so_far}
-use Rattle.lrat_text.specs.LineWants.{wants_after, wants_ahead, may_want, Spends, Leads}
+use Rattle.lrat_text.specs.LineWants.{wants_after, wants_ahead, Spends, Leads}
 use Rattle.lrat_text.proofs.Settled.{token_goes, before_gives}
 use Rattle.lrat_text.proofs.SoFar.{before_so_far}
-use Rattle.lrat_text.proofs.Wanted.{Leads-refl, Leads-then, Leads-by, near_ahead, token_leads, token_wants, before_spends}
+use Rattle.lrat_text.proofs.Wanted.{Leads-refl, Leads-then, Leads-by, token_leads, before_spends}
 
 -- a small number is read back from 64 bits
 pub read_back : (number : ℤ) → nat_abs number ≤ cap → to_z w64 (of_z w64 number) ≡ number
@@ -90,14 +90,6 @@ module _ {Draft Step : Type 0} (form : Form Draft Step) (law : IsForm form) (num
       Leads-by (ap (λ is. wants_after form is old.draft) (took.gives more))
       (token_leads form old.draft took.word (ahead new.scan more) (λ _. same_word)) (ap (wants_after form (ahead new.scan more)) token)
 
-  pub number_wants : IsTrue (form.keeps_number (form.with_number old.draft number)) → length new.scan.unread ≤ block_size
-      → (more : List ℕ) → IsTrue (may_want (length more) (wants_ahead form old more))
-  number_wants keeps small more =
-      let word : form.keeps_number (form.with_word old.draft took.word) ≡ true = rw same_draft keeps in
-      subst (λ w. IsTrue (may_want (length more) w)) (sym (ap (λ is. wants_after form is old.draft) (took.gives more)))
-      (token_wants form (length more) old.draft took.word (ahead new.scan more) begun same_word word
-      (near_ahead form new.scan (form.with_word old.draft took.word) more small))
-
 -- numbers in turn
 module _ {Draft Step : Type 0} (form : Form Draft Step) (law : IsForm form) where
   abbrev behind : ReaderOf Draft → ℤ → Scan → ReaderOf Draft
@@ -126,24 +118,6 @@ module _ {Draft Step : Type 0} (form : Form Draft Step) (law : IsForm form) wher
       Leads-then (number_leads form law number old (behind old number scan) one begun refl more)
       (numbers_lead numbers (behind old number scan) new (on_line numbers number old.draft scan new.scan rest)
       (law.stays_begun old.draft number begun) draft more)
-
-  one_wants : (number : ℤ) (numbers : List ℤ) (old : ReaderOf Draft) (scan : Scan)
-      → TookNumbers (number ∷ numbers) (form.line old.draft) old.scan scan → form.is_begun old.draft ≡ true
-      → IsTrue (form.keeps_number (with_numbers form old.draft (number ∷ numbers))) → length scan.unread ≤ block_size → (more : List ℕ)
-      → IsTrue (may_want (length more) (wants_ahead form old more))
-  one_wants number [] old scan (middle, one, rest) begun keeps small more =
-      number_wants form law number old (behind old number middle) one begun keeps
-      (subst (λ (s : Scan). length s.unread ≤ block_size) rest small) more
-  one_wants number (next ∷ numbers) old scan (middle, one, rest) begun keeps small more =
-      (number_leads form law number old (behind old number middle) one begun refl more).wants (length more)
-      (one_wants next numbers (behind old number middle) scan (on_line (next ∷ numbers) number old.draft middle scan rest)
-      (law.stays_begun old.draft number begun) keeps small more)
-
-  pub numbers_want : (numbers : List ℤ) (old : ReaderOf Draft) (scan : Scan) → TookNumbers numbers (form.line old.draft) old.scan scan
-      → form.is_begun old.draft ≡ true → 0 < length numbers → IsTrue (form.keeps_number (with_numbers form old.draft numbers))
-      → length scan.unread ≤ block_size → (more : List ℕ) → IsTrue (may_want (length more) (wants_ahead form old more))
-  numbers_want [] old scan took begun some keeps small more = absurd (omega (arith, some))
-  numbers_want (number ∷ numbers) old scan took begun some keeps small more = one_wants number numbers old scan took begun keeps small more
 
 -- no read failed
 pub took_sound : (numbers : List ℤ) (line : ℕ) (old new : Scan) → TookNumbers numbers line old new → is_faulted old.status ≡ false

@@ -99,6 +99,13 @@ is_open_kind Deletes = true
 abbrev pub is_open : DraftLine → Bool
 is_open draft = is_open_kind draft.kind
 
+-- a line of this kind is an addition, or becomes one with a number
+abbrev pub is_adding : Kind → Bool
+is_adding Empty = false
+is_adding Begun = true
+is_adding Adds = true
+is_adding Deletes = false
+
 -- a token behind the first was taken, and these are the numbers of the line now
 abbrev pub keeps_number : Option (List ℤ) → Bool
 keeps_number None = false

@@ -1,9 +1,10 @@
 -- A form of the lines of a proof, as LRAT's or DRAT's: which step the tokens of a line spell, and the draft of a line, which
 -- says so token by token, so that a reader keeps no text.
-use Rattle.std.specs.Prelude.{◌≡◌, ℕ, ◌≤◌, Bool, true, false, ℤ, nat_abs, List, [], ◌∷◌, ◌++◌, map, take, Option, Some, is_some}
+use Rattle.std.specs.Prelude.{◌≡◌, ℕ, ◌≤◌, Bool, true, false, ℤ, nat_abs, List, [], ◌∷◌, ◌++◌, map, take, length, Option, Some, is_some}
 use Rattle.cnf_base.specs.Number.{signed_number}
 use Rattle.cnf_base.specs.Text.{Word}
 use Rattle.text_scan.specs.Capped.{cap}
+use Rattle.text_scan.specs.Scan.{Scan, TookNumbers}
 
 pub record Form (Draft Step : Type 0) : Type 0 where
   -- the step that the tokens of a line spell, if they spell one
@@ -29,6 +30,19 @@ pub record Form (Draft Step : Type 0) : Type 0 where
 abbrev pub with_numbers : {Draft Step : Type 0} → Form Draft Step → Draft → List ℤ → Draft
 with_numbers form draft [] = draft
 with_numbers form draft (number ∷ numbers) = with_numbers form (form.with_number draft number) numbers
+
+-- So many numbers of the tokens that come next on this line were taken from the scanner, and stand behind those that there were.
+pub record TookMore (line count : ℕ) (before after : List ℤ) (from to : Scan) : Type 0 where
+  pub numbers : List ℤ
+  pub took : TookNumbers numbers line from to
+  pub behind : after ≡ before ++ numbers
+  pub size : length numbers ≡ count
+
+-- Tokens that come next on the line were taken from the scanner, as far as they spell numbers and as many as suit.
+pub record TakesNumbers {Draft Step : Type 0} (form : Form Draft Step) (before after : Draft) (from to : Scan) : Type 0 where
+  pub numbers : List ℤ
+  pub took : TookNumbers numbers (form.line before) from to
+  pub behind : after ≡ with_numbers form before numbers
 
 -- What a draft says of a line is what its tokens say, as far as they are kept, and a number says what its token says.
 pub record IsForm {Draft Step : Type 0} (form : Form Draft Step) : Type 0 where

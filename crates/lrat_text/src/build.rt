@@ -187,6 +187,7 @@ fn put_lists(
 }
 
 /// Whether these numbers behind an identifier spell an addition, which then is the step. Memory is wanted only for that.
+#[inline(always)]
 pub fn put_addition(
     lists: &mut Lists,
     id: u64,
@@ -209,6 +210,7 @@ pub fn put_addition(
 }
 
 // The same in one pass, which may want memory for numbers that spell no addition. The lists of an addition are filled where they stand.
+#[inline(always)]
 fn put_as_read(
     lists: &mut Lists,
     id: u64,
@@ -259,6 +261,7 @@ fn is_addition(id: u64, numbers: &[i64]) -> bool
 }
 
 /// Whether these numbers behind the `d` spell a deletion, which then is the step. Memory is wanted only for that.
+#[inline(never)]
 pub fn put_deletion(
     lists: &mut Lists,
     id: u64,

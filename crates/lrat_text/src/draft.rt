@@ -1,20 +1,21 @@
 // A line of an LRAT proof as it is read, token by token.
-ghost use Rattle.std.specs.Prelude.{◌≡◌, ◌<◌, length, None, Some, Ok, OnOk, OnErr, Option, IsTrue};
+ghost use Rattle.std.specs.Prelude.{◌≡◌, true, None, Some, Ok, OnOk, OnErr, Option, IsTrue};
 ghost use Rattle.std.specs.Int.{is_negative};
 ghost use Rattle.std.specs.List.{list_any};
 ghost use Rattle.cnf_base.specs.ProofText.{is_delete_word};
 ghost use Rattle.lrat_text.specs.declared.draft.Kind.TheVariants.{Empty, Begun, Adds, Deletes};
-ghost use Rattle.lrat_text.specs.Form.{with_numbers};
-ghost use Rattle.lrat_text.specs.Draft.{first_number};
+ghost use Rattle.lrat_text.specs.Form.{TakesNumbers};
+ghost use Rattle.lrat_text.specs.Draft.{first_number, is_adding};
 ghost use Rattle.lrat_text.specs.Draft.{with_given, draft_as, has_numbers, keeps_number, lrat_form};
 
 use crate::build::{put_addition, put_deletion};
 use crate::form::LineForm;
 use crate::lists::Lists;
+use crate::numbers::Numbers;
 use cnf_base::{OutOfMemory, Step};
 use std::alloc::Global;
 use std::marker::Model;
-use text_scan::{Token, kept_word_law, plain_number, signed_number};
+use text_scan::{Scanner, Token, kept_word_law, plain_number, signed_number};
 
 /// What was read of a line: nothing, its first token, or that it is an addition or a deletion.
 #[derive(Clone, Copy, PartialEq, Eq)]
@@ -33,7 +34,7 @@ pub struct LratLine {
     id: Option<u64>,
     // whether a token is no number
     broken: bool,
-    numbers: Vec<i64>,
+    numbers: Numbers,
     lists: Lists,
 }
 
@@ -43,7 +44,7 @@ impl Model for LratLine {
 
     ghost Value = { DraftLine };
 
-    ghost view = { λ d. record { line = d.line; kind = d.kind; id = d.id; numbers = if d.broken then None else Some d.numbers.items } };
+    ghost view = { λ d. record { line = d.line; kind = d.kind; id = d.id; numbers = if d.broken then None else Some d.numbers } };
 }
 
 #[inline(always)]
@@ -62,6 +63,17 @@ fn first_number(number: i64) -> Option<u64>
         None
     } else {
         Some(number as u64)
+    }
+}
+
+// Whether a line of this kind is an addition, or becomes one with a number.
+#[inline(always)]
+fn is_adding(kind: Kind) -> bool
+    ensures { result ≡ is_adding kind }
+{
+    match kind {
+        Kind::Begun | Kind::Adds => true,
+        Kind::Empty | Kind::Deletes => false,
     }
 }
 
@@ -86,7 +98,7 @@ impl LineForm for LratLine {
             kind: Kind::Empty,
             id: None,
             broken: false,
-            numbers: Vec::new(alloc),
+            numbers: Numbers::new(alloc),
             lists: Lists::new(alloc),
         }
     }
@@ -144,12 +156,11 @@ impl LineForm for LratLine {
     }
 
     #[inline(always)]
-    fn take_numbers(&mut self, numbers: &[i64]) -> Result<(), OutOfMemory> {
-        match self.kind {
-            Kind::Empty => Ok(()),
-            Kind::Begun => self.begin_numbers(numbers),
-            Kind::Adds => self.add_numbers(numbers),
-            Kind::Deletes => self.delete_numbers(numbers),
+    fn take_numbers(&mut self, scanner: &mut Scanner) {
+        if is_adding(self.kind) {
+            self.add_numbers(scanner);
+        } else {
+            self.delete_numbers(scanner);
         }
     }
 
@@ -157,6 +168,7 @@ impl LineForm for LratLine {
         self.lists.blank_step()
     }
 
+    #[inline(always)]
     fn put_step(&mut self, step: &mut Step) -> Result<bool, OutOfMemory> {
         let Some(id) = self.id else {
             return Ok(false);
@@ -173,57 +185,34 @@ impl LineForm for LratLine {
 }
 
 impl LratLine {
-    // Numbers in turn behind the first token.
+    // Numbers behind the first token of an addition, unless a token was none.
     #[inline(always)]
-    fn begin_numbers(&mut self, numbers: &[i64]) -> Result<(), OutOfMemory>
-        requires { self.old.kind ≡ Begun }
-        ensures ok { OnOk result (self.new ≡ with_numbers lrat_form self.old numbers.now) }
-        ensures some { OnErr result (0 < length numbers.now) }
-        ensures memory { OnErr result (IsTrue (keeps_number (with_numbers lrat_form self.old numbers.now).numbers)) }
-        ensures kept { OnErr result (IsTrue (has_numbers self.new)) }
-    {
-        if numbers.is_empty() {
-            return Ok(());
-        }
-        self.kind = Kind::Adds;
-        self.add_numbers(numbers)
-    }
-
-    // Numbers in turn of an addition, unless a token was none.
-    #[inline(always)]
-    fn add_numbers(&mut self, numbers: &[i64]) -> Result<(), OutOfMemory>
-        requires { self.old.kind ≡ Adds }
-        ensures ok { OnOk result (self.new ≡ with_numbers lrat_form self.old numbers.now) }
-        ensures some { OnErr result (0 < length numbers.now) }
-        ensures memory { OnErr result (IsTrue (keeps_number (with_numbers lrat_form self.old numbers.now).numbers)) }
-        ensures kept { OnErr result (IsTrue (has_numbers self.new)) }
+    fn add_numbers(&mut self, scanner: &mut Scanner)
+        requires { is_adding self.old.kind ≡ true }
+        ensures { TakesNumbers lrat_form self.old self.new scanner.old scanner.new }
     {
         if self.broken {
-            return Ok(());
+            return;
         }
-        self.numbers.extend_from_slice(numbers)?;
-        Ok(())
+        if self.numbers.take_from(self.line, scanner) > 0 {
+            self.kind = Kind::Adds;
+        }
     }
 
-    // Numbers in turn of a deletion, of which none is negative.
-    #[cold]
+    // Numbers of a deletion, of which none is negative, unless a token was none.
     #[inline(never)]
-    fn delete_numbers(&mut self, numbers: &[i64]) -> Result<(), OutOfMemory>
-        requires { self.old.kind ≡ Deletes }
-        ensures ok { OnOk result (self.new ≡ with_numbers lrat_form self.old numbers.now) }
-        ensures some { OnErr result (0 < length numbers.now) }
-        ensures memory { OnErr result (IsTrue (keeps_number (with_numbers lrat_form self.old numbers.now).numbers)) }
-        ensures kept { OnErr result (IsTrue (has_numbers self.new)) }
+    fn delete_numbers(&mut self, scanner: &mut Scanner)
+        ensures { TakesNumbers lrat_form self.old self.new scanner.old scanner.new }
     {
+        let Kind::Deletes = self.kind else {
+            return;
+        };
         if self.broken {
-            return Ok(());
+            return;
         }
-        if has_negative(numbers) {
-            self.broken = true;
-            return Ok(());
-        }
-        self.numbers.extend_from_slice(numbers)?;
-        Ok(())
+        let before = self.numbers.len();
+        self.numbers.take_from(self.line, scanner);
+        self.broken = has_negative(&self.numbers.as_slice()[before..]);
     }
 
     #[inline(always)]

@@ -1,11 +1,11 @@
 // What a reader needs of a form of lines.
-ghost use Rattle.std.specs.Prelude.{◌≡◌, ◌<◌, length, OnOk, OnErr, IfOk, IsTrue, is_some};
+ghost use Rattle.std.specs.Prelude.{◌≡◌, OnOk, OnErr, IfOk, IsTrue, is_some};
 ghost use Rattle.cnf_base.specs.ProofText.{given_if};
-ghost use Rattle.lrat_text.specs.Form.{Form, IsForm, with_numbers};
+ghost use Rattle.lrat_text.specs.Form.{Form, IsForm, TakesNumbers};
 
 use cnf_base::OutOfMemory;
 use std::alloc::Global;
-use text_scan::Token;
+use text_scan::{Scanner, Token};
 
 /// A line of a proof as it is read token by token, in one form of lines. It keeps no text, but what the step needs that the
 /// line spells.
@@ -49,12 +49,10 @@ pub trait LineForm: Drop {
         ensures memory { OnErr result (IsTrue (form.keeps_number (form.with_word self.old token.now))) }
         ensures kept { OnErr result (IsTrue (form.has_numbers self.new)) };
 
-    /// Takes more tokens of the line in turn, which spell these numbers. Memory is wanted only where the last one is kept.
-    fn take_numbers(&mut self, numbers: &[i64]) -> Result<(), OutOfMemory>
-        ensures ok { OnOk result (self.new ≡ with_numbers form self.old numbers.now) }
-        ensures some { OnErr result (0 < length numbers.now) }
-        ensures memory { OnErr result (IsTrue (form.keeps_number (with_numbers form self.old numbers.now))) }
-        ensures kept { OnErr result (IsTrue (form.has_numbers self.new)) };
+    /// Takes the tokens of the line that come next, as far as the scanner gives numbers of them at once and there are places for these.
+    /// (What it leaves comes token by token.)
+    fn take_numbers(&mut self, scanner: &mut Scanner)
+        ensures { TakesNumbers form self.old self.new scanner.old scanner.new };
 
     /// A step that takes no memory.
     fn blank_step(&self) -> Self::Step;

@@ -9,6 +9,8 @@ mod error;
 mod form;
 mod laws;
 mod lists;
+mod numbers;
+mod places;
 mod reader;
 
 pub use build::{MAX_LITERAL, first_zero, is_within, push_literal};
@@ -16,4 +18,5 @@ pub use draft::LratLine;
 pub use error::StepError;
 pub use form::LineForm;
 pub use laws::{kept_numbers_law, line_law, long_text_law, whole_text_law};
+pub use numbers::Numbers;
 pub use reader::{LineReader, StepReader};

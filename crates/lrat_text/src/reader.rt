@@ -17,9 +17,6 @@ use std::alloc::Global;
 use std::marker::Model;
 use text_scan::{ScanError, Scanner, Token};
 
-/// How many numbers are taken from the scanner at once.
-const NUMBERS: usize = 32;
-
 /// Whether a reader still reads, and else what it answers from now on.
 #[derive(Clone, Copy)]
 enum ReaderStatus {
@@ -35,8 +32,6 @@ pub struct LineReader<F: LineForm> {
     draft: F,
     status: ReaderStatus,
     line: u64,
-    // a place for the numbers that the scanner gives at once
-    numbers: [i64; NUMBERS],
 }
 
 /// Reads the lines of a textual LRAT proof as steps.
@@ -71,7 +66,6 @@ impl<F: LineForm> LineReader<F> {
             draft: F::new(alloc),
             status: ReaderStatus::Reading,
             line: 1,
-            numbers: [0; NUMBERS],
         }
     }
 
@@ -177,7 +171,7 @@ impl<F: LineForm> LineReader<F> {
     {
         F::form_law();
         'tokens: loop {
-            self.take_numbers()?;
+            self.take_numbers();
             match self.number_of_another_line() {
                 Some(number) => {
                     self.scanner.unread_law();
@@ -207,29 +201,13 @@ impl<F: LineForm> LineReader<F> {
     // Takes the numbers that come next on the line that is begun, as far as they lie in what was read and there are places for them. (Of a
     // longer line the next one is then taken as a token, and those behind it in the next turn.)
     #[inline(always)]
-    fn take_numbers(&mut self) -> Result<(), StepError>
-        requires { self.old.status ≡ Reading }
-        ensures ok { OnOk result (GoesOn F.form self.old self.new) }
-        ensures leads { OnOk result ((more : List ℕ) → Leads (wants_ahead F.form self.old more) (wants_ahead F.form self.new more)) }
-        ensures wants { OnErr result ((more : List ℕ) → IsTrue (may_want (length more) (wants_ahead F.form self.old more))) }
-        ensures err { OnErr result (result ≡ Err OutOfMemory) }
-        ensures stopped { OnErr result (self.new.status ≡ Failed OutOfMemory) }
-        ensures kept { OnErr result (IsTrue (F.form.has_numbers self.new.draft)) }
-        ensures line { self.new.line ≡ self.old.line }
+    fn take_numbers(&mut self)
+        ensures goes_on { GoesOn F.form self.old self.new }
+        ensures leads { (more : List ℕ) → Leads (wants_ahead F.form self.old more) (wants_ahead F.form self.new more) }
     {
         F::form_law();
-        if !self.draft.is_begun() {
-            return Ok(());
-        }
-        let count = self
-            .scanner
-            .numbers_on(self.draft.line(), &mut self.numbers);
-        match self.draft.take_numbers(&self.numbers[..count]) {
-            Ok(()) => Ok(()),
-            Err(_) => {
-                self.scanner.unread_law();
-                Err(self.fail(StepError::OutOfMemory))
-            }
+        if self.draft.is_begun() {
+            self.draft.take_numbers(&mut self.scanner);
         }
     }
 
@@ -267,6 +245,7 @@ impl<F: LineForm> LineReader<F> {
     }
 
     // The line that a token of another line has ended. That token begins the next.
+    #[inline(never)]
     fn give_before(&mut self, token: &Token, step: &mut F::Step) -> Result<Option<u64>, StepError>
         requires { self.old.status ≡ Reading }
         ensures { Settles F.form (given step.new result) (F.form.of_word token.now) self.old self.new }
@@ -277,6 +256,7 @@ impl<F: LineForm> LineReader<F> {
     }
 
     // The same where the scanner has given the number of that token.
+    #[inline(always)]
     fn give_before_number(
         &mut self,
         number: i64,
@@ -291,6 +271,8 @@ impl<F: LineForm> LineReader<F> {
     }
 
     // The last line, if one is begun, or the end.
+    #[cold]
+    #[inline(never)]
     fn give_at_end(&mut self, step: &mut F::Step) -> Result<Option<u64>, StepError>
         requires { self.old.status ≡ Reading }
         ensures same_scan { self.new.scan ≡ self.old.scan }
@@ -310,6 +292,8 @@ impl<F: LineForm> LineReader<F> {
     }
 
     // The last line whose end stands under the limit, if it isn't given yet; else that the text is too long.
+    #[cold]
+    #[inline(never)]
     fn give_at_limit(&mut self, step: &mut F::Step) -> Result<Option<u64>, StepError>
         requires { self.old.status ≡ Reading }
         ensures same_scan { self.new.scan ≡ self.old.scan }
@@ -327,6 +311,7 @@ impl<F: LineForm> LineReader<F> {
     }
 
     // Judges the line and takes it as the one that is given.
+    #[inline(always)]
     fn judge(&mut self, step: &mut F::Step) -> Result<u64, StepError>
         requires { self.old.status ≡ Reading }
         ensures { Judges F.form result step.new self.old self.new }

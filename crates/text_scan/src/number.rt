@@ -1,6 +1,7 @@
 // The numbers of tokens. A value is cut at a bound above every limit of the formats, so that numerals of any length are
 // judged.
-ghost use Rattle.std.specs.Prelude.{◌≡◌, ◌+◌, ◌<◌, ◌≤◌, true, false, pos, neg_ℤ, nat_abs, length, take, None, Some, IfSome, if◌then◌else◌};
+ghost use Rattle.std.specs.Prelude.{◌≡◌, ◌+◌, ◌-◌, ◌<◌, ◌≤◌, true, false, pos, neg_ℤ, nat_abs, length, take, slice_index};
+ghost use Rattle.std.specs.Prelude.{None, Some, IfSome, if◌then◌else◌};
 ghost use Rattle.std.specs.List.{list_all};
 ghost use Rattle.std.specs.Option.{option_map};
 ghost use Rattle.cnf_base.specs.Number.{is_digit, numeral_value, value_after, plain_number, signed_number, signed_value};
@@ -14,13 +15,22 @@ use crate::token::Token;
 const CAP: u64 = 1_000_000_000_000_000_000;
 
 /// So many digits have a value below it.
-const DIGITS: usize = 18;
+const DIGITS: usize = 9;
 
 #[inline(always)]
 fn is_digit(byte: u8) -> bool
     ensures { result ≡ is_digit byte }
 {
     byte >= b'0' && byte <= b'9'
+}
+
+// The digit of a byte; of a byte that is no digit a number above 9.
+#[inline(always)]
+fn digit_of(byte: u8) -> u64
+    ensures digit { is_digit byte ≡ true → result ≡ byte - 48 }
+    ensures other { is_digit byte ≡ false → 9 < result }
+{
+    (byte as u64).wrapping_sub(48)
 }
 
 // The value of digits, cut.
@@ -98,19 +108,20 @@ fn negative(value: u64) -> Option<i64>
     }
 }
 
-/// The number at the front of these bytes, where it is one of at most 18 digits, a blank stands behind it, and there are at least 20
-/// bytes. Its value and how many bytes it has. Most tokens of proofs and formulas are read so, in one pass over their bytes.
+/// The number at the front of these bytes, where it is one of at most nine digits, a blank stands behind it, and there are at least 11
+/// bytes. Its value, how many bytes it has, and the blank. Most tokens of proofs and formulas are read so, in one pass over their bytes.
 #[inline(always)]
-pub fn number_at_front(bytes: &[u8]) -> Option<(i64, usize)>
-    ensures { IfSome result (λ found. IsNumberAtFront bytes.now found.0 found.1) }
+pub fn number_at_front(bytes: &[u8]) -> Option<(i64, usize, u8)>
+    ensures front { IfSome result (λ found. IsNumberAtFront bytes.now found.0 found.1) }
+    ensures blank { IfSome result (λ found. found.2 ≡ slice_index bytes.now found.1) }
 {
-    if bytes.len() < 20 {
+    if bytes.len() < 11 {
         return None;
     }
     let minus = bytes[0] == b'-';
     let start = usize::from(minus);
-    let (value, len) = blank_ended(&bytes[start..])?;
-    Some((with_sign(minus, value)?, start + len))
+    let (value, len, blank) = blank_ended(&bytes[start..])?;
+    Some((with_sign(minus, value)?, start + len, blank))
 }
 
 /// Puts the numbers at the front of these bytes into places, each read as `number_at_front` does, up to a line end, and as far as there are
@@ -123,17 +134,18 @@ pub fn numbers_at_front(bytes: &[u8], places: &mut [i64]) -> (usize, usize, bool
 {
     let mut count = 0;
     let mut at = 0;
-    let mut ended = false;
-    'numbers: while count < places.len() && !ended {
-        let Some((number, len)) = number_at_front(&bytes[at..]) else {
+    'numbers: while count < places.len() {
+        let Some((number, len, blank)) = number_at_front(&bytes[at..]) else {
             return (count, at, false);
         };
         places[count] = number;
         count += 1;
-        ended = bytes[at + len] == b'\n';
         at += len + 1;
+        if blank == b'\n' {
+            return (count, at, true);
+        }
     }
-    (count, at, ended)
+    (count, at, false)
 }
 
 // The number of a value with a minus sign or without. No branch tells the signs apart: those of literals are as good as random. (One for
@@ -160,17 +172,19 @@ fn negated_if(minus: bool, number: i64) -> i64
     if minus { -number } else { number }
 }
 
-// The value of the digits at the front, where there are at most 18, and a blank stands behind them.
+// The value of the digits at the front, where there are at most nine, and a blank stands behind them; how many they are, and the blank.
 #[inline(always)]
-fn blank_ended(bytes: &[u8]) -> Option<(u64, usize)>
-    requires { 18 < length bytes.now }
-    ensures { IfSome result (λ found. IsNumeralAtFront bytes.now found.0 found.1) }
+fn blank_ended(bytes: &[u8]) -> Option<(u64, usize, u8)>
+    requires { 9 < length bytes.now }
+    ensures front { IfSome result (λ found. IsNumeralAtFront bytes.now found.0 found.1) }
+    ensures blank { IfSome result (λ found. found.2 ≡ slice_index bytes.now found.1) }
 {
     let (value, len) = digits_up_to(bytes, DIGITS);
-    if len == 0 || !is_blank(bytes[len]) {
+    let blank = bytes[len];
+    if len == 0 || !is_blank(blank) {
         return None;
     }
-    Some((value, len))
+    Some((value, len, blank))
 }
 
 // The digits at the front, at most so many, and their value. Where their number is known when the program is built, the loop is
@@ -186,8 +200,12 @@ fn digits_up_to(bytes: &[u8], most: usize) -> (u64, usize)
 {
     let mut len = 0;
     let mut value: u64 = 0;
-    while len < most && is_digit(bytes[len]) {
-        value = 10 * value + (bytes[len] - b'0') as u64;
+    while len < most {
+        let digit = digit_of(bytes[len]);
+        if digit > 9 {
+            return (value, len);
+        }
+        value = 10 * value + digit;
         len += 1;
     }
     (value, len)

@@ -163,9 +163,9 @@ impl Scanner {
         }
     }
 
-    /// Puts the numbers of the tokens that come next on this line into places, and tells how many: as far as each is a number below
-    /// 10^18 and lies whole, with the blank behind it, in what was read, and there are places. These tokens are then given, as `next`
-    /// gives them. It reads nothing, and looks at each byte once. That it puts any is no promise: what it leaves `next` gives.
+    /// Puts the numbers of the tokens that come next on this line into places, and tells how many: as far as each is a number of at
+    /// most nine digits and lies whole, with the blank behind it, in what was read, and there are places. These tokens are then given, as
+    /// `next` gives them. It reads nothing, and looks at each byte once. That it puts any is no promise: what it leaves `next` gives.
     #[inline(always)]
     pub fn numbers_on(&mut self, line: u64, places: &mut [i64]) -> usize
         ensures size { length places.new ≡ length places.old }
@@ -244,7 +244,7 @@ impl Scanner {
         ensures { IfSome result (λ found. IsNumberAhead self.now found.0 found.1) }
     {
         let window = &self.block[self.at..self.stop];
-        let (number, len) = number_at_front(window)?;
+        let (number, len, _) = number_at_front(window)?;
         if !self.lexer.begins_word(window[0]) {
             return None;
         }

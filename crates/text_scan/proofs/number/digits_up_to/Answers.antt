@@ -1,17 +1,23 @@
 -- One more digit: the value stays below the power of ten of their number.
-use Rattle.std.proofs.Common.{◌≡◌, ◌+◌, ◌-◌, ◌*◌, ◌<◌, ◌≤◌, ◌^◌, true, ℕ, length, get_or, arith, rules, add-one, sym, ◌∙◌, pow-suc}
+use Rattle.std.proofs.Common.{◌≡◌, ◌+◌, ◌*◌, ◌<◌, ◌≤◌, ◌^◌, true, false, ℕ, length, get_or, arith, rules, add-one, ◌∙◌, pow-suc}
+use Rattle.std.proofs.Common.{refl, ap}
 use Rattle.std.proofs.Math.Nat.{pow-le-pow_right}
-use Rattle.std.proofs.lemmas.Bool.Decides.{nat_tests}
 use Rattle.cnf_base.specs.Number.{is_digit}
 use Rattle.text_scan.specs.Capped.{cap}
 use Rattle.text_scan.proofs.NumberAhead.{digits_more, value_more}
 use Rattle.text_scan.proofs.number.digits_up_to.Goals as goal
 
-digit_power : (value byte len : ℕ) → value < 10 ^ len → is_digit byte ≡ true → 10 * value + (byte - 48) < 10 ^ (len + 1)
-digit_power value byte len small digit =
-    let most : byte ≤ 57 = grind (arith, nat_tests) in
+digit_power : (value digit len : ℕ) → value < 10 ^ len → digit ≤ 9 → 10 * value + digit < 10 ^ (len + 1)
+digit_power value digit len small most =
     let next : 10 ^ (len + 1) ≡ 10 ^ len * 10 = rw (add-one len) (pow-suc 10 len) in
     omega (arith, most, small, next)
+
+small_digit : (byte digit : ℕ) → (is_digit byte ≡ false → 9 < digit) → digit ≤ 9 → is_digit byte ≡ true
+small_digit byte digit other most =
+    elim (is_digit byte) as (λ b. (b ≡ false → 9 < digit) → b ≡ true) [
+      | true ↦ λ _. refl
+      | false ↦ λ above. absurd (omega (arith, most, above refl))
+    ] other
 
 below_cap : (value len : ℕ) → value < 10 ^ len → len ≤ 18 → value < cap
 below_cap value len small short =
@@ -38,20 +44,23 @@ pub loop-len-preserved : goal.loop-len-preserved
 loop-len-preserved c =
     let before : c.loop-len.len < c.args.most = c.loop-len-test.true in
     let within : c.loop-len.len < length c.args.bytes.now = omega (arith, before, c.requires.within) in
-    let digit : is_digit (get_or c.args.bytes.now c.loop-len.len 0) ≡ true = sym c.is_digit.ensures ∙ c.if-is_digit.true in
+    let most : c.digit_of-digit.result ≤ 9 = omega (arith, c.if-digit-gt9.false) in
+    let digit : is_digit (get_or c.args.bytes.now c.loop-len.len 0) ≡ true =
+    small_digit (get_or c.args.bytes.now c.loop-len.len 0) c.digit_of-digit.result c.digit_of-digit.ensures.other most in
     record {
       range = omega (arith, before);
       digits = digits_more c.args.bytes.now c.loop-len.len within c.loop-len.invariant.digits digit;
-      value = value_more c.args.bytes.now c.loop-len.len c.loop-len.value within c.loop-len.invariant.value;
-      small = digit_power c.loop-len.value (get_or c.args.bytes.now c.loop-len.len 0) c.loop-len.len c.loop-len.invariant.small digit;
+      value = ap (λ n. 10 * c.loop-len.value + n) (c.digit_of-digit.ensures.digit digit)
+          ∙ value_more c.args.bytes.now c.loop-len.len c.loop-len.value within c.loop-len.invariant.value;
+      small = digit_power c.loop-len.value c.digit_of-digit.result c.loop-len.len c.loop-len.invariant.small most;
     }
 
-pub returns-else-is_digit-clause-small : goal.returns-else-is_digit-clause-small
-returns-else-is_digit-clause-small c =
+pub returns-then-digit-gt9-clause-small : goal.returns-then-digit-gt9-clause-small
+returns-then-digit-gt9-clause-small c =
     below_cap c.loop-len.value c.loop-len.len c.loop-len.invariant.small
     (omega (arith, c.loop-len.invariant.range, c.requires.short))
 
-pub returns-after-loop-len-clause-small : goal.returns-after-loop-len-clause-small
-returns-after-loop-len-clause-small c =
+pub returns-clause-small : goal.returns-clause-small
+returns-clause-small c =
     below_cap c.loop-len.value c.loop-len.len c.loop-len.invariant.small
     (omega (arith, c.loop-len.invariant.range, c.requires.short))

@@ -7,7 +7,7 @@ abbrev pub invariant-numbers : goal.invariant-numbers
 invariant-numbers l = record {
   range : l.count ≤ length l.places;
   within : l.at ≤ length l.bytes;
-  front : AreNumbersAtFront false (take l.count l.places) l.bytes l.at l.ended;
+  front : AreNumbersAtFront false (take l.count l.places) l.bytes l.at false;
 }
 
 abbrev pub decreases-numbers : goal.decreases-numbers

@@ -13,16 +13,16 @@ returns-clause-ok c =
     let clause = c.args.literals.now in
     let near = near_at c.self.inside.chunks.items in
     let far = get nat_eq c.self.inside.far in
-    let near' = near_at c.clear.new.chunks.items in
+    let near' = near_at c.take.new.chunks.items in
     let far' = get nat_eq c.insert.new.self in
     let top = c.self.inside.top in
     let top' = c.max-self-inside.result in
     let far_is : (n : ℕ) → far' n ≡ (if n == number then Some clause else far n) =
     λ n. c.in_ok-insert.ensures.updates.0 n ∙ turned number n _ (far n)
     ∙ ap (λ l. if n == number then Some l else far n) c.in_ok-clause.ensures in
-    let after = stored_changed near far near' far' number None (Some clause) top top' c.self.invariant c.clear.ensures.places far_is
+    let after = stored_changed near far near' far' number None (Some clause) top top' c.self.invariant c.take.ensures.places far_is
     (λ no. cc) (omega (arith, c.max-self-inside.ensures))
     (λ lt. absurd (omega (arith, lt, c.max-self-inside.ensures))) in
-    live_inserted near far near' far' number None (Some clause) top top' c.self.invariant c.clear.ensures.places far_is after clause refl
+    live_inserted near far near' far' number None (Some clause) top top' c.self.invariant c.take.ensures.places far_is after clause refl
     ∙ ap (λ (live : Live). with_clause live number clause) c.self.view_is
     ∙ ap (λ n. with_clause c.args.self.now n clause) c.get-number.ensures

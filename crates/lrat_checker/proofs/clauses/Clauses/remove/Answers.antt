@@ -9,33 +9,33 @@ use Rattle.lrat_checker.proofs.Stored.{stored_changed, live_removed, turned, abs
 use Rattle.lrat_checker.proofs.clauses.Clauses.remove.Goals as goal
 use Rattle.lrat_checker.proofs.clauses.Clauses.remove.Goals.{in-Some-1, in-None-1}
 
-pub returns-then-not-clear : goal.returns-then-not-clear
-returns-then-not-clear c =
+pub returns-then-is_none : goal.returns-then-is_none
+returns-then-is_none c =
     let number = c.get-number.result in
     let near = near_at c.self.inside.chunks.items in
     let far = get nat_eq c.self.inside.far in
-    let near' = near_at c.clear.new.chunks.items in
+    let near' = near_at c.take.new.chunks.items in
     let far' = get nat_eq c.remove.new.self in
     let top = c.self.inside.top in
     let far_is : (n : ℕ) → far' n ≡ (if n == number then None else far n) = λ n. c.remove.ensures.updates.0 n
     ∙ turned number n None (far n) in
-    let after = stored_changed near far near' far' number None None top top c.self.invariant c.clear.ensures.places far_is (λ _. refl)
+    let after = stored_changed near far near' far' number None None top top c.self.invariant c.take.ensures.places far_is (λ _. refl)
     (omega arith) (λ _. refl) in
-    let removed = live_removed near far near' far' number None None top top c.self.invariant c.clear.ensures.places far_is after refl in
+    let removed = live_removed near far near' far' number None None top top c.self.invariant c.take.ensures.places far_is after refl in
     let is : c.match-remove.self ≡ _ =
     elim c.match-remove.branch [ in-Some-1 w ↦ w.self-is | in-None-1 w ↦ w.self-is ] in
     is ∙ removed ∙ ap (λ (live : Live). finmap.remove live number) c.self.view_is ∙ ap (finmap.remove c.args.self.now) c.get-number.ensures
 
-pub returns-else-not-clear : goal.returns-else-not-clear
-returns-else-not-clear c =
+pub returns-else-is_none : goal.returns-else-is_none
+returns-else-is_none c =
     let number = c.get-number.result in
     let near = near_at c.self.inside.chunks.items in
     let far = get nat_eq c.self.inside.far in
-    let near' = near_at c.clear.new.chunks.items in
+    let near' = near_at c.take.new.chunks.items in
     let top = c.self.inside.top in
-    let some : is_some (near number) ≡ true = sym c.clear.ensures.taken ∙ c.if-not-clear.false in
+    let some : is_some (near number) ≡ true = sym c.take.ensures.taken ∙ c.if-is_none.ensures in
     let far_is : (n : ℕ) → far n ≡ (if n == number then None else far n) = absent far number (c.self.invariant.apart number some) in
-    let after = stored_changed near far near' far number None None top top c.self.invariant c.clear.ensures.places far_is (λ _. refl)
+    let after = stored_changed near far near' far number None None top top c.self.invariant c.take.ensures.places far_is (λ _. refl)
     (omega arith) (λ _. refl) in
-    live_removed near far near' far number None None top top c.self.invariant c.clear.ensures.places far_is after refl
+    live_removed near far near' far number None None top top c.self.invariant c.take.ensures.places far_is after refl
     ∙ ap (λ (live : Live). finmap.remove live number) c.self.view_is ∙ ap (finmap.remove c.args.self.now) c.get-number.ensures

@@ -1,45 +1,26 @@
 -- The numbers of an addition stand behind those that it has.
-use Rattle.std.proofs.Common.{◌≡◌, ◌<◌, ℤ, List, ◌++◌, length, None, Some, sym, ◌∙◌, ap, arith, if◌then◌else◌}
-use Rattle.std.specs.Prelude.{IsTrue}
+use Rattle.std.proofs.Common.{◌≡◌, ◌<◌, true, length, None, Some, sym, ◌∙◌, ap, subst, arith, if◌then◌else◌}
+use Rattle.text_scan.specs.Scan.{TookNumbers}
 use Rattle.lrat_text.specs.declared.draft.Kind.TheVariants.{Adds}
 use Rattle.lrat_text.specs.Form.{with_numbers}
-use Rattle.lrat_text.specs.Draft.{DraftLine, lrat_form, keeps_number}
-use Rattle.lrat_text.proofs.DraftNumbers.{line_with, held, lost, written, added, none_added, keeps_more, on_err}
+use Rattle.lrat_text.specs.Draft.{DraftLine, lrat_form, is_adding}
+use Rattle.lrat_text.proofs.DraftNumbers.{line_with, adds_more}
 use Rattle.lrat_text.proofs.draft.LratLine.add_numbers.Goals as goal
 
-pub returns-then-self-clause-ok : goal.returns-then-self-clause-ok
-returns-then-self-clause-ok c =
+pub returns-then-take_from-gt0 : goal.returns-then-take_from-gt0
+returns-then-take_from-gt0 c =
     let s = c.self.inside in
-    let now : DraftLine = c.args.self.now in
-    let own : List ℤ = s.numbers.items in
-    let numbers : List ℤ = c.args.numbers.now in
-    let is : now ≡ line_with now.line Adds now.id None =
-    lost now s.line s.kind Adds s.id s.broken own c.self.view_is c.requires c.if-self.true in
-    is ∙ sym (ap (λ draft. with_numbers lrat_form draft numbers) is ∙ none_added numbers now.line now.id)
-
-pub returns-in_err-extend_from_slice-clause-memory : goal.returns-in_err-extend_from_slice-clause-memory
-returns-in_err-extend_from_slice-clause-memory c =
-    let s = c.self.inside in
-    let now : DraftLine = c.args.self.now in
-    let own : List ℤ = s.numbers.items in
-    let numbers : List ℤ = c.args.numbers.now in
-    let is : now ≡ line_with now.line Adds now.id (Some own) =
-    held now s.line s.kind Adds s.id s.broken own c.self.view_is c.requires c.if-self.false in
-    let some : 0 < length numbers = omega (arith, c.in_err-extend_from_slice.ensures.full, s.numbers.ok.1) in
-    on_err c.from_residual.result (IsTrue (keeps_number (with_numbers lrat_form now numbers).numbers))
-    (ap (λ (draft : DraftLine). keeps_number draft.numbers) (ap (λ draft. with_numbers lrat_form draft numbers) is
-    ∙ added numbers now.line now.id own)
-    ∙ keeps_more own numbers some)
-
-pub returns-clause-ok : goal.returns-clause-ok
-returns-clause-ok c =
-    let s = c.self.inside in
-    let now : DraftLine = c.args.self.now in
-    let own : List ℤ = s.numbers.items in
-    let numbers : List ℤ = c.args.numbers.now in
-    let is : now ≡ line_with now.line Adds now.id (Some own) =
-    held now s.line s.kind Adds s.id s.broken own c.self.view_is c.requires c.if-self.false in
-    ap (λ b. line_with s.line s.kind s.id (if b then None else Some c.extend_from_slice.new.self.items)) c.if-self.false
-    ∙ ap (λ l. line_with s.line s.kind s.id (Some l)) c.in_ok-extend_from_slice.ensures.items
-    ∙ written now s.line s.kind Adds s.id s.broken own c.self.view_is c.requires (Some (own ++ numbers))
-    ∙ sym (ap (λ draft. with_numbers lrat_form draft numbers) is ∙ added numbers now.line now.id own)
+    let taken = c.take_from.ensures in
+    let some : 0 < length taken.numbers = omega (arith, taken.size, c.if-take_from-gt0.true) in
+    let adding : is_adding s.kind ≡ true = ap (λ (draft : DraftLine). is_adding draft.kind) c.self.view_is ∙ c.requires in
+    record {
+      numbers = taken.numbers;
+      took = subst (λ line. TookNumbers taken.numbers line c.args.scanner.now c.take_from.new.scanner)
+          (ap (λ (draft : DraftLine). draft.line) c.self.view_is) taken.took;
+      behind = ap (λ b. line_with s.line Adds s.id (if b then None else Some c.take_from.new.self)) c.if-self.false
+          ∙ ap (λ l. line_with s.line Adds s.id (Some l)) taken.behind
+          ∙ sym (adds_more s.kind s.line s.id s.numbers taken.numbers adding some)
+          ∙ ap (λ b. with_numbers lrat_form (line_with s.line s.kind s.id (if b then None else Some s.numbers)) taken.numbers)
+          (sym c.if-self.false)
+          ∙ ap (λ draft. with_numbers lrat_form draft taken.numbers) c.self.view_is;
+    }

@@ -23,7 +23,7 @@ pub returns-then-line-clause-gives : goal.returns-then-line-clause-gives
 returns-then-line-clause-gives g c =
     let form = g.F.LineForm.form in
     let stands = Stands-same form (c.in-None.ensures.none refl)
-    (Stands-on form c.tokens.invariant.stands c.in_ok-take_numbers.ensures.ok c.in_ok-take_numbers.ensures.leads) in λ told.
+    (Stands-on form c.tokens.invariant.stands c.take_numbers.ensures.goes_on c.take_numbers.ensures.leads) in λ told.
     let old : ReaderOf _ = record {
       scan = c.next_into.new.self;
       draft = c.self-in-tokens.inside.draft;
@@ -43,7 +43,7 @@ pub returns-in-Ok-false-clause-gives : goal.returns-in-Ok-false-clause-gives
 returns-in-Ok-false-clause-gives g c =
     let form = g.F.LineForm.form in
     let stands = Stands-same form (c.in-None.ensures.none refl)
-    (Stands-on form c.tokens.invariant.stands c.in_ok-take_numbers.ensures.ok c.in_ok-take_numbers.ensures.leads) in λ told.
+    (Stands-on form c.tokens.invariant.stands c.take_numbers.ensures.goes_on c.take_numbers.ensures.leads) in λ told.
     let old : ReaderOf _ = record {
       scan = c.next_into.new.self;
       draft = c.self-in-tokens.inside.draft;
@@ -62,7 +62,7 @@ pub returns-in-Err-TooLong-clause-gives : goal.returns-in-Err-TooLong-clause-giv
 returns-in-Err-TooLong-clause-gives g c =
     let form = g.F.LineForm.form in
     let stands = Stands-same form (c.in-None.ensures.none refl)
-    (Stands-on form c.tokens.invariant.stands c.in_ok-take_numbers.ensures.ok c.in_ok-take_numbers.ensures.leads) in λ told.
+    (Stands-on form c.tokens.invariant.stands c.take_numbers.ensures.goes_on c.take_numbers.ensures.leads) in λ told.
     let old : ReaderOf _ = record {
       scan = c.next_into.new.self;
       draft = c.self-in-tokens.inside.draft;
@@ -81,7 +81,7 @@ pub tokens-preserved : goal.tokens-preserved
 tokens-preserved g c =
     let form = g.F.LineForm.form in
     let stands = Stands-same form (c.in-None.ensures.none refl)
-    (Stands-on form c.tokens.invariant.stands c.in_ok-take_numbers.ensures.ok c.in_ok-take_numbers.ensures.leads) in
+    (Stands-on form c.tokens.invariant.stands c.take_numbers.ensures.goes_on c.take_numbers.ensures.leads) in
     let old : ReaderOf _ = record {
       scan = c.next_into.new.self;
       draft = c.self-in-tokens.inside.draft;
@@ -160,14 +160,14 @@ pub returns-in-Err-ReadFault-clause-gives : goal.returns-in-Err-ReadFault-clause
 returns-in-Err-ReadFault-clause-gives g c =
     let form = g.F.LineForm.form in
     let stands = Stands-same form (c.in-None.ensures.none refl)
-    (Stands-on form c.tokens.invariant.stands c.in_ok-take_numbers.ensures.ok c.in_ok-take_numbers.ensures.leads) in
+    (Stands-on form c.tokens.invariant.stands c.take_numbers.ensures.goes_on c.take_numbers.ensures.leads) in
     λ told. Decides-then (λ bytes more. ⊤) (stands.same told) (c.in-Err-ReadFault.ensures.gives told) (λ bytes middle more p q. tt)
 
 pub returns-then-line-clause-so_far : goal.returns-then-line-clause-so_far
 returns-then-line-clause-so_far g c =
     let form = g.F.LineForm.form in
     let stands = Stands-same form (c.in-None.ensures.none refl)
-    (Stands-on form c.tokens.invariant.stands c.in_ok-take_numbers.ensures.ok c.in_ok-take_numbers.ensures.leads) in λ told.
+    (Stands-on form c.tokens.invariant.stands c.take_numbers.ensures.goes_on c.take_numbers.ensures.leads) in λ told.
     let old : ReaderOf _ = record {
       scan = c.next_into.new.self;
       draft = c.self-in-tokens.inside.draft;
@@ -196,7 +196,7 @@ pub returns-in-Ok-false-clause-so_far : goal.returns-in-Ok-false-clause-so_far
 returns-in-Ok-false-clause-so_far g c =
     let form = g.F.LineForm.form in
     let stands = Stands-same form (c.in-None.ensures.none refl)
-    (Stands-on form c.tokens.invariant.stands c.in_ok-take_numbers.ensures.ok c.in_ok-take_numbers.ensures.leads) in λ told.
+    (Stands-on form c.tokens.invariant.stands c.take_numbers.ensures.goes_on c.take_numbers.ensures.leads) in λ told.
     let moves = rw c.in-Ok-false.field-0-test at c.in-Ok-false.ensures.moves in
     let stopped : is_scanning c.give_at_end.new.self.scan.status
     ≡ false = ap (λ (s : Scan). is_scanning s.status) c.give_at_end.ensures.same_scan ∙ ap is_scanning moves in
@@ -207,7 +207,7 @@ pub returns-in-Err-TooLong-clause-so_far : goal.returns-in-Err-TooLong-clause-so
 returns-in-Err-TooLong-clause-so_far g c =
     let form = g.F.LineForm.form in
     let stands = Stands-same form (c.in-None.ensures.none refl)
-    (Stands-on form c.tokens.invariant.stands c.in_ok-take_numbers.ensures.ok c.in_ok-take_numbers.ensures.leads) in λ told.
+    (Stands-on form c.tokens.invariant.stands c.take_numbers.ensures.goes_on c.take_numbers.ensures.leads) in λ told.
     let moves = rw c.in-Err-TooLong.field-0-is at c.in-Err-TooLong.ensures.moves in
     let stopped : is_scanning c.give_at_limit.new.self.scan.status
     ≡ false = ap (λ (s : Scan). is_scanning s.status) c.give_at_limit.ensures.same_scan ∙ ap is_scanning moves in
@@ -218,7 +218,7 @@ pub returns-in-Err-ReadFault-clause-so_far : goal.returns-in-Err-ReadFault-claus
 returns-in-Err-ReadFault-clause-so_far g c =
     let form = g.F.LineForm.form in
     let stands = Stands-same form (c.in-None.ensures.none refl)
-    (Stands-on form c.tokens.invariant.stands c.in_ok-take_numbers.ensures.ok c.in_ok-take_numbers.ensures.leads) in λ told.
+    (Stands-on form c.tokens.invariant.stands c.take_numbers.ensures.goes_on c.take_numbers.ensures.leads) in λ told.
     let bytes : List ℕ = gained (g.S.Source.channel c.tokens.source) (g.S.Source.channel c.next_into.new.source) in
     let reading : c.self-in-tokens.inside.status ≡ Reading = ap (λ (r : ReaderOf _). r.status) c.self-in-tokens.view_is ∙ stands.status in
     let failed : answer c.next_into.new.token c.next_into.result
@@ -241,7 +241,7 @@ pub returns-in-Some-clause-gives : goal.returns-in-Some-clause-gives
 returns-in-Some-clause-gives g c =
     let form = g.F.LineForm.form in
     λ told.
-    let stands = Stands-on form c.tokens.invariant.stands c.in_ok-take_numbers.ensures.ok c.in_ok-take_numbers.ensures.leads in
+    let stands = Stands-on form c.tokens.invariant.stands c.take_numbers.ensures.goes_on c.take_numbers.ensures.leads in
     let begins = c.in-Some.ensures.some in
     let settles = rw (read_back c.in-Some.number begins.took.small) at c.give_before_number.ensures in
     let answered = given c.give_before_number.new.step c.give_before_number.result in
@@ -257,7 +257,7 @@ pub returns-in-Some-clause-so_far : goal.returns-in-Some-clause-so_far
 returns-in-Some-clause-so_far g c =
     let form = g.F.LineForm.form in
     λ told.
-    let stands = Stands-on form c.tokens.invariant.stands c.in_ok-take_numbers.ensures.ok c.in_ok-take_numbers.ensures.leads in
+    let stands = Stands-on form c.tokens.invariant.stands c.take_numbers.ensures.goes_on c.take_numbers.ensures.leads in
     let begins = c.in-Some.ensures.some in
     let settles = rw (read_back c.in-Some.number begins.took.small) at c.give_before_number.ensures in
     number_so_far form c.form_law.ensures c.in-Some.number c.take_numbers.new.self c.number_of_another_line.new.self c.give_before_number.new.self begins
@@ -269,7 +269,7 @@ pub returns-then-line-clause-spends : goal.returns-then-line-clause-spends
 returns-then-line-clause-spends g c =
     let form = g.F.LineForm.form in
     let stands = Stands-same form (c.in-None.ensures.none refl)
-    (Stands-on form c.tokens.invariant.stands c.in_ok-take_numbers.ensures.ok c.in_ok-take_numbers.ensures.leads) in λ told.
+    (Stands-on form c.tokens.invariant.stands c.take_numbers.ensures.goes_on c.take_numbers.ensures.leads) in λ told.
     let old : ReaderOf _ = record {
       scan = c.next_into.new.self;
       draft = c.self-in-tokens.inside.draft;
@@ -289,7 +289,7 @@ pub returns-in-Ok-false-clause-spends : goal.returns-in-Ok-false-clause-spends
 returns-in-Ok-false-clause-spends g c =
     let form = g.F.LineForm.form in
     let stands = Stands-same form (c.in-None.ensures.none refl)
-    (Stands-on form c.tokens.invariant.stands c.in_ok-take_numbers.ensures.ok c.in_ok-take_numbers.ensures.leads) in λ told.
+    (Stands-on form c.tokens.invariant.stands c.take_numbers.ensures.goes_on c.take_numbers.ensures.leads) in λ told.
     let old : ReaderOf _ = record {
       scan = c.next_into.new.self;
       draft = c.self-in-tokens.inside.draft;
@@ -308,7 +308,7 @@ pub returns-in-Err-TooLong-clause-spends : goal.returns-in-Err-TooLong-clause-sp
 returns-in-Err-TooLong-clause-spends g c =
     let form = g.F.LineForm.form in
     let stands = Stands-same form (c.in-None.ensures.none refl)
-    (Stands-on form c.tokens.invariant.stands c.in_ok-take_numbers.ensures.ok c.in_ok-take_numbers.ensures.leads) in λ told.
+    (Stands-on form c.tokens.invariant.stands c.take_numbers.ensures.goes_on c.take_numbers.ensures.leads) in λ told.
     let old : ReaderOf _ = record {
       scan = c.next_into.new.self;
       draft = c.self-in-tokens.inside.draft;
@@ -327,14 +327,14 @@ pub returns-in-Err-ReadFault-clause-spends : goal.returns-in-Err-ReadFault-claus
 returns-in-Err-ReadFault-clause-spends g c =
     let form = g.F.LineForm.form in
     let stands = Stands-same form (c.in-None.ensures.none refl)
-    (Stands-on form c.tokens.invariant.stands c.in_ok-take_numbers.ensures.ok c.in_ok-take_numbers.ensures.leads) in
+    (Stands-on form c.tokens.invariant.stands c.take_numbers.ensures.goes_on c.take_numbers.ensures.leads) in
     λ told. Decides-then (λ bytes more. ⊤) (stands.same told) (c.in-Err-ReadFault.ensures.gives told) (λ bytes middle more p q. tt)
 
 pub returns-in-Some-clause-spends : goal.returns-in-Some-clause-spends
 returns-in-Some-clause-spends g c =
     let form = g.F.LineForm.form in
     λ told.
-    let stands = Stands-on form c.tokens.invariant.stands c.in_ok-take_numbers.ensures.ok c.in_ok-take_numbers.ensures.leads in
+    let stands = Stands-on form c.tokens.invariant.stands c.take_numbers.ensures.goes_on c.take_numbers.ensures.leads in
     let begins = c.in-Some.ensures.some in
     let settles = rw (read_back c.in-Some.number begins.took.small) at c.give_before_number.ensures in
     let answered = given c.give_before_number.new.step c.give_before_number.result in
@@ -345,19 +345,11 @@ returns-in-Some-clause-spends g c =
     settles (subst (λ (r : ReaderOf _). length r.scan.unread ≤ block_size) c.self.view_is c.unread_law.ensures) more))
 
 -- memory was wanted for a number
-pub returns-in_err-take_numbers-clause-spends : goal.returns-in_err-take_numbers-clause-spends
-returns-in_err-take_numbers-clause-spends g c = λ told.
-    let came = c.in_err-take_numbers.ensures.err in
-    let memory : c.in_err-take_numbers.field-0.0 ≡ OutOfMemory = cc in
-    Decides-map _ (c.tokens.invariant.stands.leads told)
-    (λ bytes more p. handed_spends c.tokens.step c.from_residual.result c.in_err-take_numbers.field-0.0 c.from_residual.ensures.1 memory
-    (length more) _ _ (p.wants (length more) (c.in_err-take_numbers.ensures.wants more)))
-
 pub returns-in_err-take-in-Ok-true-clause-spends : goal.returns-in_err-take-in-Ok-true-clause-spends
 returns-in_err-take-in-Ok-true-clause-spends g c =
     let form = g.F.LineForm.form in
     let stands = Stands-same form (c.in-None.ensures.none refl)
-    (Stands-on form c.tokens.invariant.stands c.in_ok-take_numbers.ensures.ok c.in_ok-take_numbers.ensures.leads) in
+    (Stands-on form c.tokens.invariant.stands c.take_numbers.ensures.goes_on c.take_numbers.ensures.leads) in
     let old : ReaderOf _ = record {
       scan = c.next_into.new.self;
       draft = c.self-in-tokens.inside.draft;
@@ -381,8 +373,8 @@ returns-in_err-take-in-Ok-true-clause-spends g c =
     λ told.
     let gives = rw c.in-Ok-true.field-0-test at (c.in-Ok-true.ensures.gives told) in
     Decides-then _ (stands.leads told) gives
-    (λ bytes middle more p q. handed_spends c.tokens.step c.from_residual-in_err-take-in-Ok-true.result c.in_err-take-in-Ok-true.field-0.0
-    c.from_residual-in_err-take-in-Ok-true.ensures.1 memory (length more) _ _ (p.wants (length more)
+    (λ bytes middle more p q. handed_spends c.tokens.step c.from_residual.result c.in_err-take-in-Ok-true.field-0.0
+    c.from_residual.ensures.1 memory (length more) _ _ (p.wants (length more)
     (subst (λ w. IsTrue (may_want (length more) w))
     (sym (ap (λ (r : ReaderOf _). wants_ahead form r middle) (sym c.self-in-tokens.view_is)
     ∙ ap (λ is. wants_after form is c.self-in-tokens.inside.draft) q))

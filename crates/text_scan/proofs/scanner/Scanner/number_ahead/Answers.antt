@@ -13,7 +13,7 @@ use Rattle.text_scan.proofs.scanner.Scanner.number_ahead.Goals as goal
 pub returns : goal.returns
 returns c = let s = c.self.inside in
     let len = c.in_ok-number.len in
-    let is = c.in_ok-number.ensures in
+    let is = c.in_ok-number.ensures.front in
     let before : s.at ≤ s.stop = c.self.invariant.at_most_stop in
     let inside : s.stop ≤ s.end = omega (arith, c.self.invariant.stop_is) in
     let fits : s.end ≤ length s.block = omega (arith, c.self.invariant.size, c.self.invariant.in_block) in
