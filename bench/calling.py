@@ -1,6 +1,6 @@
 """The one calling style of the scripts in bench/ and tests/oracle/: SCRIPT [--program FILE] [--OPTION [VALUE]].. [WORD]..
 
-Without --program they run `out/bddsat` of this clone, which `./bddsat` builds where its sources have changed. --help shows a script's head.
+Without --program they run the one that `./bddsat` of this clone runs. --help shows a script's head.
 """
 import argparse
 import os
@@ -25,8 +25,8 @@ class Calling(argparse.ArgumentParser):
     def words(self, given=None):
         found = super().parse_args(given)
         if not (found.program or getattr(found, "write", None) or getattr(found, "alone", None)):
-            subprocess.run([os.path.join(ROOT, "bddsat"), "--help"], stdout=subprocess.DEVNULL, check=True)  # builds it
-            found.program = os.path.join(ROOT, "out", "bddsat")
+            told = subprocess.run([os.path.join(ROOT, "build"), "--program"], stdout=subprocess.PIPE, text=True, check=True)
+            found.program = told.stdout.rstrip("\n")
         return found
 
 
