@@ -4,7 +4,10 @@ The peak is that of /usr/bin/time, where that is installed (apt-get install time
 about 14 MiB is that of Python before the program was loaded.
 """
 import os
+import re
 import resource
+import shutil
+import statistics
 import subprocess
 import sys
 import tempfile
@@ -53,6 +56,22 @@ def run(words, seconds):
     it = Run(words, seconds)
     assert it.code is not None or it.seconds > 0.9 * seconds, (words, "ended by another signal than that of the limit")
     return it.code, it.output, it.seconds, it.memory
+
+
+def summary(runs):
+    """Some runs in a line: the median of the seconds of those that are answered, and how many they are."""
+    done = [seconds for code, _, seconds, _ in runs if code in (10, 20)]
+    told = f"median {statistics.median(done):.2f} s" if done else "none done"
+    return f"{told}, {len(done)} of {len(runs)} done, peak {max(peak for *_, peak in runs):.0f} MiB"
+
+
+def version(program):
+    """What the program says of itself, or Debian of its package."""
+    told = subprocess.run([program, "--version"], stdin=subprocess.DEVNULL, capture_output=True, text=True).stdout
+    if not re.search(r"\d\.\d", told) and shutil.which("dpkg-query"):
+        told = subprocess.run(["dpkg-query", "-W", "-f=${Version}", program], capture_output=True, text=True).stdout
+    found = re.search(r"\d+(\.\d+)+", told)
+    return found[0] if found else "of an unknown version"
 
 
 def needs_time(script):
