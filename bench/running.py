@@ -69,7 +69,7 @@ def version(program):
     """What the program says of itself, or Debian of its package."""
     told = subprocess.run([program, "--version"], stdin=subprocess.DEVNULL, capture_output=True, text=True).stdout
     if not re.search(r"\d\.\d", told) and shutil.which("dpkg-query"):
-        told = subprocess.run(["dpkg-query", "-W", "-f=${Version}", program], capture_output=True, text=True).stdout
+        told = subprocess.run(["dpkg-query", "-W", "-f=${Version}", os.path.basename(program)], capture_output=True, text=True).stdout
     found = re.search(r"\d+(\.\d+)+", told)
     return found[0] if found else "of an unknown version"
 
