@@ -588,4 +588,4 @@ def satisfies(answer, clauses):
 def write(path, variables, clauses):
     with open(path, "w") as out:
         out.write(f"p cnf {variables} {len(clauses)}\n")
-        out.writelines(" ".join(map(str, clause)) + " 0\n" for clause in clauses)
+        out.writelines(" ".join(map(str, [*clause, 0])) + "\n" for clause in clauses)

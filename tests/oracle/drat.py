@@ -7,6 +7,9 @@ first clause of the same literals in the same order, or with `--any-order` of th
 """
 import itertools
 
+import fuzzing
+from fuzzing import drawn_clause
+
 BAD = ["", "d", "x 0", "1", "1 0 2 0", "0 0", "-0 0", "2147483648 0", "d 1", "+1 0", "1 d 0", "D 1 0", "d d 0", "3 0 1 2 0"]
 
 
@@ -70,36 +73,26 @@ class Model:
                 return
 
 
-def drawn_clause(draw, variables, longest):
-    return [draw.choice((-1, 1)) * draw.randint(1, variables) for _ in range(draw.randint(0 if draw.random() < 0.05 else 1, longest))]
-
-
 def line_of(draw, clause, is_deleted=False):
     words = ["d"] * is_deleted + [str(it) for it in clause] + ["0"]
     return draw.choice([" ", " ", " ", "  ", "\t"]).join(words)
 
 
-class Case:
+class Case(fuzzing.Drawn):
     """A formula, a proof, and the verdict of the model."""
 
     def __init__(self, draw):
-        self.draw = draw
+        super().__init__(draw, 0.08)
         self.of_formula = draw.choice([1, 2, 2, 3, 3, 3, 4])
         self.variables = self.of_formula + draw.choice([0, 1, 1, 2])
-        self.formula = [drawn_clause(draw, self.of_formula, 3) for _ in range(draw.randint(1, 3 * self.of_formula + 2))]
+        self.formula = [drawn_clause(draw, self.of_formula, 3, 0.05) for _ in range(draw.randint(1, 3 * self.of_formula + 2))]
         self.any_order = draw.random() < 0.5
         self.model = Model(self.variables, self.formula, self.any_order)
-        self.lines, self.number, self.end, self.has_empty = [], 0, None, False
+        self.end, self.has_empty = None, False
         for _ in range(draw.randint(0, 8)):
             self.step()
         if draw.random() < 0.7:
             self.addition([])
-
-    def put(self, line):
-        while self.draw.random() < 0.08:
-            self.lines.append(self.draw.choice(["", "c 1 0", " c"]))
-        self.lines.append(line)
-        return len(self.lines)
 
     def addition(self, clause):
         at = self.put(line_of(self.draw, clause))
@@ -129,10 +122,10 @@ class Case:
             if self.end is None:
                 self.model.delete(clause)
         else:
-            clause = drawn_clause(draw, self.variables, 4)
+            clause = drawn_clause(draw, self.variables, 4, 0.05)
             for _ in range(draw.choice([0, 5, 5, 20])):
                 if self.end is None and self.model.fault(clause):
-                    clause = drawn_clause(draw, self.variables, 4)
+                    clause = drawn_clause(draw, self.variables, 4, 0.05)
             self.addition(clause)
 
     def verdict(self, text):
@@ -140,9 +133,3 @@ class Case:
         if self.end is None and not self.has_empty:
             self.end = text.count("\n") + 1, "NoEmptyClause"
         return self.end
-
-    def texts(self):
-        ends = self.draw.choice(["\n", "\n", "\n", "\r\n"])
-        proof = ends.join(self.lines) + ends * (self.draw.random() < 0.9)
-        lines = ["p cnf %d %d" % (self.of_formula, len(self.formula)), *(" ".join(map(str, it + [0])) for it in self.formula)]
-        return "\n".join(lines) + "\n", proof
