@@ -30,6 +30,14 @@ class Calling(argparse.ArgumentParser):
         return found
 
 
+def count_and_seed(page, count):
+    """The words of a script [COUNT [SEED]], where COUNT is this one and SEED 1 by default."""
+    call = Calling(page)
+    call.add_argument("count", type=int, nargs="?", default=count)
+    call.add_argument("seed", type=int, nargs="?", default=1)
+    return call.words()
+
+
 def rows_of(words, families, *kinds):
     """FAMILY SIZE .. as rows, each word by its kind; None where they aren't such."""
     width = 1 + len(kinds)

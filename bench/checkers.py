@@ -1,6 +1,6 @@
-"""Runs of programs by their CPU seconds; other programs that judge proofs, and the words of the scripts that call them."""
+"""Other programs that judge proofs, and the words of the scripts that call them."""
 import os
-import resource
+import re
 import shutil
 import subprocess
 import sys
@@ -8,35 +8,18 @@ import tempfile
 
 import calling
 import formulas
+from running import Run, version
 
+# What cadical's proofs are of.
+SUITE = [
+    ("adders", 512), ("adders", 1024), ("comparators", 4000), ("bmc", 2000), ("bands", 4000), ("trees", 20000), ("multipliers", 7),
+    ("pigeons", 8), ("counters", 40), ("intervals", 2000), ("random", 200), ("pigeons_seq", 8),
+]
 PACKAGES = {
     "acl2": "apt-get install acl2 acl2-books (2.4 GB)",
     "cadical": "apt-get install cadical",
     "drat-trim": "apt-get source cadical, then --drat-trim cadical-rel-1.5.3/test/cnf/drat-trim.c",
 }
-
-
-class Run:
-    """The exit code (None at the end of the time), the output, the CPU seconds, and the most memory in MiB."""
-
-    def __init__(self, words, seconds, text=""):
-        limit = lambda: resource.setrlimit(resource.RLIMIT_CPU, (seconds, seconds))
-        with tempfile.TemporaryFile("w+") as given:
-            given.write(text)
-            given.seek(0)
-            child = subprocess.Popen(words, stdin=given, stdout=subprocess.PIPE, stderr=subprocess.STDOUT, text=True, preexec_fn=limit)
-            self.output = child.stdout.read()
-        _, status, used = os.wait4(child.pid, 0)
-        child.returncode = 0  # (it is waited for)
-        self.code = None if os.WIFSIGNALED(status) else os.waitstatus_to_exitcode(status)
-        self.seconds, self.memory = used.ru_utime + used.ru_stime, used.ru_maxrss / 1024
-
-
-def run(words, seconds):
-    """The same of a run that ends by itself, or by the limit of its seconds."""
-    it = Run(words, seconds)
-    assert it.code is not None or it.seconds > 0.9 * seconds, (words, "ended by another signal than that of the limit")
-    return it.code, it.output, it.seconds, it.memory
 
 
 def found(name, given, folder, script):
@@ -54,9 +37,50 @@ def found(name, given, folder, script):
     return path
 
 
-def lines_in(path):
-    with open(path, "rb") as it:
-        return sum(block.count(b"\n") for block in iter(lambda: it.read(1 << 20), b""))
+def find(given, folder, script):
+    """Finds cadical and drat-trim."""
+    given.cadical, given.drat_trim = found("cadical", given.cadical, folder, script), found("drat-trim", given.drat_trim, folder, script)
+
+
+def is_refuted(given):
+    """Whether cadical refutes formula.cnf; its proof is then proof.drat."""
+    return Run([given.cadical, "-q", "--no-binary", "formula.cnf", "proof.drat"], given.seconds).code == 20
+
+
+def of_refutations(page, script, row):
+    """What `row` says of cadical's refutations: it takes the script's words, the name of the formula and the number of its clauses, where
+    formula.cnf and proof.drat are."""
+    given, rows = words(page, cadical={"type": os.path.abspath}), []
+    with tempfile.TemporaryDirectory() as folder:
+        os.chdir(folder)
+        find(given, folder, script)
+        print(f"cadical {version(given.cadical)}")
+        for family, size in given.rows or SUITE:
+            variables, clauses = formulas.made(family, size)
+            formulas.write("formula.cnf", variables, clauses)
+            if is_refuted(given):
+                rows.append(row(given, f"{family} {size}", len(clauses)))
+            else:
+                print(f"{family + ' ' + str(size):>18} {len(clauses):8,} no refutation", flush=True)
+        os.chdir("/")
+    return rows
+
+
+def damage(program, proof, damaged, change, seconds, options=()):
+    """Writes the proof with one line changed, from its middle on, such that the program refuses that very line; returns whether there is
+    one. `change` makes other words of a line's, or none of a line that is to stay."""
+    with open(proof) as it:
+        lines = it.readlines()
+    for at in range(len(lines) // 2, len(lines)):
+        words = change(lines[at].split())
+        if not words:
+            continue
+        with open(damaged, "w") as it:
+            it.writelines([*lines[:at], " ".join(words) + "\n", *lines[at + 1 :]])
+        run = Run([program, "check", "formula.cnf", damaged, *options], seconds)
+        if re.match(rf"c line {at + 1} \w+\ns NOT VERIFIED\n", run.output):
+            return True
+    return False
 
 
 def words(page, **more):

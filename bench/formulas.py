@@ -1,4 +1,4 @@
-"""Formulas of the fields that a user may bring, for bench/search: each by a name and a size, with the answer that is known of it.
+"""Formulas of the fields that a user may bring, for the scripts of bench/: each by a name and a size, with the answer that is known of it.
 
 adders N         a sum of two numbers of N bits by a carry from bit to bit, and by carries that are generated and passed on, is the same
 comparators N    whether a number of N bits is less than another one, from the low end and from the high end, is the same
@@ -73,9 +73,7 @@ class Formula:
 
     def parity(self, literals, bit):
         """The sum of the literals is the bit, modulo 2."""
-        for signs in itertools.product((1, -1), repeat=len(literals)):
-            if signs.count(-1) % 2 != bit:
-                self.add(*(sign * literal for sign, literal in zip(signs, literals)))
+        self.clauses += equation(literals, bit)
 
     def differ(self, a, b):
         gate = self.new()
@@ -132,6 +130,12 @@ class Formula:
                 grown.append(more if number == len(counts) else self.either(counts[number], more))
             counts = grown
         return counts
+
+
+def equation(literals, bit):
+    """The clauses that say that the sum of the literals is the bit, modulo 2."""
+    wrong = (signs for signs in itertools.product((1, -1), repeat=len(literals)) if signs.count(-1) % 2 != bit)
+    return [[sign * literal for sign, literal in zip(signs, literals)] for signs in wrong]
 
 
 def adders(it, size):
@@ -402,8 +406,8 @@ def close_clauses(variables, count, width=10):
         yield " ".join(str(names[first + int(draw() * width)] * (1 if draw() < 0.5 else -1)) for _ in range(3)) + " 0\n"
 
 
-def three_literals(it, variables):
-    draw, inputs = random.Random(variables), it.some(variables)
+def three_literals(it, variables, seed=None):
+    draw, inputs = random.Random(variables if seed is None else seed), it.some(variables)
     for _ in range(round(4.26 * variables)):
         it.add(*(draw.choice((1, -1)) * variable for variable in draw.sample(inputs, 3)))
 
@@ -503,6 +507,19 @@ def gates(it, count):
         it.add(it.either(it.both(a, b), it.both(it.differ(c, d), e)))
 
 
+def random_3sat(variables, seed):
+    """The number of variables and the clauses of another formula of the family `random`."""
+    it = Formula()
+    three_literals(it, variables, seed)
+    return it.variables, it.clauses
+
+
+def two_clauses(literals):
+    """They differ in the sign of their last literal."""
+    front = list(range(1, literals))
+    return literals, [[*front, literals], [*front, -literals]]
+
+
 FAMILIES = {
     "adders": (adders, UNSATISFIABLE),
     "comparators": (comparators, UNSATISFIABLE),
@@ -562,7 +579,13 @@ def made(family, size, seed=0):
     return it.variables, [[names[abs(x) - 1] * (1 if x > 0 else -1) for x in clause] for clause in clauses]
 
 
+def satisfies(answer, clauses):
+    """Whether the values that a solver prints satisfy the clauses."""
+    values = {int(word) for line in answer.splitlines() if line.startswith("v ") for word in line.split()[1:]}
+    return all(any(literal in values for literal in clause) for clause in clauses)
+
+
 def write(path, variables, clauses):
     with open(path, "w") as out:
         out.write(f"p cnf {variables} {len(clauses)}\n")
-        out.writelines(" ".join(map(str, clause)) + " 0\n" for clause in clauses)
+        out.writelines(" ".join(map(str, [*clause, 0])) + "\n" for clause in clauses)

@@ -1,4 +1,5 @@
-"""A small judge of LRAT proofs for the scripts beside it, apart from the program: the rules of docs/FORMATS.md, without its limits."""
+"""A small judge of LRAT proofs for the scripts beside it: the rules of docs/FORMATS.md, without its limits. It shares nothing with the
+program, nor with texts.py, which judges as that page does, with its reasons."""
 import collections
 
 
@@ -74,25 +75,35 @@ class Proof:
         if missing:
             raise Bad(f"candidates {missing} have no group")
 
+    def refutes(self, lines):
+        """Takes the lines. Whether some line has added the empty clause. A line that isn't a good step is raised."""
+        for line in lines:
+            words = line.split()
+            try:
+                if words[1] == "d":
+                    *numbers, end = map(int, words[2:])
+                    if end or not words[0].isdigit() or min(numbers, default=1) < 1:
+                        raise Bad("no number")
+                    for number in numbers:
+                        self.drop(number)
+                else:
+                    number, *rest, end = map(int, words)
+                    cut = rest.index(0)
+                    if end or 0 in rest[cut + 1 :]:
+                        raise Bad("zeros elsewhere")
+                    self.add(number, rest[:cut], rest[cut + 1 :])
+            except (Bad, ValueError, IndexError) as why:
+                raise Bad(line, why) from why
+        return self.has_empty
 
-def refutes(clauses, lines, proof=None):
-    """Whether some line adds the empty clause. A line that isn't a good step is raised."""
-    proof = proof or Proof(clauses)
-    for line in lines:
-        words = line.split()
-        try:
-            if words[1] == "d":
-                *numbers, end = map(int, words[2:])
-                if end or not words[0].isdigit() or min(numbers, default=1) < 1:
-                    raise Bad("no number")
-                for number in numbers:
-                    proof.drop(number)
-            else:
-                number, *rest, end = map(int, words)
-                cut = rest.index(0)
-                if end or 0 in rest[cut + 1 :]:
-                    raise Bad("zeros elsewhere")
-                proof.add(number, rest[:cut], rest[cut + 1 :])
-        except (Bad, ValueError, IndexError) as why:
-            raise Bad(line, why) from why
-    return proof.has_empty
+
+def refutes(clauses, lines):
+    return Proof(clauses).refutes(lines)
+
+
+def judged(path, clauses):
+    """The proof in a file over these clauses, each line of it a good step; and the lines."""
+    with open(path) as text:
+        proof, lines = Proof(clauses), text.readlines()
+    proof.refutes(lines)
+    return proof, lines

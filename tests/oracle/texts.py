@@ -1,5 +1,6 @@
 """The texts of docs/FORMATS.md as the scripts beside it read and judge them, apart from the program: a formula, an order, a schedule, a
 proof; the first refusal, with its line; and the text that tells values. It follows the tables of that page, and isn't made to be fast.
+lrat.py is another judge of LRAT, which shares nothing with this one.
 """
 import itertools
 import re
@@ -19,6 +20,10 @@ class Refused(Exception):
     def __init__(self, kind, line):
         super().__init__(kind, line)
         self.kind, self.line = kind, line
+
+
+class Fault(Exception):
+    """Why an addition of a proof isn't good."""
 
 
 def rows(text, comment):
@@ -186,59 +191,81 @@ def step(row):
     return number, literals, hints[: starts[0]], groups
 
 
-def effect(live, false, hints):
-    """Adds to the false literals what the hints force. True where they reach a conflict, None where not, or what is wrong with one."""
-    for hint in hints:
-        if hint not in live:
-            return "HintNotLive"
-        rest = set(live[hint]) - false
-        if not rest:
-            return True
-        if len(rest) > 1:
-            return "HintNotUnit"
-        false.add(-rest.pop())
-    return None
+class Judge:
+    """The live clauses of a proof. It tells of a good addition which hints and groups it took, and raises why one isn't good."""
+
+    def __init__(self, clauses):
+        self.live, self.top = dict(enumerate(clauses, 1)), len(clauses)
+
+    def chain(self, false, hints):
+        """Adds to the false literals what the hints force. Whether they reach a conflict, and how many were taken."""
+        for at, hint in enumerate(hints):
+            if hint not in self.live:
+                raise Fault("HintNotLive")
+            rest = {literal for literal in self.live[hint] if literal not in false}
+            if not rest:
+                return True, at + 1
+            if len(rest) > 1:
+                raise Fault("HintNotUnit")
+            false.add(-rest.pop())
+        return False, len(hints)
+
+    def cut(self, number, clause, hints, groups):
+        if number <= self.top:
+            raise Fault("IdNotGreater")
+        false = set(clause)
+        closed, taken = self.chain(false, hints)
+        if closed:
+            return hints[:taken], []
+        if not clause:
+            raise Fault("NoConflict")
+        kept, pivot = [], clause[0]
+        for candidate, own in groups:
+            other = self.live.get(candidate, [])
+            if -pivot not in other:
+                raise Fault("GroupStray")
+            if is_blocked(false, pivot, other):
+                kept.append((candidate, []))
+                continue
+            closed, taken = self.chain(false | {it for it in other if it != -pivot}, own)
+            if not closed:
+                raise Fault("CandidateOpen")
+            kept.append((candidate, own[:taken]))
+        named = {candidate for candidate, _ in groups}
+        for candidate, other in self.live.items():
+            if -pivot in other and candidate not in named and not is_blocked(false, pivot, other):
+                raise Fault("CandidateOpen")
+        return hints, kept
+
+    def add(self, number, clause, hints, groups):
+        cut = self.cut(number, clause, hints, groups)
+        self.live[number], self.top = clause, number
+        return cut
+
+    def delete(self, numbers):
+        """Those of the numbers that were live."""
+        return [number for number in numbers if self.live.pop(number, None) is not None]
 
 
-def fault(live, top, number, clause, hints, groups):
-    """Why an addition is bad, or None."""
-    if number <= top:
-        return "IdNotGreater"
-    false = set(clause)
-    outcome = effect(live, false, hints)
-    if outcome:
-        return None if outcome is True else outcome
-    if not clause:
-        return "NoConflict"
-    pivot = clause[0]
-    candidates = {it: set(live[it]) - {-pivot} for it in live if -pivot in live[it]}
-    blocked = {it for it, others in candidates.items() if any(-literal in false for literal in others)}
-    for candidate, own in groups:
-        if candidate not in candidates:
-            return "GroupStray"
-        if candidate not in blocked:
-            outcome = effect(live, false | candidates[candidate], own)
-            if outcome is not True:
-                return outcome or "CandidateOpen"
-    return "CandidateOpen" if set(candidates) - blocked - {candidate for candidate, _ in groups} else None
+def is_blocked(false, pivot, clause):
+    return any(-it in false for it in clause if it != -pivot)
 
 
 def verdict(text, clauses):
     """None where the proof is verified; else the line and the reason of its refusal."""
-    live, top, has_empty = dict(enumerate(clauses, 1)), len(clauses), False
+    judge, has_empty = Judge(clauses), False
     for line, row in rows(text, b"c"):
         taken = step(row)
         if taken is None:
             return line, "Syntax"
         if isinstance(taken, list):
-            for number in taken:
-                live.pop(number, None)
+            judge.delete(taken)
             continue
-        number, clause, hints, groups = taken
-        reason = fault(live, top, number, clause, hints, groups)
-        if reason:
-            return line, reason
-        live[number], top, has_empty = clause, number, has_empty or not clause
+        try:
+            judge.add(*taken)
+        except Fault as why:
+            return line, str(why)
+        has_empty = has_empty or not taken[1]
     return None if has_empty else (end_of(text), "NoEmptyClause")
 
 
