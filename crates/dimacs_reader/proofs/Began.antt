@@ -161,3 +161,12 @@ began_answers r (Refused kind line) text Good r_is began = rw r_is began
 began_answers r TooLong text Good r_is began = rw r_is began
 began_answers r ReadFault text Good r_is began = rw r_is tt
 began_answers r OutOfMemory text Good r_is began = absurd began
+
+-- behind one token more, of which the text and what is good are those of its rest
+pub begins_behind : (answer : Result BodyState CnfError) (before after : CnfText) (Good Better : ℕ → ℕ → Type 0) → before ≡ after
+    → ((vars count : ℕ) → Good vars count → Better vars count) → Begins answer after Good → Begins answer before Better
+begins_behind (Ok state) before after Good Better same better begins = (better state.draft.vars state.count begins.0, begins.1)
+begins_behind (Err (Refused kind line)) before after Good Better same better begins = same ∙ begins
+begins_behind (Err TooLong) before after Good Better same better begins = same ∙ begins
+begins_behind (Err ReadFault) before after Good Better same better begins = tt
+begins_behind (Err OutOfMemory) before after Good Better same better begins = begins

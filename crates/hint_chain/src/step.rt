@@ -13,6 +13,7 @@ use crate::hints::Hints;
 use crate::inline::InlineLiterals;
 use cnf_base::{Id, Lit};
 use lrat_rules::is_among;
+use std::alloc::Global;
 
 /// A node's defining clause between the node and a child: its number, and what the child puts into it.
 #[derive(Clone, Copy)]
@@ -32,26 +33,32 @@ pub struct StepParts {
 }
 
 /// The greedy choice among the parts of a side of which one is a conflict.
-pub fn step_hints(clause: &[Lit], parts: &StepParts) -> Hints
+pub fn step_hints(alloc: Global, clause: &[Lit], parts: &StepParts) -> Hints
     requires short { length clause.now ≤ 4 }
     ensures { (sides : SideParts) → Spells (literals_of clause.now) parts.now sides
         → greedy (literals_of clause.now) (parts_in sides) ≡ Some result }
 {
-    let mut hints = Hints::new();
+    let mut hints = Hints::new(alloc);
     let mut falses = InlineLiterals::<9>::from_slice(clause);
     choose_all(&mut hints, &mut falses, parts);
     hints
 }
 
 /// The same behind a first part, which is the clause with the negation of x before it.
-pub fn step_hints_behind(first: Id, x: Lit, clause: &[Lit], parts: &StepParts) -> Hints
+pub fn step_hints_behind(
+    alloc: Global,
+    first: Id,
+    x: Lit,
+    clause: &[Lit],
+    parts: &StepParts,
+) -> Hints
     requires short { length clause.now ≤ 4 }
     requires new { IsFalse (literals_of clause.now x) }
     requires open { IsFalse (literals_of clause.now (neg_ℤ x)) }
     ensures { (sides : SideParts) → Spells (with_literal x (literals_of clause.now)) parts.now sides
         → greedy (literals_of clause.now) (Some (record { id = first; clause = neg_ℤ x ∷ clause.now }) ∷ parts_in sides) ≡ Some result }
 {
-    let mut hints = Hints::new();
+    let mut hints = Hints::new(alloc);
     hints.push(first);
     let mut falses = InlineLiterals::<9>::from_slice(clause);
     falses.push(x);

@@ -2,11 +2,11 @@
 use Rattle.std.proofs.Common.{◌≡◌, ℕ, ◌+◌, ◌<◌, ◌≤◌, List, [], ◌∷◌, ◌++◌, length, take, drop, Ok, true, arith, refl, sym, ◌∙◌, ap}
 use Rattle.std.proofs.Math.Seq.{take-add}
 use Rattle.std.proofs.lemmas.List.{take_at, length-take, take-append-drop, drop-drop}
-use Rattle.host_io.specs.Channel.{Channel, Reads}
+use Rattle.host_io.specs.Channel.{Channel, Held, Reads}
 
 -- a channel that has read this far in the bytes that were there to be read
 abbrev pub at_position : Channel → List ℕ → ℕ → Channel
-at_position channel input position = record channel { taken = take position input; left = drop position input }
+at_position channel input position = record channel { taken = take position input; left = Held (drop position input) }
 
 empty : (xs : List ℕ) → length xs ≡ 0 → xs ≡ []
 empty [] h = refl
@@ -26,7 +26,9 @@ reads_front channel input position count capacity front rest left fits ends fron
       count = fits;
       taken = λ _. rw (part, front_is) (take-add position count input);
       left = λ _. rw (part, front_is, ← drop-drop count position input) (sym whole);
-      ended = λ _ e some. let none : count ≡ 0 = cc in empty (drop position input) (ends none some);
+      ended = λ _ e some.
+          let none : count ≡ 0 = cc in
+          rw (← drop-drop count position input, none) (empty (drop position input) (ends none some));
       written = refl;
       flushed = refl;
       name = refl;

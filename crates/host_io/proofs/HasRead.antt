@@ -4,13 +4,14 @@ use Rattle.std.proofs.Common.{◌∙◌, ap, length-append, length-drop}
 use Rattle.std.proofs.Math.Seq.{take-append-add}
 use Rattle.std.proofs.lemmas.List.{length-take-le, drop_all, append-nil}
 use borrow.Rule.Slice.PartMut.{put_mid}
-use Rattle.host_io.specs.Channel.{Channel, Reads}
+use Rattle.host_io.specs.Channel.{Channel, Leaves, Reads}
+use Rattle.host_io.specs.Taking.{leaves_then}
 
 -- the first bytes of the buffer, this many, were read
 pub record HasRead (tells : Bool) (old new : Channel) (buffer : List ℕ) (done : ℕ) : Type 0 where
   pub within : done ≤ length buffer
   pub taken : IsTrue tells → new.taken ≡ old.taken ++ take done buffer
-  pub left : IsTrue tells → old.left ≡ take done buffer ++ new.left
+  pub left : IsTrue tells → Leaves old.left (take done buffer) new.left
   pub written : new.written ≡ old.written
   pub flushed : new.flushed ≡ old.flushed
   pub name : new.name ≡ old.name
@@ -27,7 +28,7 @@ more_read tells old mid new buffer rest done capacity n so_far long step =
     record {
       within = omega (arith, step.count, so_far.within);
       taken = λ t. step.taken t ∙ rw (so_far.taken t, parts) (append_assoc old.taken (take done buffer) (take n rest));
-      left = λ t. so_far.left t ∙ rw (step.left t, parts) (sym (append_assoc (take done buffer) (take n rest) new.left));
+      left = λ t. rw parts (leaves_then old.left mid.left new.left (take done buffer) (take n rest) (so_far.left t) (step.left t));
       written = step.written ∙ so_far.written;
       flushed = step.flushed ∙ so_far.flushed;
       name = step.name ∙ so_far.name;

@@ -3,7 +3,7 @@ use Rattle.std.proofs.Common.{◌≡◌, ◌≢◌, ℕ, Bool, true, false, cond
 use Rattle.std.proofs.lemmas.Slice.Eq.{bytes_eq-Decides}
 use Rattle.host_io.specs.declared.role.Role.{Role}
 use Rattle.host_io.specs.Channel.{Channel}
-use Rattle.host_io.specs.Files.{Files, same_role, Others, FilesBut, Kept}
+use Rattle.host_io.specs.Files.{Files, Stored, same_role, Others, FilesBut, Kept}
 use Rattle.host_io.specs.Beside.{Rest, IsBack, KeepsBeside, is_named, others_of, files_but, beside_role}
 
 named : (own : Option (List ℕ)) (file : List ℕ) → is_named own file ≡ true → own ≡ Some file
@@ -34,7 +34,7 @@ abbrev others_in : Option Rest → Role → Option Channel
 others_in None other = None
 others_in (Some rest) other = rest.others other
 
-abbrev files_in : Option Rest → List ℕ → Option (Option (List ℕ))
+abbrev files_in : Option Rest → List ℕ → Option Stored
 files_in None file = None
 files_in (Some rest) file = rest.files file
 

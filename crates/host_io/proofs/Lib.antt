@@ -1,4 +1,5 @@
 pub mod Added
+pub mod Connected
 pub mod Emitting
 pub mod Front
 pub mod HasRead

@@ -3,7 +3,7 @@ use Rattle.std.specs.Prelude.{◌≡◌, ℕ, List, [], ◌∷◌, Bool, false, 
 use Rattle.std.specs.Str.{bytes_eq}
 use Rattle.host_io.specs.declared.role.Role.{Role}
 use Rattle.host_io.specs.Channel.{Channel}
-use Rattle.host_io.specs.Files.{Files, Kept, same_role}
+use Rattle.host_io.specs.Files.{Files, Stored, Kept, same_role}
 
 -- The role of a host that is lent, the name that it has, and the rest of the host: the channels of the other
 -- roles, and the files but its own one, where it created one.
@@ -11,7 +11,7 @@ pub record Rest : Type 0 where
   pub role : Role
   pub name : Option (List ℕ)
   pub others : Role → Option Channel
-  pub files : List ℕ → Option (Option (List ℕ))
+  pub files : List ℕ → Option Stored
 
 -- The names of the references through which the object is lent, from the outermost on, and the rest of it: none
 -- where the object is no host.
@@ -29,7 +29,7 @@ abbrev pub others_of : Role → (Role → Channel) → Role → Option Channel
 others_of role channels other = (if same_role other role then None else Some (channels other))
 
 -- the files but the one of this name
-abbrev pub files_but : Option (List ℕ) → Files → List ℕ → Option (Option (List ℕ))
+abbrev pub files_but : Option (List ℕ) → Files → List ℕ → Option Stored
 files_but own files file = (if is_named own file then None else Some (files file))
 
 -- what is beside one role of a host whose own file has the name `own`

@@ -1,9 +1,34 @@
 -- What the outside tells of one role: a stream that is read, or one that is written.
 -- `read`, `write` and `flush` are described here once, for a source, a sink and a role of a host alike. (They are those
 -- of Rust's `std::io::Read` and `Write`.)
-use Rattle.std.specs.Prelude.{◌≡◌, ℕ, ◌+◌, ◌-◌, ◌^◌, ◌<◌, ◌≤◌, min, Bool, List, [], ◌++◌, length, take, drop, Option, Result, Ok, Err}
-use Rattle.std.specs.Prelude.{IsTrue, IsOk, IsErr, IfOk}
+use Rattle.std.specs.Prelude.{◌≡◌, ℕ, ◌+◌, ◌-◌, ◌^◌, ◌<◌, ◌≤◌, min, Bool, List, [], ◌++◌, length, take, Option, Result, Ok, Err}
+use Rattle.std.specs.Prelude.{IsTrue, IsOk, IsErr, IfOk, ⊤}
 use Rattle.host_io.specs.declared.source.Failed.{Failed}
+
+-- What is left of a stream: these bytes, or, where that can't be told, something that the end was not met behind yet, or
+-- nothing, since the end was met.
+pub data Left : Type 0 where
+  Held : List ℕ → Left
+  Unmet : Left
+  Met : Left
+
+-- nothing is left
+abbrev pub IsOver : Left → Type 0
+IsOver (Held bytes) = bytes ≡ []
+IsOver Unmet = ⊥
+IsOver Met = ⊤
+
+-- From what was left these bytes were taken, and this is left. (Bytes are taken before the end alone, and what was held is known.)
+abbrev pub Leaves : Left → List ℕ → Left → Type 0
+Leaves (Held bytes) gained (Held rest) = bytes ≡ gained ++ rest
+Leaves (Held bytes) gained Unmet = ⊥
+Leaves (Held bytes) gained Met = ⊥
+Leaves Unmet gained (Held rest) = ⊥
+Leaves Unmet gained Unmet = ⊤
+Leaves Unmet gained Met = ⊤
+Leaves Met gained (Held rest) = ⊥
+Leaves Met gained Unmet = ⊥
+Leaves Met gained Met = gained ≡ []
 
 -- The meanings of a role. The name is that of the file that it was opened or created under, none at first.
 -- Bytes are listed from the first on; `flushed` counts those of `written` that the last flush that succeeded covered.
@@ -11,9 +36,13 @@ pub record Channel : Type 0 where
   pub name : Option (List ℕ)
   pub faults : ℕ
   pub taken : List ℕ
-  pub left : List ℕ
+  pub left : Left
   pub written : List ℕ
   pub flushed : ℕ
+
+-- What more of the stream there may be behind what was taken: nothing where nothing is left.
+abbrev pub MayFollow : Channel → List ℕ → Type 0
+MayFollow channel more = IsOver channel.left → more ≡ []
 
 -- A count of faults rose: it is greater now, or stands at the end of its type. Later rises keep this true.
 abbrev pub Rose : ℕ → ℕ → Type 0
@@ -35,8 +64,8 @@ pub record Counts {T : Type 0} (old new : Channel) (result : Result T Failed) : 
 pub record Reads (tells : Bool) (old new : Channel) (capacity : ℕ) (buffer : List ℕ) (result : Result ℕ Failed) : Type 0 where
   pub count : IfOk result (λ n. n ≤ capacity)
   pub taken : IsTrue tells → new.taken ≡ old.taken ++ take (moved result) buffer
-  pub left : IsTrue tells → old.left ≡ take (moved result) buffer ++ new.left
-  pub ended : IsTrue tells → result ≡ Ok 0 → 0 < capacity → old.left ≡ []
+  pub left : IsTrue tells → Leaves old.left (take (moved result) buffer) new.left
+  pub ended : IsTrue tells → result ≡ Ok 0 → 0 < capacity → IsOver new.left
   pub written : new.written ≡ old.written
   pub flushed : new.flushed ≡ old.flushed
   pub name : new.name ≡ old.name
@@ -89,9 +118,9 @@ pub record Puts {T : Type 0} (tells : Bool) (old new : Channel) (piece : List �
 pub record Fills (tells : Bool) (old new : Channel) (capacity : ℕ) (buffer : List ℕ) (result : Result ℕ Failed) : Type 0 where
   pub count : IfOk result (λ n. n ≤ capacity)
   pub taken : IsTrue tells → IsOk result → new.taken ≡ old.taken ++ take (moved result) buffer
-  pub left : IsTrue tells → IsOk result → old.left ≡ take (moved result) buffer ++ new.left
-  pub ended : IsTrue tells → IfOk result (λ n. n < capacity → new.left ≡ [])
-  pub failed : IsTrue tells → IsErr result → (n : ℕ) × (new.taken ≡ old.taken ++ take n old.left) × (new.left ≡ drop n old.left)
+  pub left : IsTrue tells → IsOk result → Leaves old.left (take (moved result) buffer) new.left
+  pub ended : IsTrue tells → IfOk result (λ n. n < capacity → IsOver new.left)
+  pub failed : IsTrue tells → IsErr result → (gained : List ℕ) × (new.taken ≡ old.taken ++ gained) × Leaves old.left gained new.left
   pub written : new.written ≡ old.written
   pub flushed : new.flushed ≡ old.flushed
   pub name : new.name ≡ old.name

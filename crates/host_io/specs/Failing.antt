@@ -4,7 +4,7 @@ use Rattle.std.specs.List.{list_any}
 use Rattle.host_io.specs.declared.source.Failed.{Failed}
 use Rattle.host_io.specs.declared.role.Role.{Role}
 use Rattle.host_io.specs.Channel.{Channel}
-use Rattle.host_io.specs.Files.{Files, code_of, same_role}
+use Rattle.host_io.specs.Files.{Files, Texts, code_of, same_role}
 use Rattle.host_io.specs.Memory as memory
 
 pub record Failing : Type 0 where
@@ -16,8 +16,11 @@ pub record Failing : Type 0 where
 abbrev pub channel_of : Failing → Role → Channel
 channel_of host = memory.channel_of host.base
 
-abbrev pub files_of : Failing → Files
+abbrev pub files_of : Failing → Texts
 files_of host = memory.files_of host.base
+
+abbrev pub told_files : Failing → Files
+told_files host = memory.told_files host.base
 
 -- how many calls of this role there were
 abbrev pub calls_of : Failing → Role → ℕ

@@ -1,10 +1,10 @@
 -- What a host keeps of its other roles and of its files in a call of one role, and what opening and creating do.
-use Rattle.std.specs.Prelude.{◌≡◌, ◌≢◌, ◌⊎◌, ℕ, Bool, List, [], Option, None, Some, Result, IsFalse, IsOk, IsErr, ◌==◌, ⊤}
+use Rattle.std.specs.Prelude.{◌≡◌, ◌≢◌, ◌⊎◌, ℕ, Bool, List, [], Option, None, Some, Result, IsFalse, IsOk, IsErr, ◌==◌, ◌++◌, ⊤}
 use Rattle.std.specs.Coded.{Unit-prop}
 use Rattle.host_io.specs.declared.source.Failed.{Failed}
 use Rattle.host_io.specs.declared.role.Role.{Role}
 use Rattle.host_io.specs.declared.role.Role.TheVariants.{Cnf, Order, Buckets, Schedule, ProofIn, Cubes, ProofOut, Made, Out, Err}
-use Rattle.host_io.specs.Channel.{Channel, Counts}
+use Rattle.host_io.specs.Channel.{Channel, Counts, Left, Held, Unmet, MayFollow}
 
 -- the number of a role, by which two roles are told apart
 abbrev pub code_of : Role → ℕ
@@ -97,9 +97,37 @@ IsWritable-prop Made name = ¬-prop
 IsWritable-prop Out name = Unit-prop
 IsWritable-prop Err name = Unit-prop
 
--- the files of a host: what stands under a name
+-- What a host tells of a file: nothing, that there is none of this name, or its bytes.
+pub data Stored : Type 0 where
+  Untold : Stored
+  Missing : Stored
+  Holding : List ℕ → Stored
+
+-- what a host tells of the files by their names
 abbrev pub Files : Type 0
-Files = List ℕ → Option (List ℕ)
+Files = List ℕ → Stored
+
+-- what the files hold, by their names
+abbrev pub Texts : Type 0
+Texts = List ℕ → Option (List ℕ)
+
+-- a host that tells all of a file that is there or isn't
+abbrev pub stored_as : Option (List ℕ) → Stored
+stored_as None = Missing
+stored_as (Some bytes) = Holding bytes
+
+-- A file of which this is told was opened, and this is left of it.
+abbrev pub Offers : Stored → Left → Type 0
+Offers Untold left = left ≡ Unmet
+Offers Missing left = ⊥
+Offers (Holding bytes) left = left ≡ Held bytes
+
+-- What a file holds agrees with what a host tells of it, and with the bytes that were taken from it in this channel: those stand
+-- at its front, and where nothing is left they are all.
+abbrev pub Agrees : Stored → Channel → List ℕ → Option (List ℕ) → Type 0
+Agrees Untold channel taken text = (more : List ℕ) × MayFollow channel more × (text ≡ Some (taken ++ more))
+Agrees Missing channel taken text = text ≡ None
+Agrees (Holding bytes) channel taken text = text ≡ Some bytes
 
 -- A call of one role changes nothing of another's.
 abbrev pub Others : Role → (Role → Channel) → (Role → Channel) → Type 0

@@ -1,6 +1,6 @@
 -- A stream of which nothing is ever told, and that lends no object.
 use Rattle.std.specs.Prelude.{[], None}
-use Rattle.host_io.specs.Channel.{Channel}
+use Rattle.host_io.specs.Channel.{Channel, Held}
 use Rattle.host_io.specs.Beside.{Beside}
 
 abbrev pub idle_channel : Channel
@@ -8,7 +8,7 @@ idle_channel = record {
   name = None;
   faults = 0;
   taken = [];
-  left = [];
+  left = Held [];
   written = [];
   flushed = 0;
 }

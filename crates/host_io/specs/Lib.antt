@@ -1,9 +1,11 @@
 pub mod Channel
+pub mod Taking
 pub mod Files
 pub mod Beside
 pub mod Memory
 pub mod Failing
 pub mod Real
+pub mod Reach
 pub mod Port
 pub mod Connection
 pub mod Slice

@@ -3,8 +3,8 @@ use Rattle.std.specs.Prelude.{◌≡◌, ◌≢◌, ℕ, ◌+◌, ◌-◌, ◌^�
 use Rattle.std.specs.Str.{bytes_eq}
 use Rattle.host_io.specs.declared.role.Role.{Role}
 use Rattle.host_io.specs.declared.role.Role.TheVariants.{ProofOut, Made}
-use Rattle.host_io.specs.Channel.{Channel}
-use Rattle.host_io.specs.Files.{Files, code_of, IsNamedFirst, IsIdle}
+use Rattle.host_io.specs.Channel.{Channel, Held}
+use Rattle.host_io.specs.Files.{Files, Texts, stored_as, code_of, IsNamedFirst, IsIdle}
 use Rattle.host_io.specs.Beside.{is_named}
 
 pub record Memory : Type 0 where
@@ -13,7 +13,7 @@ pub record Memory : Type 0 where
 
 -- a role that was not met yet
 abbrev pub fresh : Channel
-fresh = record { name = None; faults = 0; taken = []; left = []; written = []; flushed = 0 }
+fresh = record { name = None; faults = 0; taken = []; left = Held []; written = []; flushed = 0 }
 
 -- a fault more in this role
 abbrev pub faulted : Channel → Channel
@@ -38,8 +38,12 @@ abbrev pub created : Channel → List ℕ → Option (List ℕ) → Option (List
 created channel name rest = (if is_named channel.name name then Some channel.written else rest)
 
 -- A created file is what was written. (Where both roles have one name, it is Made's.)
-abbrev pub files_of : Memory → Files
+abbrev pub files_of : Memory → Texts
 files_of memory name = created (channel_of memory Made) name (created (channel_of memory ProofOut) name (stored memory.files name))
+
+-- what the host tells of them: all
+abbrev pub told_files : Memory → Files
+told_files memory name = stored_as (files_of memory name)
 
 -- no role has a name
 abbrev pub IsUnnamed : Memory → Type 0

@@ -1,12 +1,13 @@
--- What a host over the real system tells: what the device of each role reaches, which bytes passed there, and counts of
--- faults. What is left to be read, and what a file holds, it can't tell.
-use Rattle.std.specs.Prelude.{◌≡◌, ℕ, ◌+◌, ◌-◌, ◌^◌, ◌==◌, ◌&&◌, min, Bool, false, not, List, [], ◌++◌, length, take}
-use Rattle.std.specs.Prelude.{Option, None, Some, Result, IsFalse, IsOk, IsErr, IfSome, MatchResult, slice_index_or, ⊤}
+-- What a host over the real system tells: what the device of each role reaches, which bytes passed there, whether its end was
+-- met, counts of faults, and all that the system was asked for. What a file holds it can't tell.
+use Rattle.std.specs.Prelude.{◌≡◌, ◌⊎◌, ℕ, ◌+◌, ◌-◌, ◌^◌, ◌<◌, ◌==◌, ◌&&◌, ◌||◌, min, Bool, false, not, if◌then◌else◌, ⊤}
+use Rattle.std.specs.Prelude.{List, [], ◌++◌, length, take, slice_index_or, All, codes}
+use Rattle.std.specs.Prelude.{Option, None, Some, option_to_list, Result, IsFalse, IsOk, IsErr, IfSome, MatchResult}
 use Rattle.host_io.specs.declared.source.Failed.{Failed}
 use Rattle.host_io.specs.declared.role.Role.{Role}
 use Rattle.host_io.specs.declared.role.Role.TheVariants.{Cnf, Order, Buckets, Schedule, ProofIn, Cubes, ProofOut, Made, Out, Err}
-use Rattle.host_io.specs.Channel.{Channel}
-use Rattle.host_io.specs.Files.{Files, code_of, same_role, IsInput, IsCreated}
+use Rattle.host_io.specs.Channel.{Channel, Met, Unmet}
+use Rattle.host_io.specs.Files.{Files, Untold, code_of, same_role, IsInput, IsCreated}
 
 -- What a device reaches: the file of this name, opened to be read or created to be written, or a standard stream.
 pub data Target : Type 0 where
@@ -23,7 +24,7 @@ name_of (Some (Created name)) = Some name
 name_of (Some StandardOutput) = None
 name_of (Some StandardError) = None
 
--- The bytes that were taken from a device, whether the last read met its end, the bytes that were written to it, and those
+-- The bytes that were taken from a device, whether a read met its end, the bytes that were written to it, and those
 -- of them that the last flush covered. (Calls that failed are left out.)
 pub record Traffic : Type 0 where
   pub taken : List ℕ
@@ -40,6 +41,11 @@ pub record Connected : Type 0 where
 pub record Counted : Type 0 where
   pub device : Connected
   pub faults : ℕ
+
+-- a host over the real system: its roles, and what it asked the system for, in order
+pub record Hosted : Type 0 where
+  pub roles : List Counted
+  pub made : List Target
 
 -- no byte passed yet
 abbrev pub no_traffic : Traffic
@@ -61,9 +67,12 @@ more count n = min (count + n) (2 ^ 64 - 1)
 abbrev pub missed : Counted → Counted
 missed role = record role { faults = more role.faults 1 }
 
--- So many bytes at the front of the buffer were taken. It is the end where there are none, though there was room.
+-- So many bytes at the front of the buffer were taken. It is the end where there are none, though there was room, and stays so.
 abbrev pub took : List ℕ → ℕ → Traffic → Traffic
-took buffer n traffic = record traffic { taken = traffic.taken ++ take n buffer; ended = (n == 0) && not (length buffer == 0) }
+took buffer n traffic = record traffic {
+  taken = traffic.taken ++ take n buffer;
+  ended = traffic.ended || (n == 0) && not (length buffer == 0);
+}
 
 -- so many bytes at the front of the piece were written
 abbrev pub wrote : List ℕ → ℕ → Traffic → Traffic
@@ -77,24 +86,31 @@ all_flushed traffic = record traffic { flushed = traffic.written }
 abbrev pub Passes : {T : Type 0} → (T → Traffic → Traffic) → Traffic → Traffic → Result T Failed → Type 0
 Passes change old new result = MatchResult result (λ value. new ≡ change value old) (λ _. new ≡ old)
 
--- The channel that tells no byte. A role's name is that of the file that its device reaches.
-abbrev pub quiet : Counted → Channel
-quiet role = record { name = name_of role.device.target; faults = role.faults; taken = []; left = []; written = []; flushed = 0 }
+-- What a role tells of its device. Its name is that of the file that the device reaches.
+abbrev pub told : Counted → Channel
+told role = record {
+  name = name_of role.device.target;
+  faults = role.faults;
+  taken = role.device.traffic.taken;
+  left = (if role.device.traffic.ended then Met else Unmet);
+  written = role.device.traffic.written;
+  flushed = length role.device.traffic.flushed;
+}
 
-abbrev pub counted_of : List Counted → Role → Counted
-counted_of roles role = slice_index_or roles (code_of role) unmet
+abbrev pub counted_of : Hosted → Role → Counted
+counted_of host role = slice_index_or host.roles (code_of role) unmet
 
-abbrev pub device_of : List Counted → Role → Connected
-device_of roles role = (counted_of roles role).device
+abbrev pub device_of : Hosted → Role → Connected
+device_of host role = (counted_of host role).device
 
-abbrev pub traffic_of : List Counted → Role → Traffic
-traffic_of roles role = (device_of roles role).traffic
+abbrev pub traffic_of : Hosted → Role → Traffic
+traffic_of host role = (device_of host role).traffic
 
-abbrev pub quiet_channel : List Counted → Role → Channel
-quiet_channel roles role = quiet (counted_of roles role)
+abbrev pub channel_of : Hosted → Role → Channel
+channel_of host role = told (counted_of host role)
 
-abbrev pub quiet_files : List Counted → Files
-quiet_files roles name = None
+abbrev pub untold_files : Hosted → Files
+untold_files host name = Untold
 
 -- What a role may reach: an input a file that was opened, a created role one that was created, and standard output
 -- and standard error the stream of their name.
@@ -109,11 +125,26 @@ abbrev pub Reaches : Role → Option Target → Type 0
 Reaches role None = ⊥
 Reaches role (Some target) = MayReach role target
 
+-- A role may reach this target, and reaches it, or else it has counted a fault.
+pub record Wants (role : Role) (counted : Counted) (target : Target) : Type 0 where
+  pub may : MayReach role target
+  pub reached : (counted.device.target ≡ Some target) ⊎ (0 < counted.faults)
+
+-- what a host holds from its start on: a file that is opened to be read, so that it refuses each write
+abbrev pub IsHeld : Target → Type 0
+IsHeld target = target ≡ Opened (codes "/dev/null")
+
+-- The system was asked for this to hold it, or for a role.
+abbrev pub IsWanted : Hosted → Target → Type 0
+IsWanted host target = IsHeld target ⊎ ((role : Role) × Wants role (counted_of host role) target)
+
 -- There is a device for each role. It reaches nothing that the role may not, and no byte passed before it reached something.
-pub record IsConnected (roles : List Counted) : Type 0 where
-  pub all : length roles ≡ 10
-  pub fits : (role : Role) → IfSome (device_of roles role).target (MayReach role)
-  pub idle : (role : Role) → (device_of roles role).target ≡ None → traffic_of roles role ≡ no_traffic
+-- The system was asked for nothing else.
+pub record IsConnected (host : Hosted) : Type 0 where
+  pub all : length host.roles ≡ 10
+  pub fits : (role : Role) → IfSome (device_of host role).target (MayReach role)
+  pub idle : (role : Role) → (device_of host role).target ≡ None → traffic_of host role ≡ no_traffic
+  pub wanted : All (IsWanted host) host.made
 
 -- a file that was opened is reached, so that it can be read
 abbrev pub IsSource : Option Target → Type 0
@@ -149,6 +180,12 @@ abbrev pub or_standard : Role → Option Target → Option Target
 or_standard role None = standard role
 or_standard role (Some target) = Some target
 
+-- What the system is asked for where a role of this target is to be written: its standard stream, where it has one and has not
+-- taken it yet.
+unfoldable pub begun : Role → Option Target → List Target
+begun role None = option_to_list (standard role)
+begun role (Some target) = []
+
 -- A role opens or creates its file, at which nothing passed yet. Where that fails it counts a fault.
 abbrev pub Joins : {T : Type 0} → Target → Counted → Counted → Result T Failed → Type 0
 Joins target old new result =
@@ -161,11 +198,11 @@ Begins role old new result =
     (λ _. new ≡ missed old)
 
 -- A call of one role changes no other's device, name or count.
-abbrev pub OthersCounted : Role → List Counted → List Counted → Type 0
+abbrev pub OthersCounted : Role → Hosted → Hosted → Type 0
 OthersCounted role old new = (other : Role) → IsFalse (same_role other role) → counted_of new other ≡ counted_of old other
 
 -- Opening or creating in a role: where it succeeds, its device reaches this file. No byte passes anywhere.
-pub record Connects {T : Type 0} (role : Role) (target : Target) (old new : List Counted) (result : Result T Failed) : Type 0 where
+pub record Connects {T : Type 0} (role : Role) (target : Target) (old new : Hosted) (result : Result T Failed) : Type 0 where
   pub reached : IsOk result → (device_of new role).target ≡ Some target
   pub failed : IsErr result → (device_of new role).target ≡ (device_of old role).target
   pub traffic : traffic_of new role ≡ traffic_of old role
@@ -173,13 +210,13 @@ pub record Connects {T : Type 0} (role : Role) (target : Target) (old new : List
 
 -- A read or a write of one role: the bytes that it answers pass at the role's device, which reaches what the role may
 -- reach, and none pass at another's.
-pub record Moves (role : Role) (change : ℕ → Traffic → Traffic) (old new : List Counted) (result : Result ℕ Failed) : Type 0 where
+pub record Moves (role : Role) (change : ℕ → Traffic → Traffic) (old new : Hosted) (result : Result ℕ Failed) : Type 0 where
   pub reached : IsOk result → Reaches role (device_of new role).target
   pub passed : Passes change (traffic_of old role) (traffic_of new role) result
   pub others : OthersCounted role old new
 
 -- A flush of one role: where it succeeds, all that was written to its device is flushed. No byte passes anywhere.
-pub record FlushesDevice {T : Type 0} (role : Role) (old new : List Counted) (result : Result T Failed) : Type 0 where
+pub record FlushesDevice {T : Type 0} (role : Role) (old new : Hosted) (result : Result T Failed) : Type 0 where
   pub target : (device_of new role).target ≡ (device_of old role).target
   pub passed : Passes (λ _. all_flushed) (traffic_of old role) (traffic_of new role) result
   pub others : OthersCounted role old new

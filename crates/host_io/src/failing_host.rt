@@ -4,9 +4,9 @@ ghost use Rattle.std.specs.Prelude.{◌≡◌, ◌<◌, ◌≤◌, ◌≢◌, tr
 ghost use Rattle.std.specs.Option.{option_copied};
 ghost use Rattle.host_io.specs.declared.role.Role.{Role};
 ghost use Rattle.host_io.specs.Channel.{Channel, Reads, Writes, Flushes};
-ghost use Rattle.host_io.specs.Files.{IsInput, IsCreated, IsWritable, Kept, Opens, same_role};
+ghost use Rattle.host_io.specs.Files.{Offers, IsInput, IsCreated, IsWritable, Kept, Opens, same_role};
 ghost use Rattle.host_io.specs.Memory as memory;
-ghost use Rattle.host_io.specs.Failing.{Failing, GoesByPlan, channel_of, files_of, calls_of, next_call, is_listed};
+ghost use Rattle.host_io.specs.Failing.{Failing, GoesByPlan, channel_of, files_of, told_files, calls_of, next_call, is_listed};
 
 use crate::host::Host;
 use crate::memory_host::MemoryHost;
@@ -84,7 +84,7 @@ impl FailingHost {
         ensures ok { OnOk result (self.new.base ≡ self.old.base) }
         ensures err { OnErr result (channel_of self.new role ≡ memory.faulted (channel_of self.old role)) }
         ensures no_less { (channel_of self.old role).faults ≤ (channel_of self.new role).faults }
-        ensures kept { Kept role None (channel_of self.old) (channel_of self.new) (files_of self.old) (files_of self.new) }
+        ensures kept { Kept role None (channel_of self.old) (channel_of self.new) (told_files self.old) (told_files self.new) }
         ensures some { 0 < self.new.piece }
     {
         let number = self.calls[place(role)].saturating_add(1);
@@ -101,7 +101,7 @@ impl Host for FailingHost {
 
     ghost channel = { channel_of };
 
-    ghost files = { files_of };
+    ghost files = { told_files };
 
     #[inline(always)]
     fn unnamed_law(&self) {
@@ -112,8 +112,8 @@ impl Host for FailingHost {
         requires input { IsInput role }
         requires unnamed { (channel_of self.old role).name ≡ None }
         ensures opens { Opens (channel_of self.old role) (channel_of self.new role) name.now result }
-        ensures content { OnOk result (files_of self.old name.now ≡ Some (channel_of self.new role).left) }
-        ensures kept { Kept role None (channel_of self.old) (channel_of self.new) (files_of self.old) (files_of self.new) }
+        ensures content { OnOk result (Offers (told_files self.old name.now) (channel_of self.new role).left) }
+        ensures kept { Kept role None (channel_of self.old) (channel_of self.new) (told_files self.old) (told_files self.new) }
         ensures plan { GoesByPlan self.old self.new role result }
     {
         self.unnamed_law();
@@ -125,8 +125,8 @@ impl Host for FailingHost {
         requires created { IsCreated role }
         requires unnamed { (channel_of self.old role).name ≡ None }
         ensures opens { Opens (channel_of self.old role) (channel_of self.new role) name.now result }
-        ensures kept { Kept role (channel_of self.new role).name (channel_of self.old) (channel_of self.new) (files_of self.old)
-            (files_of self.new) }
+        ensures kept { Kept role (channel_of self.new role).name (channel_of self.old) (channel_of self.new) (told_files self.old)
+            (told_files self.new) }
         ensures plan { GoesByPlan self.old self.new role result }
     {
         self.unnamed_law();
@@ -138,7 +138,7 @@ impl Host for FailingHost {
         requires input { IsInput role }
         requires opened { (channel_of self.old role).name ≢ None }
         ensures reads { Reads true (channel_of self.old role) (channel_of self.new role) (length buf.old) buf.new result }
-        ensures kept { Kept role None (channel_of self.old) (channel_of self.new) (files_of self.old) (files_of self.new) }
+        ensures kept { Kept role None (channel_of self.old) (channel_of self.new) (told_files self.old) (told_files self.new) }
         ensures plan { GoesByPlan self.old self.new role result }
         ensures planned { IsErr result → IsTrue (is_listed role (next_call self.old role) self.old.fails) }
         ensures piece { IfOk result (λ n. n ≤ self.old.piece) }
@@ -151,8 +151,8 @@ impl Host for FailingHost {
     fn write(&mut self, role: Role, bytes: &[u8]) -> Result<usize, Failed>
         requires { IsWritable role (channel_of self.old role).name }
         ensures writes { Writes true (channel_of self.old role) (channel_of self.new role) bytes.now result }
-        ensures kept { Kept role (channel_of self.old role).name (channel_of self.old) (channel_of self.new) (files_of self.old)
-            (files_of self.new) }
+        ensures kept { Kept role (channel_of self.old role).name (channel_of self.old) (channel_of self.new) (told_files self.old)
+            (told_files self.new) }
         ensures plan { GoesByPlan self.old self.new role result }
         ensures piece { IfOk result (λ n. n ≤ self.old.piece) }
     {
@@ -164,8 +164,8 @@ impl Host for FailingHost {
     fn flush(&mut self, role: Role) -> Result<(), Failed>
         requires { IsWritable role (channel_of self.old role).name }
         ensures flushes { Flushes true (channel_of self.old role) (channel_of self.new role) result }
-        ensures kept { Kept role (channel_of self.old role).name (channel_of self.old) (channel_of self.new) (files_of self.old)
-            (files_of self.new) }
+        ensures kept { Kept role (channel_of self.old role).name (channel_of self.old) (channel_of self.new) (told_files self.old)
+            (told_files self.new) }
         ensures plan { GoesByPlan self.old self.new role result }
         ensures planned { IsErr result → IsTrue (is_listed role (next_call self.old role) self.old.fails) }
     {

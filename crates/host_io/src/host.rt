@@ -2,7 +2,7 @@
 ghost use Rattle.std.specs.Prelude.{◌≡◌, ◌≢◌, Bool, None, Some, length, IsTrue, OnOk};
 ghost use Rattle.host_io.specs.declared.role.Role.{Role};
 ghost use Rattle.host_io.specs.Channel.{Channel, Reads, Writes, Flushes};
-ghost use Rattle.host_io.specs.Files.{Files, IsInput, IsCreated, IsNamedFirst, IsWritable, IsIdle, Kept, Opens};
+ghost use Rattle.host_io.specs.Files.{Files, Offers, IsInput, IsCreated, IsNamedFirst, IsWritable, IsIdle, Kept, Opens};
 
 use crate::role::Role;
 use crate::source::Failed;
@@ -28,7 +28,7 @@ pub trait Host {
         requires input { IsInput role }
         requires unnamed { (channel self.old role).name ≡ None }
         ensures opens { Opens (channel self.old role) (channel self.new role) name.now result }
-        ensures content { IsTrue tells → OnOk result (files self.old name.now ≡ Some (channel self.new role).left) }
+        ensures content { IsTrue tells → OnOk result (Offers (files self.old name.now) (channel self.new role).left) }
         ensures kept { Kept role None (channel self.old) (channel self.new) (files self.old) (files self.new) };
 
     /// Creates the file of this name, to be written in this role.

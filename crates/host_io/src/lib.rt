@@ -3,8 +3,8 @@
 //! the bytes that were taken, are left, were written and are flushed, names of files, and counts of faults: a
 //! failed call raises its role's count and moves nothing, and no other call raises it. `MemoryHost` keeps its files
 //! in memory and tells all; so does `SliceSource`, a source of bytes in memory. `RealHost` meets the system; it tells
-//! names, counts, and which bytes passed where, and the system is trusted for the files (`port`). `NoSink` drops what is
-//! written to it. `emit` collects a text in a small buffer before its sink. Stands on nothing.
+//! names, counts, which bytes passed where, and all that the system was asked for, and the system is trusted for the files
+//! (`port`). `NoSink` drops what is written to it. `emit` collects a text in a small buffer before its sink. Stands on nothing.
 #![tactic(auto)]
 
 mod client;
@@ -16,9 +16,11 @@ mod host_source;
 mod law;
 mod lent;
 mod log;
+mod made;
 mod memory_host;
 mod no_sink;
 mod port;
+mod reach;
 mod real_host;
 mod real_role;
 mod role;

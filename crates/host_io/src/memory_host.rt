@@ -6,7 +6,7 @@ ghost use Rattle.host_io.specs.declared.role.Role.{Role};
 ghost use Rattle.host_io.specs.declared.role.Role.TheVariants.{ProofOut, Made};
 ghost use Rattle.host_io.specs.Channel.{Channel, Reads, Writes, Flushes};
 ghost use Rattle.host_io.specs.Files.{IsInput, IsWritable, Kept};
-ghost use Rattle.host_io.specs.Memory.{Memory, fresh, faulted, channel_of, files_of, stored, IsUnnamed, AddsFile};
+ghost use Rattle.host_io.specs.Memory.{Memory, fresh, faulted, channel_of, files_of, told_files, stored, IsUnnamed, AddsFile};
 
 use crate::host::Host;
 use crate::role::{Role, place};
@@ -134,7 +134,7 @@ impl MemoryHost {
     pub(crate) fn fail(&mut self, role: Role) -> Failed
         ensures faulted { channel_of self.new role ≡ faulted (channel_of self.old role) }
         ensures no_less { (channel_of self.old role).faults ≤ (channel_of self.new role).faults }
-        ensures kept { Kept role None (channel_of self.old) (channel_of self.new) (files_of self.old) (files_of self.new) }
+        ensures kept { Kept role None (channel_of self.old) (channel_of self.new) (told_files self.old) (told_files self.new) }
     {
         self.streams[place(role)].fail()
     }
@@ -166,7 +166,7 @@ impl Host for MemoryHost {
 
     ghost channel = { channel_of };
 
-    ghost files = { files_of };
+    ghost files = { told_files };
 
     #[inline(always)]
     fn unnamed_law(&self) {
@@ -199,7 +199,7 @@ impl Host for MemoryHost {
         requires input { IsInput role }
         requires opened { (channel_of self.old role).name ≢ None }
         ensures reads { Reads true (channel_of self.old role) (channel_of self.new role) (length buf.old) buf.new result }
-        ensures kept { Kept role None (channel_of self.old) (channel_of self.new) (files_of self.old) (files_of self.new) }
+        ensures kept { Kept role None (channel_of self.old) (channel_of self.new) (told_files self.old) (told_files self.new) }
         ensures succeeds { IsOk result }
     {
         Ok(self.streams[place(role)].read(buf))
@@ -212,8 +212,8 @@ impl Host for MemoryHost {
     fn flush(&mut self, role: Role) -> Result<(), Failed>
         requires { IsWritable role (channel_of self.old role).name }
         ensures flushes { Flushes true (channel_of self.old role) (channel_of self.new role) result }
-        ensures kept { Kept role (channel_of self.old role).name (channel_of self.old) (channel_of self.new) (files_of self.old)
-            (files_of self.new) }
+        ensures kept { Kept role (channel_of self.old role).name (channel_of self.old) (channel_of self.new) (told_files self.old)
+            (told_files self.new) }
         ensures succeeds { IsOk result }
     {
         self.streams[place(role)].flush();

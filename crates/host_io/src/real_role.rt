@@ -1,8 +1,9 @@
 // One role of the real host: the stream that it has, and how its calls ended. A call that a signal broke off is made again.
-ghost use Rattle.std.specs.Prelude.{◌≡◌, ◌<◌, ◌≤◌, false, None, length, IfOk};
+ghost use Rattle.std.specs.Prelude.{◌≡◌, ◌<◌, ◌≤◌, true, [], ◌∷◌, ◌++◌, length, Ok, IfOk};
 ghost use Rattle.host_io.specs.Channel.{Reads, Writes, Flushes};
 ghost use Rattle.host_io.specs.Files.{Opens};
-ghost use Rattle.host_io.specs.Real.{unmet, took, wrote, all_flushed, quiet, Passes, Opened, Created, Joins, Begins, IsSource, IsSink};
+ghost use Rattle.host_io.specs.Real.{unmet, took, wrote, all_flushed, told, closed, Passes, Opened, Created, Joins, Begins, begun};
+ghost use Rattle.host_io.specs.Real.{IsSource, IsSink};
 ghost use Rattle.host_io.specs.Port.{traffic_in, traffic_out, name_in, name_out, Settles};
 
 use crate::port::{Input, Output, System, Tally};
@@ -49,29 +50,33 @@ impl RealRole {
     }
 
     /// Opens the file of this name.
-    pub(crate) fn open(&mut self, system: &System, name: &str) -> Result<(), Failed>
-        requires unnamed { (quiet self.old).name ≡ None }
+    pub(crate) fn open(&mut self, system: &mut System, name: &str) -> Result<(), Failed>
+        requires closed { self.old.device ≡ closed }
         ensures joins { Joins (Opened name.now) self.old self.new result }
-        ensures opens { Opens (quiet self.old) (quiet self.new) name.now result }
+        ensures opens { Opens (told self.old) (told self.new) name.now result }
+        ensures made { system.new ≡ system.old ++ Opened name.now ∷ [] }
     {
         self.connection = Connection::Input(system.open(name, &mut self.tally)?);
         Ok(())
     }
 
     /// Creates the file of this name.
-    pub(crate) fn create(&mut self, system: &System, name: &str) -> Result<(), Failed>
-        requires unnamed { (quiet self.old).name ≡ None }
+    pub(crate) fn create(&mut self, system: &mut System, name: &str) -> Result<(), Failed>
+        requires closed { self.old.device ≡ closed }
         ensures joins { Joins (Created name.now) self.old self.new result }
-        ensures opens { Opens (quiet self.old) (quiet self.new) name.now result }
+        ensures opens { Opens (told self.old) (told self.new) name.now result }
+        ensures made { system.new ≡ system.old ++ Created name.now ∷ [] }
     {
         self.connection = Connection::Output(system.create(name, &mut self.tally)?);
         Ok(())
     }
 
     /// Takes the standard stream of this role, where it has one and has not taken it yet.
-    pub(crate) fn begin(&mut self, system: &System, role: Role) -> Result<(), Failed>
+    #[tactic(auto, unfolding(crate::specs::Real::begun))]
+    pub(crate) fn begin(&mut self, system: &mut System, role: Role) -> Result<(), Failed>
         ensures begins { Begins role self.old self.new result }
         ensures no_less { self.old.faults ≤ self.new.faults }
+        ensures made { system.new ≡ system.old ++ begun role self.old.device.target }
     {
         match (&self.connection, role) {
             (Connection::Closed, Role::Out) => {
@@ -88,8 +93,9 @@ impl RealRole {
 
     pub(crate) fn read(&mut self, buf: &mut [u8]) -> Result<usize, Failed>
         requires source { IsSource self.old.device.target }
-        ensures reads { Reads false (quiet self.old) (quiet self.new) (length buf.old) buf.new result }
+        ensures reads { Reads true (told self.old) (told self.new) (length buf.old) buf.new result }
         ensures target { self.new.device.target ≡ self.old.device.target }
+        ensures source { IsSource self.new.device.target }
         ensures passed { Passes (took buf.new) self.old.device.traffic self.new.device.traffic result }
     {
         match &mut self.connection {
@@ -100,8 +106,9 @@ impl RealRole {
 
     pub(crate) fn write(&mut self, bytes: &[u8]) -> Result<usize, Failed>
         requires sink { IsSink self.old.device.target }
-        ensures writes { Writes false (quiet self.old) (quiet self.new) bytes.now result }
+        ensures writes { Writes true (told self.old) (told self.new) bytes.now result }
         ensures target { self.new.device.target ≡ self.old.device.target }
+        ensures sink { IsSink self.new.device.target }
         ensures passed { Passes (wrote bytes.now) self.old.device.traffic self.new.device.traffic result }
     {
         match &mut self.connection {
@@ -114,7 +121,7 @@ impl RealRole {
 
     /// Writes out the buffer.
     pub(crate) fn flush(&mut self) -> Result<(), Failed>
-        ensures flushes { Flushes false (quiet self.old) (quiet self.new) result }
+        ensures flushes { Flushes true (told self.old) (told self.new) result }
         ensures target { self.new.device.target ≡ self.old.device.target }
         ensures passed { Passes (λ _. all_flushed) self.old.device.traffic self.new.device.traffic result }
     {
@@ -134,9 +141,13 @@ fn read<R: Read + Drop>(
 ) -> Result<usize, Failed>
     ensures count { IfOk result (λ n. n ≤ length buf.old) }
     ensures passed { Passes (took buf.new) (traffic_in input.old) (traffic_in input.new) result }
+    ensures ended { (traffic_in input.old).ended ≡ true → result ≡ Ok 0 }
     ensures name { name_in input.new ≡ name_in input.old }
     ensures tally { Settles tally.old tally.new result }
 {
+    if input.has_ended() {
+        return Ok(0);
+    }
     'calls: while tally.may_repeat() {
         if let Some(answer) = input.read_once(buf, tally) {
             return answer;

@@ -2,7 +2,7 @@
 // with reads that fail.
 ghost use Rattle.std.specs.Prelude.{◌≡◌, ◌↔◌, ◌+◌, ◌-◌, ◌^◌, ◌≤◌, max, min, None, Some, length, IsErr, IfOk};
 ghost use Rattle.host_io.specs.Channel.{Reads};
-ghost use Rattle.host_io.specs.Slice.{channel_of};
+ghost use Rattle.host_io.specs.Slice.{channel_of, left_of};
 
 use crate::source::{Failed, Source};
 use std::marker::Model;
@@ -84,7 +84,7 @@ impl Source for SliceSource<'_> {
 
     fn read(&mut self, buf: &mut [u8]) -> Result<usize, Failed>
         ensures reads { Reads true (channel_of self.old) (channel_of self.new) (length buf.old) buf.new result }
-        ensures planned { IsErr result ↔ (self.old.fails_at ≡ Some (length (channel_of self.old).left)) }
+        ensures planned { IsErr result ↔ (self.old.fails_at ≡ Some (length (left_of self.old))) }
         ensures piece { IfOk result (λ n. n ≤ self.old.piece) }
         ensures counted { self.new.reads ≡ min (self.old.reads + 1) (2 ^ 64 - 1) }
     {

@@ -1,6 +1,6 @@
 // One role of a host in memory: what it reads from a copy of its file, and what it writes.
 ghost use Rattle.std.specs.Prelude.{◌≡◌, ◌≤◌, true, None, Some, Ok, length};
-ghost use Rattle.host_io.specs.Channel.{Channel, Reads, Writes, Flushes};
+ghost use Rattle.host_io.specs.Channel.{Channel, Held, Reads, Writes, Flushes};
 ghost use Rattle.host_io.specs.Files.{IsIdle};
 ghost use Rattle.host_io.specs.Beside.{is_named};
 ghost use Rattle.host_io.specs.Memory.{fresh, faulted};
@@ -22,7 +22,7 @@ pub(crate) struct Stream {
 impl Model for Stream {
     ghost use Rattle.std.specs.Prelude.{◌≤◌, take, drop, vec_len};
     ghost use Rattle.std.specs.Option.{option_map};
-    ghost use Rattle.host_io.specs.Channel.{Channel};
+    ghost use Rattle.host_io.specs.Channel.{Channel, Held};
 
     ghost Value = { Channel };
 
@@ -30,7 +30,7 @@ impl Model for Stream {
       name = option_map (λ name. name.items) s.name;
       faults = s.faults;
       taken = take s.position s.input.items;
-      left = drop s.position s.input.items;
+      left = Held (drop s.position s.input.items);
       written = s.output.items;
       flushed = s.flushed;
     } };
@@ -72,7 +72,7 @@ impl Stream {
     /// Takes this name, and reads these bytes from now on.
     pub(crate) fn open(&mut self, name: Vec<u8>, input: Vec<u8>)
         requires { IsIdle self.old }
-        ensures { self.new ≡ record fresh { name = Some name.items; faults = self.old.faults; left = input.items } }
+        ensures { self.new ≡ record fresh { name = Some name.items; faults = self.old.faults; left = Held input.items } }
     {
         self.name = Some(name);
         self.input = input;

@@ -422,6 +422,11 @@ impl<S: Sink + Drop> Table<S> {
         Marks::of(*self.retired.allocator(), &self.diagram, roots)
     }
 
+    /// The allocator that it was made with.
+    pub fn alloc(&self) -> Global {
+        *self.retired.allocator()
+    }
+
     pub fn ledger(&self) -> &Ledger<S>
         ensures { result.now ≡ self.now.book }
     {

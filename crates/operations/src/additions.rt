@@ -53,9 +53,10 @@ pub fn add_both<S: Sink + Drop>(
     let x = table.variable(level);
     let long = behind(x.negated(), clause);
     let own = long.as_slice();
-    let hints = step_hints(own, high);
+    let alloc = table.alloc();
+    let hints = step_hints(alloc, own, high);
     let first = add(table, own, hints.as_slice())?;
-    let low_hints = step_hints_behind(first, x, clause, low);
+    let low_hints = step_hints_behind(alloc, first, x, clause, low);
     match add(table, clause, low_hints.as_slice()) {
         Ok(id) => {
             table.retire(first);

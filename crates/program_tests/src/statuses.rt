@@ -5,7 +5,7 @@ use host_io::{MemoryHost, Role};
 use solver_cli::{Status, complain, run_in_memory, run_with};
 use std::alloc::Global;
 use std::io::ErrorKind;
-use std::process::Abort;
+use std::process::{Abort, ExitCode};
 use std::test::Fail;
 use std::vec::IntoIter;
 
@@ -76,18 +76,21 @@ fn with_words(rt: HostRuntime) -> Result<(), Fail> {
     let came: Result<IntoIter<String>, ErrorKind> = Ok(words.into_iter());
     let mut host = host_of(rt.alloc())?;
     let code = run_with(rt.alloc(), came, &mut host);
-    expect_left(&rt, rt.alloc(), &host, code, "10|s SATISFIABLE/v -1 -2 0/|")
+    assert!(&rt; code == ExitCode::from(10));
+    expect_left(&rt, rt.alloc(), &host, 10, "10|s SATISFIABLE/v -1 -2 0/|")
 }
 
 fn expect_unread(
     rt: &impl Abort,
     alloc: Global,
     kind: ErrorKind,
+    code: u8,
     expected: &str,
 ) -> Result<(), Fail> {
     let mut host = MemoryHost::new(alloc);
     let came: Result<IntoIter<String>, ErrorKind> = Err(kind);
-    let code = run_with(alloc, came, &mut host);
+    let ended = run_with(alloc, came, &mut host);
+    assert!(rt; ended == ExitCode::from(code));
     expect_left(rt, alloc, &host, code, expected)
 }
 
@@ -95,11 +98,18 @@ fn expect_unread(
 #[test]
 fn without_words(rt: HostRuntime) -> Result<(), Fail> {
     let alloc = rt.alloc();
-    expect_unread(&rt, alloc, ErrorKind::InvalidData, "6||error: bad usage/")?;
+    expect_unread(
+        &rt,
+        alloc,
+        ErrorKind::InvalidData,
+        6,
+        "6||error: bad usage/",
+    )?;
     expect_unread(
         &rt,
         alloc,
         ErrorKind::OutOfMemory,
+        5,
         "5||error: out of memory/",
     )
 }

@@ -5,7 +5,12 @@ pub mod Wanted
 pub mod Each
 pub mod TakenOver
 pub mod Restored
-pub mod HoldsBy
 pub mod SetBackAlike
-pub mod Among
+pub mod Holds
+pub mod Ways
+pub mod Searches
+pub mod Raised
+pub mod Ranked
+pub mod OneWalk
+pub mod KeptSets
 pub mod SetEntries

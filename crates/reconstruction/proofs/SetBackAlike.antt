@@ -57,7 +57,7 @@ cells_alike cells ordered (entry ∷ older) a b alike =
     (one_alike f (λ c d same. value_alike cells ordered c d same entry.key) a b alike entry.variable (later_stored older entry))
 
 -- the last elements of a front
-take_all : {X : Type 0} (xs : List X) (n : ℕ) → length xs ≤ n → take n xs ≡ xs
+pub take_all : {X : Type 0} (xs : List X) (n : ℕ) → length xs ≤ n → take n xs ≡ xs
 take_all {X} [] zero all = refl
 take_all {X} [] (suc n) all = refl
 take_all {X} (x ∷ xs) zero all = absurd (omega (arith, all))

@@ -1,6 +1,9 @@
 pub mod Cells
 pub mod SetsBack
 pub mod Entries
+pub mod Ranks
+pub mod Way
+pub mod Walker
 pub mod Copies
 pub mod Copying
 pub mod Stack

@@ -9,9 +9,12 @@ mod cells;
 mod copying;
 mod entries;
 mod laws;
+mod ranks;
 mod restore;
-mod some_values;
 mod stack;
+mod walked;
+mod walker;
+mod way;
 
 pub use cells::Cell;
 pub use entries::{Entry, Kept};

@@ -15,6 +15,7 @@ use crate::cells::Cell;
 use crate::copying::{copy_nodes, copy_of, forget};
 use crate::entries::{Entry, Kept};
 use crate::restore::set_all_back;
+use crate::walker::Walker;
 use clause_terms::Model;
 use cnf_base::OutOfMemory;
 use host_io::Sink;
@@ -164,8 +165,9 @@ impl Reconstruction {
         ensures set { OnOk result (AreAlike (assignment_of values.new) (set_cells_back self.now.cells (assignment_of values.old)
             (reverse self.now.stored))) }
     {
+        let mut walker = Walker::new(*self.stored.allocator());
         set_all_back(
-            *self.stored.allocator(),
+            &mut walker,
             self.cells.as_slice(),
             self.stored.as_slice(),
             values,

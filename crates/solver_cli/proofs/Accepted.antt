@@ -2,7 +2,7 @@
 use Rattle.std.proofs.Common.{◌≡◌, ℕ, false, List, [], refl, sym, ap, ◌∙◌, subst, Some, Err, IsTrue, inl, inr}
 use Rattle.std.specs.Prelude.{Bool, Option, None, Result, ◌⊎◌, ◌≢◌}
 use Rattle.cnf_base.specs.Formula.{Formula}
-use Rattle.host_io.specs.declared.role.Role.TheVariants.{ProofOut, Made, Out}
+use Rattle.host_io.specs.declared.role.Role.TheVariants.{Cnf, Order, Buckets, Schedule, ProofOut, Made, Out}
 use Rattle.lrat_rules.specs.State.{State}
 use Rattle.schedule_plan.specs.declared.limits.Limits.{Limits}
 use Rattle.schedule_plan.specs.declared.plan.Move.{Move}
@@ -38,7 +38,7 @@ pub record Posed (run : Run) (problem : Formula) (order : List ℕ) (moves : Lis
   pub asked : Command
   pub gives : command run.words ≡ Some asked
   pub decides : IsTrue (decides asked)
-  pub given : IsTrue run.tells → AreGiven run.files asked problem order moves
+  pub given : IsTrue run.tells → AreGiven run.texts asked problem order moves
   pub board : IsPlanAsked run problem order moves
   pub limits : job.limits ≡ limits_of asked
   pub parity : job.parity ≡ adds_equations asked
@@ -76,10 +76,10 @@ posed_by_files run task {problem = problem} gives prepared = record {
   gives = gives;
   decides = refl;
   given = λ t. record {
-    read = formula_read task.mode prepared.takes t;
+    read = formula_read task.mode run.texts prepared.takes (run.fits Cnf tt task.file) t;
     given = prepared.given;
-    ordered = ordered problem task.order prepared.orders t;
-    planned = planned task.plan prepared.bucketed prepared.plans t;
+    ordered = ordered run.texts problem task.order prepared.orders (run.fits Order tt) t;
+    planned = planned run.texts task.plan prepared.bucketed prepared.plans (run.fits Buckets tt) (run.fits Schedule tt) t;
   };
   board = λ other here. absurd (apart (same_command gives here));
   limits = refl;

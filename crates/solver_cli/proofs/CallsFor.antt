@@ -2,7 +2,7 @@
 use Rattle.std.proofs.Common.{◌≡◌, ℕ, ℤ, List, refl, sym, ap, ap₂, ◌∙◌, Some, None}
 use Rattle.std.specs.Prelude.{Option}
 use Rattle.cnf_base.specs.Formula.{Formula}
-use Rattle.host_io.specs.Files.{Files}
+use Rattle.host_io.specs.Files.{Texts}
 use Rattle.host_io.specs.declared.role.Role.TheVariants.{Cnf, Order, Buckets, Schedule, ProofIn, Cubes, ProofOut, Made, Out, Err}
 use Rattle.dimacs_reader.specs.Cnf.{CnfText, formula, refusal, overlong, cnf}
 use Rattle.lrat_checker.specs.declared.verdict.Verdict.{Verdict}
@@ -69,23 +69,23 @@ in_file (Some bytes) says = says bytes
 -- what stands in the file of a name, where one is given
 abbrev pub text_named : Run → Option (List ℕ) → Option (List ℕ)
 text_named run None = None
-text_named run (Some file) = run.files file
+text_named run (Some file) = run.texts file
 
 abbrev pub after_order : Run → Planned → Formula → Option Status
 after_order run (ByName name) problem = None
-after_order run (ByFile file) problem = in_file (run.files file) (λ bytes. by_schedule (schedule problem bytes))
-after_order run (ByBuckets file) problem = in_file (run.files file) (λ bytes. by_buckets (order_text problem.vars bytes))
+after_order run (ByFile file) problem = in_file (run.texts file) (λ bytes. by_schedule (schedule problem bytes))
+after_order run (ByBuckets file) problem = in_file (run.texts file) (λ bytes. by_buckets (order_text problem.vars bytes))
 after_order run Found problem = None
 
 -- by what comes after the order, with a command that goes by one
 abbrev pub after_given : Run → Command → Formula → Option Status
 after_given run (Solve task) problem = after_order run task.plan problem
-after_given run (Ask task) problem = in_file (run.files task.cubes) (λ bytes. by_cubes (cube_text problem.vars bytes))
+after_given run (Ask task) problem = in_file (run.texts task.cubes) (λ bytes. by_cubes (cube_text problem.vars bytes))
 after_given run asked problem = None
 
 abbrev pub with_order : Run → Option (List ℕ) → Formula → (List ℕ → Option Status) → Option Status
 with_order run None problem next = next (natural problem.vars)
-with_order run (Some file) problem next = in_file (run.files file) (λ bytes. by_order (order_text problem.vars bytes) next)
+with_order run (Some file) problem next = in_file (run.texts file) (λ bytes. by_order (order_text problem.vars bytes) next)
 
 abbrev pub after_formula : Run → Command → Formula → Option Status
 after_formula run (Solve task) problem = with_order run task.order problem (λ order. after_order run task.plan problem)
@@ -93,10 +93,10 @@ after_formula run (Bench task) problem = None
 after_formula run (Make task) problem = None
 after_formula run (Arrange task) problem = None
 after_formula run (Ask task) problem = with_order run task.order problem (λ order. after_given run (Ask task) problem)
-after_formula run (Check task) problem = in_file (run.files task.proof) (λ bytes. by_proof (verdict_in task.format problem.clauses bytes))
+after_formula run (Check task) problem = in_file (run.texts task.proof) (λ bytes. by_proof (verdict_in task.format problem.clauses bytes))
 after_formula run (Convert task) problem =
-    in_file (run.files task.proof) (λ bytes. by_proof (verdict_in (format_before task.into) problem.clauses bytes))
-after_formula run (Trim task) problem = in_file (run.files task.proof) (λ bytes. by_proof (verdict_in Lrat problem.clauses bytes))
+    in_file (run.texts task.proof) (λ bytes. by_proof (verdict_in (format_before task.into) problem.clauses bytes))
+after_formula run (Trim task) problem = in_file (run.texts task.proof) (λ bytes. by_proof (verdict_in Lrat problem.clauses bytes))
 
 abbrev pub by_words : Run → Option Command → Option Status
 by_words run None = None
@@ -107,7 +107,7 @@ abbrev pub refusal_due : Run → Option Status
 refusal_due run = by_words run (command run.words)
 
 -- a file that is read as that
-reads : {Text : Type 0} (files : Files) {file : List ℕ} {whole : List ℕ → Text} {text : Text} (says : Text → Option Status)
+reads : {Text : Type 0} (files : Texts) {file : List ℕ} {whole : List ℕ → Text} {text : Text} (says : Text → Option Status)
     → IsRead files file whole text → in_file (files file) (λ bytes. says (whole bytes)) ≡ says text
 reads files {whole = whole} says read = ap (λ (bytes : Option (List ℕ)). in_file bytes (λ b. says (whole b))) read.stands
     ∙ ap says read.says
@@ -117,7 +117,7 @@ pub same_text : (run : Run) {asked other : Command} {text said : CnfText} → As
 same_text run here there =
     sym here.read.says
     ∙ ap₂ cnf (ap mode_of (same_command here.command there.command))
-    (one_text run.files here.command there.command here.named there.named here.read.stands there.read.stands)
+    (one_text run.texts here.command there.command here.named there.named here.read.stands there.read.stands)
     ∙ there.read.says
 
 asks : (run : Run) (asked : Command) (text : CnfText) → AsksOver run asked text → refusal_due run
@@ -126,12 +126,12 @@ asks run asked text a =
     ap (by_words run) a.command
     ∙ ap (λ (file : Option (List ℕ)). in_file (text_named run file)
     (λ bytes. by_formula (cnf (mode_of asked) bytes) (after_formula run asked))) a.named
-    ∙ reads run.files (λ t. by_formula t (after_formula run asked)) a.read
+    ∙ reads run.texts (λ t. by_formula t (after_formula run asked)) a.read
 
 ordered : (run : Run) (file : Option (List ℕ)) (problem : Formula) (order : List ℕ) (next : Option Status)
-    → IsOrdered run.files file problem order → with_order run file problem (λ order. next) ≡ next
+    → IsOrdered run.texts file problem order → with_order run file problem (λ order. next) ≡ next
 ordered run None problem order next is = refl
-ordered run (Some file) problem order next is = reads run.files (λ t. by_order t (λ order. next)) is
+ordered run (Some file) problem order next is = reads run.texts (λ t. by_order t (λ order. next)) is
 
 -- a command that names an order's file goes by that
 ordered_by : (run : Run) (asked : Command) (problem : Formula) {file : List ℕ} → name_given Order asked ≡ Some file
@@ -151,14 +151,14 @@ by_its_order : (run : Run) (problem : Formula) (text : OrderText) (a : AsksByOrd
     ≡ by_order text (λ order. after_given run a.asked problem)
 by_its_order run problem text a =
     asks run a.asked (formula problem) a.asks ∙ ordered_by run a.asked problem a.named
-    ∙ reads run.files (λ t. by_order t (λ order. after_given run a.asked problem)) a.read
+    ∙ reads run.texts (λ t. by_order t (λ order. after_given run a.asked problem)) a.read
 
 by_its_buckets : (run : Run) (problem : Formula) (text : OrderText) → AsksByBuckets run problem text → refusal_due run ≡ by_buckets text
 by_its_buckets run problem text a =
     asks run (Solve a.task) (formula problem) a.asks
     ∙ ordered run a.task.order problem a.order (after_order run a.task.plan problem) a.ordered
     ∙ ap (λ (plan : Planned). after_order run plan problem) a.named
-    ∙ reads run.files by_buckets a.read
+    ∙ reads run.texts by_buckets a.read
 
 by_its_schedule : (run : Run) (problem : Formula) (text : ScheduleText) → AsksBySchedule run problem text → refusal_due run
     ≡ by_schedule text
@@ -166,27 +166,27 @@ by_its_schedule run problem text a =
     asks run (Solve a.task) (formula problem) a.asks
     ∙ ordered run a.task.order problem a.order (after_order run a.task.plan problem) a.ordered
     ∙ ap (λ (plan : Planned). after_order run plan problem) a.named
-    ∙ reads run.files by_schedule a.read
+    ∙ reads run.texts by_schedule a.read
 
 by_its_cubes : (run : Run) (problem : Formula) (order : List ℕ) (text : CubeText) → AsksByCubes run problem order text
     → refusal_due run ≡ by_cubes text
 by_its_cubes run problem order text a =
     asks run (Ask a.task) (formula problem) a.asks
     ∙ ordered run a.task.order problem order (after_given run (Ask a.task) problem) a.ordered
-    ∙ reads run.files by_cubes a.read
+    ∙ reads run.texts by_cubes a.read
 
 -- what stands in the named file decides
 in_named : (run : Run) (format : ProofFormat) (own : List ℕ) (problem : Formula) {file bytes : List ℕ}
-    → ◌≡◌ {A = Option (List ℕ)} (Some own) (Some file) → run.files file ≡ Some bytes
-    → in_file (run.files own) (λ bytes. by_proof (verdict_in format problem.clauses bytes)) ≡ by_proof (verdict_in format problem.clauses bytes)
+    → ◌≡◌ {A = Option (List ℕ)} (Some own) (Some file) → run.texts file ≡ Some bytes
+    → in_file (run.texts own) (λ bytes. by_proof (verdict_in format problem.clauses bytes)) ≡ by_proof (verdict_in format problem.clauses bytes)
 in_named run format own problem {file = file} named stands =
-    ap (λ (b : Option (List ℕ)). in_file b (λ bytes. by_proof (verdict_in format problem.clauses bytes))) (ap run.files (inner named) ∙ stands) where
+    ap (λ (b : Option (List ℕ)). in_file b (λ bytes. by_proof (verdict_in format problem.clauses bytes))) (ap run.texts (inner named) ∙ stands) where
       inner : ◌≡◌ {A = Option (List ℕ)} (Some own) (Some file) → own ≡ file
       inner e = cc
 
 -- a command that names a proof's file goes by that
 after_judged : (run : Run) (asked : Command) (problem : Formula) {file bytes : List ℕ} → name_given ProofIn asked ≡ Some file
-    → run.files file ≡ Some bytes → after_formula run asked problem ≡ by_proof (verdict_in (format_of asked) problem.clauses bytes)
+    → run.texts file ≡ Some bytes → after_formula run asked problem ≡ by_proof (verdict_in (format_of asked) problem.clauses bytes)
 after_judged run (Solve task) problem named stands = cc
 after_judged run (Bench task) problem named stands = cc
 after_judged run (Make task) problem named stands = cc
@@ -245,15 +245,15 @@ one_call run status other here there = same_some (called run status here) (calle
 
 -- none is where all texts are accepted
 planned : (run : Run) (plan : Planned) (problem : Formula) (given order : List ℕ) (moves : List Move)
-    → IsPlanned run.files plan problem given order moves → after_order run plan problem ≡ None
+    → IsPlanned run.texts plan problem given order moves → after_order run plan problem ≡ None
 planned run (ByName name) problem given order moves is = refl
-planned run (ByFile file) problem given order moves is = reads run.files by_schedule is.1
-planned run (ByBuckets file) problem given order moves is = reads run.files by_buckets is.1.read
+planned run (ByFile file) problem given order moves is = reads run.texts by_schedule is.1
+planned run (ByBuckets file) problem given order moves is = reads run.texts by_buckets is.1.read
 planned run Found problem given order moves is = refl
 
 pub no_call : (run : Run) (problem : Formula) → AsksFor run problem → (status : Status) → CallsFor run status → ⊥
 no_call run problem a status is = some_none (called run status is) (due a.by.asked a.by.command a.by.given) where
-  due : (asked : Command) → command run.words ≡ Some asked → AreGiven run.files asked problem a.order a.moves → refusal_due run ≡ None
+  due : (asked : Command) → command run.words ≡ Some asked → AreGiven run.texts asked problem a.order a.moves → refusal_due run ≡ None
   due (Solve task) gives given =
       asks run (Solve task) (formula problem) (record { command = gives; file = task.file; named = refl; read = given.read })
       ∙ ordered run task.order problem given.given (after_order run task.plan problem) given.ordered
@@ -298,7 +298,7 @@ long_only (Some bytes) verdict e = inner (verdict bytes) e where
 
 pub calls_long : (run : Run) (task : ToConvert) (problem : Formula) → AsksOver run (Convert task) (formula problem) → (status : Status)
     → CallsFor run status → status ≡ TooLong ProofIn
-calls_long run task problem a status is = long_only (run.files task.proof)
+calls_long run task problem a status is = long_only (run.texts task.proof)
     (λ bytes. verdict_in (format_before task.into) problem.clauses bytes)
     (sym (asks run (Convert task) (formula problem) a) ∙ called run status is)
 

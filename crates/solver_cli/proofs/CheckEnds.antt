@@ -57,7 +57,7 @@ ends run task {problem = problem} {bytes = bytes} promises tells asked to_judge 
   same_refusal {other = other} line reason there refused =
       let same_problem = same_formula refl (same_text run there.asks to_judge.asks) in
       let same_bytes =
-      one_proof run.files there.asks.command to_judge.asks.command there.named to_judge.named there.stands to_judge.stands in
+      one_proof run.texts there.asks.command to_judge.asks.command there.named to_judge.named there.stands to_judge.stands in
       subst (λ (f : ProofFormat). IsRefusedIn f problem.clauses bytes line reason)
       (λ i. format_of (same_command there.asks.command to_judge.asks.command i))
       (subst (λ (p : Formula). IsRefusedIn (format_of there.asked) p.clauses bytes line reason) same_problem

@@ -6,6 +6,8 @@ use Rattle.cnf_base.specs.Formula.{Formula}
 use Rattle.cnf_base.specs.Truth.{AreClausesOf}
 use Rattle.dimacs_reader.specs.Cnf.{formula}
 use Rattle.host_io.specs.declared.role.Role.TheVariants.{ProofIn, ProofOut, Made}
+use Rattle.host_io.specs.Files.{Texts}
+use Rattle.text_scan.specs.Decides.{Fits}
 use Rattle.lrat_checker.specs.declared.verdict.Verdict.{Verdict}
 use Rattle.lrat_checker.specs.declared.verdict.CheckError.TheVariants as check_error
 use Rattle.lrat_checker.specs.declared.verdict.Verdict.TheVariants as judgement
@@ -113,7 +115,7 @@ stands run task {problem = problem} {result = result} asked read rewrites unharm
   converted = λ _. record {
     so_far = λ t. elim (rewrites.written t) [
       | inl none ↦ inl none.1
-      | inr text ↦ inr (record {
+      | inr converts ↦ let text = converts run.texts (run.fits ProofIn tt task.proof) in inr (record {
         task = task;
         given = asked;
         problem = problem;
@@ -124,7 +126,7 @@ stands run task {problem = problem} {result = result} asked read rewrites unharm
     ];
     whole = λ differs t. elim (rewrites.written t) [
       | inl none ↦ inl none.1
-      | inr text ↦ inr (record {
+      | inr converts ↦ let text = converts run.texts (run.fits ProofIn tt task.proof) in inr (record {
         task = task;
         given = asked;
         problem = problem;
@@ -138,7 +140,7 @@ stands run task {problem = problem} {result = result} asked read rewrites unharm
   asked = λ given. absurd (judged_apart asked refl given.1 refl);
   proved = λ others _ _. absurd (others (task, asked));
 } where
-  to_judge : IsTrue run.tells → (bytes : List ℕ) → run.files task.proof ≡ Some bytes → AsksToJudge run problem bytes
+  to_judge : IsTrue run.tells → (bytes : List ℕ) → run.texts task.proof ≡ Some bytes → AsksToJudge run problem bytes
   to_judge t bytes stands = record { asked = Convert task; asks = read t; file = task.proof; named = refl; stands = stands }
 
   apart : {other : ToTrim} → Convert task ≡ Trim other → ⊥
@@ -236,16 +238,19 @@ converted laws run task asked c =
       one_task e = cc
 
       as_read : {bytes : List ℕ} → (IsErr {E = ConvertError} (Ok c.verdict) × (written_in run ProofOut ≡ []))
-          ⊎ ConvertsText task.into c.problem run.files task.proof (written_in run ProofOut) (Ok c.verdict)
-          → run.files task.proof ≡ Some bytes → IsConversion task.into c.problem bytes c.verdict (written_in run ProofOut)
+          ⊎ ((texts : Texts) → Fits run.files (run.before ProofIn) (run.after ProofIn) task.proof texts
+          → ConvertsText task.into c.problem texts task.proof (written_in run ProofOut) (Ok c.verdict))
+          → run.texts task.proof ≡ Some bytes → IsConversion task.into c.problem bytes c.verdict (written_in run ProofOut)
       as_read (inl none) stands = absurd (no_error none.0) where
         no_error : IsErr {E = ConvertError} (Ok c.verdict) → ⊥
         no_error e = cc
-      as_read (inr text) stands = subst (λ (b : List ℕ). IsConversion task.into c.problem b c.verdict (written_in run ProofOut))
+      as_read (inr converts) stands =
+          let text = converts run.texts (run.fits ProofIn tt task.proof) in
+          subst (λ (b : List ℕ). IsConversion task.into c.problem b c.verdict (written_in run ProofOut))
           (one_text text.stands stands) (as_whole task.into c.problem c.verdict text.bytes
           (written_in run ProofOut) text.holds)
 
-      whole : IsTrue run.tells → (given : GivesConversion run) → (bytes : List ℕ) → run.files task.proof ≡ Some bytes
+      whole : IsTrue run.tells → (given : GivesConversion run) → (bytes : List ℕ) → run.texts task.proof ≡ Some bytes
           → IsConverted run given.0.into c.problem bytes c.verdict
       whole t given bytes stands = record {
         written = subst (λ (own : ToConvert). IsConversion own.into c.problem bytes c.verdict (written_in run ProofOut))

@@ -91,8 +91,8 @@ again converted run first asks = record {
   over = subst (λ (c : Command). AsksOver converted c (formula problem)) same_words verified.has.asked.asks
 
   -- the formula stands in the file that the words name
-  of_file : IsRead converted.files asks.conversion.file (cnf asks.conversion.mode) (formula problem)
-  of_file = subst (λ (f : List ℕ). IsRead converted.files f (cnf asks.conversion.mode) (formula problem)) (sym (one_file over.named))
+  of_file : IsRead converted.texts asks.conversion.file (cnf asks.conversion.mode) (formula problem)
+  of_file = subst (λ (f : List ℕ). IsRead converted.texts f (cnf asks.conversion.mode) (formula problem)) (sym (one_file over.named))
       over.read where
         one_file : {here there : List ℕ} → ◌≡◌ {A = Option (List ℕ)} (Some here) (Some there) → here ≡ there
         one_file e = cc

@@ -2,12 +2,12 @@
 use Rattle.std.proofs.Common.{◌≡◌, ℕ, Bool, List, [], ◌++◌, length, append-nil, refl, sym, ap, ◌∙◌, subst}
 use Rattle.std.proofs.Common.{None, Some, Ok, Err, IsTrue, IsOk, inl, inr}
 use Rattle.std.specs.Prelude.{Option, Result, IsErr, OnOk, ⊤, drop}
-use Rattle.host_io.specs.Channel.{Channel, Flushes}
-use Rattle.host_io.specs.Files.{Files, Kept, Opens}
+use Rattle.host_io.specs.Channel.{Channel, MayFollow, Flushes}
+use Rattle.host_io.specs.Files.{Files, Offers, Kept, Opens}
 use Rattle.host_io.specs.declared.role.Role.{Role}
 use Rattle.host_io.specs.declared.role.Role.TheVariants.{ProofIn, ProofOut}
 use Rattle.host_io.specs.declared.source.Failed.{Failed}
-use Rattle.text_scan.specs.Decides.{gained, Decides-whole, Decides-taken}
+use Rattle.text_scan.specs.Decides.{gained}
 use Rattle.lrat_checker.specs.TextVerdict.{Answers}
 use Rattle.cnf_base.specs.Formula.{Formula}
 use Rattle.lrat_rules.specs.State.{start}
@@ -29,7 +29,7 @@ use Rattle.solver_cli.specs.Phases.{ChecksProof, JudgesProof}
 use Rattle.solver_cli.specs.ConvertedProof.{Converts, ConvertsProof, HasConverted, RewritesProof}
 use Rattle.solver_cli.proofs.Facts.{behind, nothing_more, whole_of}
 use Rattle.solver_cli.proofs.Judging.{judged, unopened, wanted_by}
-use Rattle.solver_cli.proofs.Reading.{ok_err, rose_since}
+use Rattle.solver_cli.proofs.Reading.{of_content, ok_err, rose_since}
 
 -- all lines are the first ones, and those with no rest
 pub all_first : {becomes : List Step} {written : List ℕ} → AreLinesOf becomes written → AreFirstLinesOf becomes written
@@ -65,8 +65,8 @@ unflushed {tells = tells} {in_old = in_old} {in_new = in_new} {out_old = out_old
       told : Converts tells in_old in_new out_old out_new into problem (Err why)
           → ConvertsProof tells in_old in_new out_old out_new into problem (Err why)
       told c = record {
-        judged = λ t. Decides-whole (c.decides t);
-        decided = λ t. Decides-taken (c.decides t);
+        left = λ t. (c.decides t).left;
+        judged = λ t. (c.decides t).holds;
         undecided = c.undecided;
         memory = λ t e. wanted_by (format_before into) problem.clauses in_old in_new (c.memory t e);
         read_fault = c.read_fault;
@@ -74,7 +74,7 @@ unflushed {tells = tells} {in_old = in_old} {in_new = in_new} {out_old = out_old
         read_written = c.reads.written;
         read_name = c.reads.name;
         read_faults = c.reads.faults;
-        written = λ t. Decides-whole (c.written t);
+        written = λ t. (c.written t).holds;
         flushed = λ t e. cc;
         write_fault = c.write_fault;
         unfailed_writes = c.unfailed_writes;
@@ -95,8 +95,8 @@ flushed {tells = tells} {in_old = in_old} {in_new = in_new} {out_old = out_old} 
       told : Converts tells in_old in_new out_old out_mid into problem (Ok verdict)
           → ConvertsProof tells in_old in_new out_old out_new into problem (Ok verdict)
       told c = record {
-        judged = λ t. Decides-whole (c.decides t);
-        decided = λ t. Decides-taken (c.decides t);
+        left = λ t. (c.decides t).left;
+        judged = λ t. (c.decides t).holds;
         undecided = c.undecided;
         memory = λ t e. absurd (ok_err e);
         read_fault = c.read_fault;
@@ -104,8 +104,9 @@ flushed {tells = tells} {in_old = in_old} {in_new = in_new} {out_old = out_old} 
         read_written = c.reads.written;
         read_name = c.reads.name;
         read_faults = c.reads.faults;
-        written = λ t. subst (λ (l : List ℕ). HasConverted into problem (Ok verdict) in_old.left (drop (length out_old.written) l))
-            (sym flushes.written) (Decides-whole (c.written t));
+        written = λ t more may.
+            subst (λ (l : List ℕ). HasConverted into problem (Ok verdict) (gained in_old in_new ++ more) (drop (length out_old.written) l))
+            (sym flushes.written) ((c.written t).holds more may);
         flushed = λ t _. flushes.done t done;
         write_fault = λ e. absurd (ok_err e);
         unfailed_writes = λ differs. flushes.faults.unfailed done ∙ c.unfailed_writes differs;
@@ -125,8 +126,8 @@ torn {tells = tells} {in_old = in_old} {in_new = in_new} {out_old = out_old} {ou
       told : Converts tells in_old in_new out_old out_mid into problem (Ok verdict)
           → ConvertsProof tells in_old in_new out_old out_new into problem (Err error.WriteFault)
       told c = record {
-        judged = λ t. tt;
-        decided = λ t. tt;
+        left = λ t. (c.decides t).left;
+        judged = λ t more may. tt;
         undecided = λ t e. cc;
         memory = λ t e. cc;
         read_fault = λ e. cc;
@@ -134,9 +135,9 @@ torn {tells = tells} {in_old = in_old} {in_new = in_new} {out_old = out_old} {ou
         read_written = c.reads.written;
         read_name = c.reads.name;
         read_faults = c.reads.faults;
-        written = λ t. broken into problem verdict in_old.left (added out_old out_new)
-            (subst (λ (l : List ℕ). HasConverted into problem (Ok verdict) in_old.left (drop (length out_old.written) l))
-            (sym flushes.written) (Decides-whole (c.written t)));
+        written = λ t more may. broken into problem verdict (gained in_old in_new ++ more) (added out_old out_new)
+            (subst (λ (l : List ℕ). HasConverted into problem (Ok verdict) (gained in_old in_new ++ more) (drop (length out_old.written) l))
+            (sym flushes.written) ((c.written t).holds more may));
         flushed = λ t e. cc;
         write_fault = λ _. rose_since c.writes.faults (flushes.faults.cause failed);
         unfailed_writes = λ differs. absurd (differs refl);
@@ -230,8 +231,9 @@ checks : {tells : Bool} {in_old in_new out_old out_new : Channel} {into : Conver
     → ConvertsProof tells in_old in_new out_old out_new into problem (converted answer)
     → ChecksProof (format_before into) tells in_old in_new problem.clauses answer
 checks {in_old = in_old} {in_new = in_new} {into = into} {problem = problem} answer c = record {
-  judged = λ t. as_check answer (verdict_in (format_before into) problem.clauses in_old.left) (c.judged t);
-  decided = λ t. as_check answer (verdict_in (format_before into) problem.clauses (gained in_old in_new)) (c.decided t);
+  left = c.left;
+  judged = λ t more may. as_check answer (verdict_in (format_before into) problem.clauses (gained in_old in_new ++ more))
+      (c.judged t more may);
   fault = λ e. c.read_fault (ap converted e);
   unfailed = λ differs. c.unfailed_reads (λ e. differs (read_failed answer e));
   undecided = λ t e. c.undecided t (ap converted e);
@@ -241,15 +243,10 @@ checks {in_old = in_old} {in_new = in_new} {into = into} {problem = problem} ans
   faults = c.read_faults;
 }
 
--- what is said of an `Ok`, where the result is one
-pub on_ok : {P : Type 0} (result : Result ⊤ Failed) → IsOk result → OnOk result P → P
-on_ok (Ok x) done holds = holds
-on_ok (Err e) done holds = cc
-
 -- both files were there, and the proof was converted
 pub rewritten : {tells : Bool} {in_old in_opened in_mid in_new out_old out_mid out_created out_new : Channel} {files : Files}
     {file out : List ℕ} {into : Conversion} {problem : Formula} {opened created : Result ⊤ Failed} {result : Result Verdict ConvertError}
-    → Opens in_old in_opened file opened → IsOk opened → (IsTrue tells → files file ≡ Some in_opened.left) → out_mid ≡ out_old
+    → Opens in_old in_opened file opened → IsOk opened → (IsTrue tells → OnOk opened (Offers (files file) in_opened.left)) → out_mid ≡ out_old
     → Opens out_mid out_created out created → IsOk created → in_mid ≡ in_opened
     → ConvertsProof tells in_mid in_new out_created out_new into problem result
     → RewritesProof tells in_old in_new out_old out_new files file out into problem result
@@ -272,15 +269,18 @@ rewritten {tells = tells} {in_old = in_old} {in_opened = in_opened} {in_mid = in
         unfailed_reads = λ differs. c.unfailed_reads differs ∙ opens.faults.unfailed ok;
         read_written = c.read_written ∙ opens.idle.written ∙ sym opens.was_idle.written;
         read_name = inl (c.read_name ∙ opens.named ok);
-        written = λ t. inr (record { bytes = in_opened.left; stands = content t; holds = has t });
+        written = λ t. inr (λ texts fits.
+            let found = of_content in_new files texts opens ok (content t) (c.left t) c.read_name fits in
+            record { bytes = gained in_opened in_new ++ found.0; stands = found.2; holds = has t found.0 found.1 });
         flushed = c.flushed;
         write_fault = λ e. rose_since creates.faults.no_less (c.write_fault e);
         unfailed_writes = λ differs. c.unfailed_writes differs ∙ creates.faults.unfailed done;
         name = inl (c.name ∙ creates.named done);
         opened = λ _ none. some_none (c.read_name ∙ opens.named ok) none;
       } where
-        has : IsTrue tells → HasConverted into problem result in_opened.left (added out_mid out_new)
-        has t = subst (λ (l : List ℕ). HasConverted into problem result in_opened.left l) same (c.written t)
+        has : IsTrue tells → (more : List ℕ) → MayFollow in_new more
+            → HasConverted into problem result (gained in_opened in_new ++ more) (added out_mid out_new)
+        has t more may = subst (λ (l : List ℕ). HasConverted into problem result (gained in_opened in_new ++ more) l) same (c.written t more may)
 
 -- what calls of the two roles leave alone, one after another
 none_some : {name : List ℕ} → ◌≡◌ {A = Option (List ℕ)} None (Some name) → ⊥

@@ -1,14 +1,14 @@
 -- What trimming an opened proof, and writing its trimmed form, says of the run.
 use Rattle.std.proofs.Common.{◌≡◌, ℕ, ℤ, Bool, List, [], ◌++◌, length, refl, sym, ap, ◌∙◌, subst, arith, None, Some, Ok, Err, IsTrue, IsOk}
 use Rattle.std.proofs.Common.{inl, inr}
-use Rattle.std.specs.Prelude.{◌≢◌, Option, Result, IsErr, ⊤, drop}
+use Rattle.std.specs.Prelude.{◌≢◌, Option, Result, IsErr, OnOk, ⊤, drop}
 use Rattle.cnf_base.specs.Formula.{Formula}
 use Rattle.cnf_base.specs.declared.step.Step.{Step}
 use Rattle.host_io.specs.Channel.{Channel, Rose}
-use Rattle.host_io.specs.Files.{Files, Opens}
+use Rattle.host_io.specs.Files.{Files, Texts, Offers, Opens}
 use Rattle.host_io.specs.declared.role.Role.TheVariants.{ProofIn}
 use Rattle.host_io.specs.declared.source.Failed.{Failed}
-use Rattle.text_scan.specs.Decides.{gained, Decides, OnlyReads, Decides-whole, Decides-taken}
+use Rattle.text_scan.specs.Decides.{gained, Decides, Fits, OnlyReads}
 use Rattle.dimacs_reader.specs.Cnf.{formula}
 use Rattle.lrat_checker.specs.TextVerdict.{Answers, text_verdict, verdict_so_far}
 use Rattle.lrat_checker.specs.declared.verdict.Verdict.{Verdict}
@@ -27,7 +27,7 @@ use Rattle.solver_cli.specs.Phases.{JudgesProof, PutsText}
 use Rattle.solver_cli.specs.TrimmedProof.{PutsFile, PutsNamed, TrimsBytes, TrimsOpened, TrimsProof, TrimsText}
 use Rattle.solver_cli.specs.Run.{Run, taken_in, AsksOver, HasVerdict}
 use Rattle.solver_cli.proofs.Facts.{whole_of}
-use Rattle.solver_cli.proofs.Reading.{none_taken, ok_err, rose_since}
+use Rattle.solver_cli.proofs.Reading.{none_taken, of_content, of_taken, ok_err, rose_since, taken_since}
 
 -- an opened proof, as trimming tells it
 seen : (tells : Bool) (old new : Channel) (clauses : List (List ℤ)) (result : Result Trimmed CheckError)
@@ -36,8 +36,8 @@ seen : (tells : Bool) (old new : Channel) (clauses : List (List ℤ)) (result : 
     → (IsTrue tells → result ≡ Err ReadFault → verdict_so_far clauses (gained old new) ≡ None) → OnlyReads old new
     → TrimsOpened tells old new clauses result
 seen tells old new clauses result decides fault unfailed undecided reads = record {
-  told = λ t. Decides-whole (decides t);
-  decided = λ t. Decides-taken (decides t);
+  left = λ t. (decides t).left;
+  told = λ t. (decides t).holds;
   fault = fault;
   unfailed = unfailed;
   undecided = undecided;
@@ -77,17 +77,18 @@ unopened {clauses = clauses} opens failed = record {
 -- the file was opened, and then its text trimmed
 pub cut_whole : {tells : Bool} {old opened new : Channel} {files : Files} {file : List ℕ} {clauses : List (List ℤ)}
     {answer : Result ⊤ Failed} {result : Result Trimmed CheckError}
-    → Opens old opened file answer → IsOk answer → (IsTrue tells → files file ≡ Some opened.left)
+    → Opens old opened file answer → IsOk answer → (IsTrue tells → OnOk answer (Offers (files file) opened.left))
     → TrimsOpened tells opened new clauses result → TrimsProof tells old new files file clauses result
-cut_whole {old = old} {opened = opened} {new = new} {clauses = clauses} {result = result} opens ok content trims =
-    let same : gained opened new ≡ gained old new = ap (λ (l : List ℕ). drop (length l) new.taken) (opens.idle.taken
-    ∙ sym opens.was_idle.taken) in
+cut_whole {old = old} {opened = opened} {new = new} {files = files} {clauses = clauses} {result = result} opens ok content trims =
+    let same : gained opened new ≡ gained old new = taken_since new opens in
     record {
-      read = λ t. inr (record {
-        bytes = opened.left;
-        stands = content t;
-        told = trims.told t;
-        decided = subst (λ (l : List ℕ). TrimsBytes result clauses l) same (trims.decided t);
+      read = λ t. inr (λ texts fits.
+      let found = of_content new files texts opens ok (content t) (trims.left t) trims.name fits in
+      record {
+        bytes = gained opened new ++ found.0;
+        stands = found.2;
+        told = trims.told t found.0 found.1;
+        decided = of_taken (TrimsBytes result clauses) opened new same (trims.told t);
       });
       fault = λ e. rose_since opens.faults.no_less (trims.fault e);
       unfailed = λ no. trims.unfailed no ∙ opens.faults.unfailed ok;
@@ -124,7 +125,9 @@ pub judges_of : {tells : Bool} {old new : Channel} {files : Files} {file : List 
 judges_of {old = old} {new = new} {clauses = clauses} result trims plenty = record {
   read = λ t. elim (trims.read t) [
     | inl e ↦ inl (ap answer_of e)
-    | inr text ↦ inr (record {
+    | inr trimmed_text ↦ inr (λ texts fits.
+    let text = trimmed_text texts fits in
+    record {
       bytes = text.bytes;
       stands = text.stands;
       judged = as_answers result (text_verdict clauses text.bytes) (trimmed clauses text.bytes) (core_numbers clauses text.bytes)
@@ -146,7 +149,7 @@ judges_of {old = old} {new = new} {clauses = clauses} result trims plenty = reco
 pub record VerifiedBy (run : Run) (task : ToTrim) (problem : Formula) (lines core : List ℕ) (kept total : ℕ)
     : Type 0 where
   pub bytes : List ℕ
-  pub stands : run.files task.proof ≡ Some bytes
+  pub stands : run.texts task.proof ≡ Some bytes
   pub judged : text_verdict problem.clauses bytes ≡ Some judgement.Verified
   pub verdict : HasVerdict run problem bytes judgement.Verified
   pub lines_are : lines ≡ trim problem.clauses bytes
@@ -159,10 +162,10 @@ pub verified : (run : Run) (task : ToTrim) (problem : Formula) {lines core : Lis
     → TrimsProof run.tells (run.before ProofIn) (run.after ProofIn) run.files task.proof problem.clauses (Ok (Steps lines core kept total))
     → IsTrue run.tells → VerifiedBy run task problem lines core kept total
 verified run task problem {lines = lines} {core = core} {kept = kept} {total = total} asked read trims t = by (trimmed_text) where
-  trimmed_text : TrimsText run.files task.proof problem.clauses (taken_in run ProofIn) (Ok (Steps lines core kept total))
-  trimmed_text = elim (trims.read t) [ inl e ↦ absurd (ok_err e) | inr text ↦ text ]
+  trimmed_text : TrimsText run.texts task.proof problem.clauses (taken_in run ProofIn) (Ok (Steps lines core kept total))
+  trimmed_text = elim (trims.read t) [ inl e ↦ absurd (ok_err e) | inr text ↦ text run.texts (run.fits ProofIn tt task.proof) ]
 
-  by : TrimsText run.files task.proof problem.clauses (taken_in run ProofIn) (Ok (Steps lines core kept total))
+  by : TrimsText run.texts task.proof problem.clauses (taken_in run ProofIn) (Ok (Steps lines core kept total))
       → VerifiedBy run task problem lines core kept total
   by text = record {
     bytes = text.bytes;

@@ -1,11 +1,11 @@
 -- What the check of an opened proof says of the run.
-use Rattle.std.proofs.Common.{◌≡◌, ℕ, ◌+◌, ◌-◌, ℤ, Bool, List, [], length, length-append, refl, sym, ap, ◌∙◌, subst, arith, None, Some}
+use Rattle.std.proofs.Common.{◌≡◌, ℕ, ◌+◌, ◌-◌, ℤ, Bool, List, [], ◌++◌, length, length-append, refl, sym, ap, ◌∙◌, subst, arith, None, Some}
 use Rattle.std.proofs.Common.{Err, IsTrue, IsOk, inl, inr}
-use Rattle.std.specs.Prelude.{◌≢◌, ◌⊎◌, Result, IsErr, ⊤, drop}
-use Rattle.host_io.specs.Channel.{Channel, Rose}
-use Rattle.host_io.specs.Files.{Files, Opens}
+use Rattle.std.specs.Prelude.{◌≢◌, ◌⊎◌, Result, IsErr, OnOk, ⊤, drop}
+use Rattle.host_io.specs.Channel.{Channel, MayFollow, Rose}
+use Rattle.host_io.specs.Files.{Files, Texts, Offers, Opens}
 use Rattle.host_io.specs.declared.source.Failed.{Failed}
-use Rattle.text_scan.specs.Decides.{gained, gained-none, Decides, OnlyReads, Decides-whole, Decides-taken}
+use Rattle.text_scan.specs.Decides.{gained, gained-none, Decides, Fits, OnlyReads, Decides-taken}
 use Rattle.lrat_checker.specs.TextVerdict.{Answers}
 use Rattle.lrat_checker.specs.declared.verdict.Verdict.{Verdict}
 use Rattle.lrat_checker.specs.declared.verdict.CheckError.{CheckError}
@@ -14,7 +14,7 @@ use Rattle.command_line.specs.declared.format.ProofFormat.{ProofFormat}
 use Rattle.command_line.specs.declared.format.ProofFormat.TheVariants.{Lrat, Drat, DratBySet}
 use Rattle.solver_cli.specs.Format.{may_want_memory_in, so_far_in, verdict_in}
 use Rattle.solver_cli.specs.Phases.{ChecksProof, JudgesProof, WantsProof}
-use Rattle.solver_cli.proofs.Reading.{none_taken, rose_since}
+use Rattle.solver_cli.proofs.Reading.{none_taken, of_content, of_taken, rose_since, taken_since}
 
 -- want of memory, as the check tells it
 abbrev pub Wanted : ProofFormat → List (List ℤ) → Channel → Channel → Type 0
@@ -33,14 +33,14 @@ pub in_format : {format own : ProofFormat} {tells : Bool} {clauses : List (List 
 in_format {tells = tells} {clauses = clauses} {old = old} {new = new} {result = result} is judges =
     subst (λ (f : ProofFormat). SaysInFormat f tells clauses old new result) (sym is) judges
 
-pub wanted_by : (format : ProofFormat) (clauses : List (List ℤ)) (old new : Channel) → Wanted format clauses old new
-    → WantsProof format clauses old.left (gained old new)
-wanted_by format clauses old new (inl same) = inl (ap (gained old) same ∙ gained-none old)
-wanted_by format clauses old new (inr decides) =
-    let parts : length old.left ≡ length (gained old new) + length new.left = ap length decides.left
-    ∙ length-append (gained old new) new.left in
-    let behind : length new.left ≡ length old.left - length (gained old new) = omega (arith, parts) in
-    inr (subst (λ n. IsTrue (may_want_memory_in format clauses n old.left)) behind (Decides-whole decides), Decides-taken decides)
+pub wanted_by : (format : ProofFormat) (clauses : List (List ℤ)) (old new : Channel) → Wanted format clauses old new → (more : List ℕ)
+    → MayFollow new more → WantsProof format clauses (gained old new ++ more) (gained old new)
+wanted_by format clauses old new (inl same) more may = inl (ap (gained old) same ∙ gained-none old)
+wanted_by format clauses old new (inr decides) more may =
+    let parts : length (gained old new ++ more) ≡ length (gained old new) + length more = length-append (gained old new) more in
+    let behind : length more ≡ length (gained old new ++ more) - length (gained old new) = omega (arith, parts) in
+    inr (subst (λ n. IsTrue (may_want_memory_in format clauses n (gained old new ++ more))) behind (decides.holds more may),
+    Decides-taken decides)
 
 seen : (format : ProofFormat) (tells : Bool) (old new : Channel) (clauses : List (List ℤ)) (result : Result Verdict CheckError)
     → (IsTrue tells → Decides old new (λ bytes more. Answers result (verdict_in format clauses bytes)))
@@ -49,8 +49,8 @@ seen : (format : ProofFormat) (tells : Bool) (old new : Channel) (clauses : List
     → (IsTrue tells → result ≡ Err OutOfMemory → Wanted format clauses old new) → OnlyReads old new
     → ChecksProof format tells old new clauses result
 seen format tells old new clauses result decides fault unfailed undecided memory reads = record {
-  judged = λ t. Decides-whole (decides t);
-  decided = λ t. Decides-taken (decides t);
+  left = λ t. (decides t).left;
+  judged = λ t. (decides t).holds;
   fault = fault;
   unfailed = unfailed;
   undecided = undecided;
@@ -94,18 +94,20 @@ unopened {format = format} {clauses = clauses} opens failed = record {
 -- the file was opened, and then its text was judged
 pub judged : {format : ProofFormat} {tells : Bool} {old opened new : Channel} {files : Files} {file : List ℕ} {clauses : List
     (List ℤ)} {answer : Result ⊤ Failed} {result : Result Verdict CheckError}
-    → Opens old opened file answer → IsOk answer → (IsTrue tells → files file ≡ Some opened.left)
+    → Opens old opened file answer → IsOk answer → (IsTrue tells → OnOk answer (Offers (files file) opened.left))
     → ChecksProof format tells opened new clauses result → JudgesProof format tells old new files file clauses result
-judged {format = format} {tells = tells} {old = old} {opened = opened} {new = new} {clauses = clauses} {result = result} opens ok content checks =
-    let same : gained opened new ≡ gained old new = ap (λ (l : List ℕ). drop (length l) new.taken) (opens.idle.taken
-    ∙ sym opens.was_idle.taken) in
+judged {format = format} {tells = tells} {old = old} {opened = opened} {new = new} {files = files} {clauses = clauses} {result = result} opens ok content
+    checks =
+    let same : gained opened new ≡ gained old new = taken_since new opens in
     record {
-      read = λ t. inr (record {
-        bytes = opened.left;
-        stands = content t;
-        judged = checks.judged t;
-        decided = subst (λ (l : List ℕ). Answers result (verdict_in format clauses l)) same (checks.decided t);
-        memory = λ e. subst (WantsProof format clauses opened.left) same (checks.memory t e);
+      read = λ t. inr (λ texts fits.
+      let found = of_content new files texts opens ok (content t) (checks.left t) checks.name fits in
+      record {
+        bytes = gained opened new ++ found.0;
+        stands = found.2;
+        judged = checks.judged t found.0 found.1;
+        decided = of_taken (λ l. Answers result (verdict_in format clauses l)) opened new same (checks.judged t);
+        memory = λ e. subst (WantsProof format clauses (gained opened new ++ found.0)) same (checks.memory t e found.0 found.1);
       });
       fault = λ e. rose_since opens.faults.no_less (checks.fault e);
       unfailed = λ no. checks.unfailed no ∙ opens.faults.unfailed ok;

@@ -12,7 +12,7 @@ use Rattle.cube_queries.specs.declared.answer.Outcome.TheVariants as replies
 use Rattle.cube_queries.specs.Ends.{AnyState, Ends as WritesReplies, Says, Shows}
 use Rattle.cube_queries.specs.Width.{IsPaid}
 use Rattle.dimacs_reader.specs.Cnf.{formula}
-use Rattle.host_io.specs.declared.role.Role.TheVariants.{Cubes, ProofOut, Made, Out}
+use Rattle.host_io.specs.declared.role.Role.TheVariants.{Order, Cubes, ProofOut, Made, Out}
 use Rattle.host_io.specs.declared.source.Failed.{Failed}
 use Rattle.lrat_rules.specs.State.{State}
 use Rattle.lrat_rules.specs.declared.outcome.Reason.{Reason}
@@ -55,8 +55,8 @@ uncubed run task gives u = by_error u.error u.cubed u.ends where
   asks : IsTrue run.tells → AsksOver run (Ask task) (formula u.problem)
   asks = took run (Ask task) task.file u.problem gives refl u.takes
 
-  had : IsTrue run.tells → IsOrdered run.files task.order u.problem u.given
-  had = ordered u.problem task.order u.orders
+  had : IsTrue run.tells → IsOrdered run.texts task.order u.problem u.given
+  had = ordered run.texts u.problem task.order u.orders (run.fits Order tt)
 
   alone : (status : Status) → LeftAlone run status
   alone status = record {
@@ -68,7 +68,7 @@ uncubed run task gives u = by_error u.error u.cubed u.ends where
 
   text : {Says : Result (List (List ℤ)) CubeError → CubeText → Type 0} {result : Result (List (List ℤ)) CubeError} {said : CubeText}
       → IsTrue run.tells
-      → (says : ReadsText (cube_text u.problem.vars) Says run.files task.cubes (taken_in run Cubes) result)
+      → (says : ReadsText (cube_text u.problem.vars) Says run.texts task.cubes (taken_in run Cubes) result)
       → cube_text u.problem.vars says.bytes ≡ said → cube_text u.problem.vars (taken_in run Cubes) ≡ said
       → CubesAreRefusedBy run said
   text t says told decided = record {
@@ -88,10 +88,10 @@ uncubed run task gives u = by_error u.error u.cubed u.ends where
       → run.status ≡ status_of_cubes error → Core run
   by_error (cube_error.Refused kind line) takes ends =
       refused run (Ask task) gives (alone (CubeRefused kind line)) ends refl (λ e. cc)
-      ((task, gives), λ t. let says = text_read (λ e. cc) takes t in text t says says.told says.decided)
+      ((task, gives), λ t. let says = text_read run.texts (λ e. cc) takes (run.fits Cubes tt task.cubes) t in text t says says.told says.decided)
   by_error cube_error.TooLong takes ends =
       refused run (Ask task) gives (alone (TooLong Cubes)) ends refl (λ e. cc)
-      ((task, gives), λ t. let says = text_read (λ e. cc) takes t in text t says says.told says.decided)
+      ((task, gives), λ t. let says = text_read run.texts (λ e. cc) takes (run.fits Cubes tt task.cubes) t in text t says says.told says.decided)
   by_error cube_error.ReadFault takes ends = unread run (Ask task) gives (alone ReadFault) ends
       (Cubes, tt, takes.failed refl, Ask task, task.cubes, gives, refl) (λ t. inr (inr (inr (inr (inr (record {
         task = task;
@@ -110,7 +110,7 @@ uncubed run task gives u = by_error u.error u.cubed u.ends where
         asks = asks;
         order = u.given;
         ordered = had;
-        wants = λ t. not_early (takes.memory t refl);
+        wants = λ t. not_early (takes.memory t refl) run.texts (run.fits Cubes tt task.cubes);
         before_proof = u.proof;
       })))))))))) ends
 
@@ -124,11 +124,11 @@ pub questions_of : (run : Run) (task : ToAsk) → command run.words ≡ Some (As
     → (q : Questioned run.tells (streams_of run.before) (streams_of run.after) run.files task run.status) → IsTrue run.tells
     → AsksByCubes run q.problem q.given (given_cubes q.cubes)
 questions_of run task gives q t =
-    let says = text_read (λ e. ok_err e) q.cubed t in
+    let says = text_read run.texts (λ e. ok_err e) q.cubed (run.fits Cubes tt task.cubes) t in
     record {
       task = task;
       asks = took run (Ask task) task.file q.problem gives refl q.takes t;
-      ordered = ordered q.problem task.order q.orders t;
+      ordered = ordered run.texts q.problem task.order q.orders (run.fits Order tt) t;
       read = record { bytes = says.bytes; stands = says.stands; says = says.told };
     }
 

@@ -1,11 +1,12 @@
 -- What reading a text says of the run, whichever text it is.
-use Rattle.std.proofs.Common.{◌≡◌, ℕ, ◌≤◌, Bool, List, [], length, refl, sym, ap, ◌∙◌, subst, arith, Some, Ok, Err, IsTrue, IsOk, inl, inr}
-use Rattle.std.specs.Prelude.{◌≢◌, ◌⊎◌, Result, IfOk, IsErr, ⊤, drop}
-use Rattle.host_io.specs.Channel.{Channel, Rose}
-use Rattle.host_io.specs.Files.{Files, Opens}
+use Rattle.std.proofs.Common.{◌≡◌, ℕ, ◌≤◌, Bool, List, [], ◌++◌, length, refl, sym, ap, ◌∙◌, subst, arith, Some, Ok, Err, IsTrue, IsOk}
+use Rattle.std.proofs.Common.{inl, inr, append-nil}
+use Rattle.std.specs.Prelude.{◌≢◌, ◌⊎◌, Result, IfOk, IsErr, OnOk, ⊤, drop}
+use Rattle.host_io.specs.Channel.{Channel, Leaves, MayFollow, Rose}
+use Rattle.host_io.specs.Files.{Files, Texts, Agrees, Offers, Opens}
 use Rattle.host_io.specs.declared.source.Failed.{Failed}
-use Rattle.text_scan.specs.Decides.{gained, gained-none, Decides, OnlyReads, Decides-whole, Decides-taken}
-use Rattle.solver_cli.specs.Phases.{ReadsText, ReadsOpened, TakesText, Wanting}
+use Rattle.text_scan.specs.Decides.{gained, gained-none, Decides, Fits, OnlyReads, agreed_text}
+use Rattle.solver_cli.specs.Phases.{ReadsText, ReadsOpened, TakesText, WantsRead, Wanting}
 
 -- want of memory, as the readers tell it
 abbrev pub Wanted : {E : Type 0} → Wanting E → Channel → Channel → Type 0
@@ -18,9 +19,10 @@ early_or wanting old new early (inl same) = inl (early, same)
 early_or wanting old new early (inr decides) = inr decides
 
 wanted_by : {E : Type 0} (wanting : Wanting E) (old new : Channel) → Wanted wanting old new
-    → (IsTrue wanting.early × (gained old new ≡ [])) ⊎ (wanting.texts old.left × wanting.texts (gained old new))
+    → (IsTrue wanting.early × (gained old new ≡ []))
+    ⊎ ((more : List ℕ) → MayFollow new more → wanting.texts (gained old new ++ more))
 wanted_by wanting old new (inl none) = inl (none.0, ap (gained old) none.1 ∙ gained-none old)
-wanted_by wanting old new (inr decides) = inr (Decides-whole decides, Decides-taken decides)
+wanted_by wanting old new (inr decides) = inr decides.holds
 
 seen : {Text T E : Type 0} {whole so_far : List ℕ → Text} {unread : Text} {answers : Result T E → Text → Type 0} {fit : T
     → Type 0} {fault : E} {wanting : Wanting E} (tells : Bool) (old new : Channel) (result : Result T E)
@@ -30,8 +32,8 @@ seen : {Text T E : Type 0} {whole so_far : List ℕ → Text} {unread : Text} {a
     → (IsTrue tells → result ≡ Err wanting.answer → Wanted wanting old new) → OnlyReads old new
     → ReadsOpened whole so_far unread answers fit fault wanting tells old new result
 seen {wanting = wanting} tells old new result decides fits failed unfailed undecided memory reads = record {
-  told = λ t. Decides-whole (decides t);
-  decided = λ t. Decides-taken (decides t);
+  left = λ t. (decides t).left;
+  told = λ t. (decides t).holds;
   fits = fits;
   failed = failed;
   unfailed = unfailed;
@@ -83,23 +85,49 @@ unopened {so_far = so_far} empty apart opens failed = record {
   faults = opens.faults.no_less;
 }
 
+-- what was taken since the file was opened was taken since before, when nothing had been
+pub taken_since : {old opened : Channel} {file : List ℕ} {answer : Result ⊤ Failed} (new : Channel) → Opens old opened file answer
+    → gained opened new ≡ gained old new
+taken_since new opens = ap (λ (l : List ℕ). drop (length l) new.taken) (opens.idle.taken ∙ sym opens.was_idle.taken)
+
+-- what is said of the bytes taken with whatever may follow them holds of the bytes taken, and of each content of the file that fits
+pub of_taken : (P : List ℕ → Type 0) (opened new : Channel) {taken : List ℕ} → gained opened new ≡ taken
+    → ((more : List ℕ) → MayFollow new more → P (gained opened new ++ more)) → P taken
+of_taken P opened new same holds =
+    subst P (append-nil (gained opened new) ∙ same) (holds [] (λ _. refl))
+
+-- what is said of an `Ok`, where the result is one
+on_ok : {P : Type 0} (result : Result ⊤ Failed) → IsOk result → OnOk result P → P
+on_ok (Ok x) done holds = holds
+on_ok (Err e) done holds = cc
+
+-- the bytes that were taken stand at the front of each content of the file that fits, and what is behind them may follow
+pub of_content : {old opened : Channel} {file : List ℕ} {answer : Result ⊤ Failed} (new : Channel) (files : Files) (texts : Texts)
+    → Opens old opened file answer → IsOk answer → OnOk answer (Offers (files file) opened.left)
+    → Leaves opened.left (gained opened new) new.left → new.name ≡ opened.name → Fits files old new file texts
+    → (more : List ℕ) × MayFollow new more × (texts file ≡ Some (gained opened new ++ more))
+of_content {opened = opened} {file = file} {answer = answer} new files texts opens ok offers left name fits =
+    agreed_text (files file) opened new (texts file) (on_ok answer ok offers) left
+    (subst (λ (l : List ℕ). Agrees (files file) new l (texts file)) (sym (taken_since new opens)) (fits (name ∙ opens.named ok)))
+
 -- the file was opened, and then read
 pub taken : {Text T E : Type 0} {whole so_far : List ℕ → Text} {unread : Text} {answers : Result T E → Text → Type 0} {fit : T
     → Type 0} {fault : E} {wanting : Wanting E} {tells : Bool} {old opened new : Channel} {files : Files} {file : List ℕ}
     {answer : Result ⊤ Failed} {result : Result T E}
-    → Opens old opened file answer → IsOk answer → (IsTrue tells → files file ≡ Some opened.left)
+    → Opens old opened file answer → IsOk answer → (IsTrue tells → OnOk answer (Offers (files file) opened.left))
     → ReadsOpened whole so_far unread answers fit fault wanting tells opened new result
     → TakesText whole so_far unread answers fit fault wanting tells old new files file result
 taken {whole = whole} {so_far = so_far} {answers = answers} {wanting = wanting} {old = old} {opened = opened} {new = new}
-    {result = result} opens ok content reads =
-    let same : gained opened new ≡ gained old new = ap (λ (l : List ℕ). drop (length l) new.taken) (opens.idle.taken
-    ∙ sym opens.was_idle.taken) in
+    {files = files} {result = result} opens ok content reads =
+    let same : gained opened new ≡ gained old new = taken_since new opens in
     record {
-      read = λ t. inr (record {
-        bytes = opened.left;
-        stands = content t;
-        told = reads.told t;
-        decided = subst (λ (l : List ℕ). answers result (whole l)) same (reads.decided t);
+      read = λ t. inr (λ texts fits.
+      let found = of_content new files texts opens ok (content t) (reads.left t) reads.name fits in
+      record {
+        bytes = gained opened new ++ found.0;
+        stands = found.2;
+        told = reads.told t found.0 found.1;
+        decided = of_taken (λ l. answers result (whole l)) opened new same (reads.told t);
       });
       fits = reads.fits;
       failed = λ e. rose_since opens.faults.no_less (reads.failed e);
@@ -107,11 +135,13 @@ taken {whole = whole} {so_far = so_far} {answers = answers} {wanting = wanting} 
       undecided = λ t e. ap so_far (sym same) ∙ reads.undecided t e;
       memory = λ t e. elim (reads.memory t e) [
         | inl none ↦ inl (none.0, sym same ∙ none.1)
-        | inr both ↦ inr (record {
-          bytes = opened.left;
-          stands = content t;
-          whole = both.0;
-          front = subst (λ (l : List ℕ). wanting.texts l) same both.1;
+        | inr wants ↦ inr (λ texts fits.
+        let found = of_content new files texts opens ok (content t) (reads.left t) reads.name fits in
+        record {
+          bytes = gained opened new ++ found.0;
+          stands = found.2;
+          whole = wants found.0 found.1;
+          front = of_taken wanting.texts opened new same wants;
         })
       ];
       written = reads.written ∙ opens.idle.written ∙ sym opens.was_idle.written;
@@ -122,9 +152,12 @@ taken {whole = whole} {so_far = so_far} {answers = answers} {wanting = wanting} 
 -- what was read, where no call failed
 pub text_read : {Text T E : Type 0} {whole so_far : List ℕ → Text} {unread : Text} {answers : Result T E → Text → Type 0} {fit : T
     → Type 0} {fault : E} {wanting : Wanting E} {tells : Bool} {old new : Channel} {files : Files} {file : List ℕ} {result : Result T E}
-    → result ≢ Err fault → TakesText whole so_far unread answers fit fault wanting tells old new files file result → IsTrue tells
-    → ReadsText whole answers files file (gained old new) result
-text_read differs takes t = elim (takes.read t) [ inl failed ↦ absurd (differs failed) | inr text ↦ text ]
+    (texts : Texts) → result ≢ Err fault → TakesText whole so_far unread answers fit fault wanting tells old new files file result
+    → Fits files old new file texts → IsTrue tells → ReadsText whole answers texts file (gained old new) result
+text_read texts differs takes fits t = elim (takes.read t) [
+  | inl failed ↦ absurd (differs failed)
+  | inr text ↦ text texts fits
+]
 
 -- no answer is both
 pub ok_err : {T E : Type 0} {value : T} {error : E} → ◌≡◌ {A = Result T E} (Ok value) (Err error) → ⊥

@@ -4,7 +4,7 @@ use Rattle.std.specs.Prelude.{IsFalse}
 use Rattle.host_io.specs.declared.role.Role.{Role}
 use Rattle.host_io.specs.declared.role.Role.TheVariants.{Err}
 use Rattle.host_io.specs.Channel.{Channel}
-use Rattle.host_io.specs.Files.{Files, FilesBut, Kept, same_role}
+use Rattle.host_io.specs.Files.{Files, Stored, FilesBut, Kept, same_role}
 use Rattle.host_io.specs.Beside.{Beside, Rest, files_but, others_of}
 use Rattle.host_io.specs.Idle.{idle_channel}
 use Rattle.host_io.proofs.Kept.{kept_of_rest, rest_kept}
@@ -18,7 +18,7 @@ abbrev others_in : Option Rest → Role → Option Channel
 others_in None other = None
 others_in (Some rest) other = rest.others other
 
-abbrev files_in : Option Rest → List ℕ → Option (Option (List ℕ))
+abbrev files_in : Option Rest → List ℕ → Option Stored
 files_in None file = None
 files_in (Some rest) file = rest.files file
 

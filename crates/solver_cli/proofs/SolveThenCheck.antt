@@ -34,8 +34,8 @@ ends long_text solved run first second asks =
       problem = refuted.problem
 
       -- the first run decided the formula of its named file
-      of_files : AreOfFiles solved.files asks.solve problem shown.asked.order shown.asked.moves
-      of_files = subst (λ (c : Command). AreGiven solved.files c problem shown.asked.order shown.asked.moves)
+      of_files : AreOfFiles solved.texts asks.solve problem shown.asked.order shown.asked.moves
+      of_files = subst (λ (c : Command). AreGiven solved.texts c problem shown.asked.order shown.asked.moves)
           (same_command shown.asked.by.command asks.solve_asked) shown.asked.by.given
 
       to_judge : AsksToJudge run problem bytes

@@ -6,7 +6,8 @@ use Rattle.host_io.specs.declared.role.Role.{Role}
 use Rattle.host_io.specs.declared.role.Role.TheVariants.{Cnf, Order, Buckets, Schedule, ProofIn, Cubes, ProofOut, Made, Out}
 use Rattle.host_io.specs.declared.source.Failed.{Failed}
 use Rattle.host_io.specs.Channel.{Channel}
-use Rattle.host_io.specs.Files.{Files, FilesBut, Others}
+use Rattle.host_io.specs.Files.{Files, Texts, Stored, Agrees, FilesBut, Others}
+use Rattle.text_scan.specs.Decides.{gained, Fits}
 use Rattle.lrat_checker.specs.declared.verdict.Verdict.{Verdict}
 use Rattle.lrat_checker.specs.declared.verdict.CheckError.{CheckError}
 use Rattle.command_line.specs.declared.format.ProofFormat.{ProofFormat}
@@ -22,17 +23,11 @@ use Rattle.solver_cli.proofs.Staged.{still_taken, printed_from}
 judged_in : {format : ProofFormat} {tells : Bool} {old new : Channel} {file : List ℕ} {clauses : List (List ℤ)} {result : Result Verdict CheckError}
     (files before : Files) → FilesBut None before files
     → JudgesProof format tells old new files file clauses result → JudgesProof format tells old new before file clauses result
-judged_in {file = file} files before same judges = record {
+judged_in {old = old} {new = new} {file = file} files before same judges = record {
   read = λ t. elim (judges.read t) [
     | inl fault ↦ inl fault
-    | inr text ↦ inr (record {
-      bytes = text.bytes;
-      stands = sym (same file none_some)
-          ∙ text.stands;
-      judged = text.judged;
-      decided = text.decided;
-      memory = text.memory;
-    })
+    | inr text ↦ inr (λ texts fits.
+    text texts (λ named. subst (λ (told : Stored). Agrees told new (gained old new) (texts file)) (sym (same file none_some)) (fits named)))
   ];
   fault = judges.fault;
   unfailed = judges.unfailed;

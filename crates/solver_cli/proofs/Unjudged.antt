@@ -32,7 +32,7 @@ pub one_verdict : (run : Run) {problem other : Formula} {bytes text : List ℕ} 
     → verdict_in (format_of here.asked) problem.clauses bytes ≡ verdict_in (format_of there.asked) other.clauses text
 one_verdict run here there =
     let same_problem = same_formula refl (same_text run here.asks there.asks) in
-    let same_bytes = one_proof run.files here.asks.command there.asks.command here.named there.named here.stands there.stands in
+    let same_bytes = one_proof run.texts here.asks.command there.asks.command here.named there.named here.stands there.stands in
     λ i. verdict_in (format_of (same_command here.asks.command there.asks.command i)) (same_problem i).clauses (same_bytes i)
 
 pub one_some : {text : Option Verdict} (here there : Verdict) → text ≡ Some here → text ≡ Some there → here ≡ there
@@ -101,7 +101,7 @@ unjudged laws run {problem = problem} j made out = go where
   }
 
   to_judge : {result : Result Verdict CheckError} → IsTrue run.tells
-      → (text : JudgesText (format_of j.asked) run.files j.file problem.clauses (taken_in run ProofIn) result) → AsksToJudge run problem text.bytes
+      → (text : JudgesText (format_of j.asked) run.texts j.file problem.clauses (taken_in run ProofIn) result) → AsksToJudge run problem text.bytes
   to_judge t text = record { asked = j.asked; asks = j.read t; file = j.file; named = j.named; stands = text.stands }
 
   go : (e : CheckError) → JudgesProof (format_of j.asked) run.tells (run.before ProofIn) (run.after ProofIn) run.files j.file problem.clauses (Err e)
@@ -124,8 +124,8 @@ unjudged laws run {problem = problem} j made out = go where
         no_fault : ◌≡◌ {A = Result Verdict CheckError} (Err error.TooLong) (Err error.ReadFault) → ⊥
         no_fault e = cc
 
-        text_of : IsTrue run.tells → JudgesText (format_of j.asked) run.files j.file problem.clauses (taken_in run ProofIn) (Err error.TooLong)
-        text_of t = elim (judges.read t) [ inl e ↦ absurd (no_fault e) | inr text ↦ text ]
+        text_of : IsTrue run.tells → JudgesText (format_of j.asked) run.texts j.file problem.clauses (taken_in run ProofIn) (Err error.TooLong)
+        text_of t = elim (judges.read t) [ inl e ↦ absurd (no_fault e) | inr text ↦ text run.texts (run.fits ProofIn tt j.file) ]
 
         is_long : IsTrue run.tells → IsLongProof run
         is_long t = let text = text_of t in record {
@@ -149,5 +149,5 @@ unjudged laws run {problem = problem} j made out = go where
     no_fault : ◌≡◌ {A = Result Verdict CheckError} (Err error.OutOfMemory) (Err error.ReadFault) → ⊥
     no_fault e = cc
 
-    text_of : IsTrue run.tells → JudgesText (format_of j.asked) run.files j.file problem.clauses (taken_in run ProofIn) (Err error.OutOfMemory)
-    text_of t = elim (judges.read t) [ inl e ↦ absurd (no_fault e) | inr text ↦ text ]
+    text_of : IsTrue run.tells → JudgesText (format_of j.asked) run.texts j.file problem.clauses (taken_in run ProofIn) (Err error.OutOfMemory)
+    text_of t = elim (judges.read t) [ inl e ↦ absurd (no_fault e) | inr text ↦ text run.texts (run.fits ProofIn tt j.file) ]

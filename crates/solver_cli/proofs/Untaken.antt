@@ -3,13 +3,14 @@ use Rattle.std.proofs.Common.{◌≡◌, ℕ, false, true, List, [], refl, sym, 
 use Rattle.std.specs.Prelude.{Bool, Option, Result, ◌≢◌, ◌⊎◌}
 use Rattle.cnf_base.specs.Formula.{Formula}
 use Rattle.host_io.specs.Channel.{Channel}
-use Rattle.host_io.specs.Files.{Files, IsInput}
+use Rattle.host_io.specs.Files.{Files, Texts, IsInput}
 use Rattle.host_io.specs.declared.role.Role.{Role}
 use Rattle.host_io.specs.declared.role.Role.TheVariants.{Cnf, Order, Buckets, Schedule, ProofIn, Cubes, ProofOut, Made, Out, Err as ErrRole}
 use Rattle.dimacs_reader.specs.Cnf.{CnfText, formula, cnf}
 use Rattle.dimacs_reader.specs.declared.mode.Mode.{Mode}
 use Rattle.dimacs_reader.specs.declared.error.CnfError.{CnfError}
 use Rattle.dimacs_reader.specs.declared.error.CnfError.TheVariants as cnf_error
+use Rattle.text_scan.specs.Decides.{Fits}
 use Rattle.schedule_plan.specs.OrderText.{OrderText, order as given_order, order_text}
 use Rattle.schedule_plan.specs.ScheduleText.{ScheduleText, schedule}
 use Rattle.schedule_plan.specs.declared.plan.Move.{Move}
@@ -55,7 +56,7 @@ pub untaken : (run : Run) (asked : Command) (file : List ℕ) → command run.wo
     → Untaken (mode_of asked) run.tells (streams_of run.before) (streams_of run.after) run.files file run.status → Core run
 untaken run asked file gives named u = go u.error u.takes u.ends where
   text : {Answer : Result Formula CnfError → CnfText → Type 0} {result : Result Formula CnfError} {said : CnfText}
-      → (says : ReadsText (cnf (mode_of asked)) Answer run.files file (taken_in run Cnf) result)
+      → (says : ReadsText (cnf (mode_of asked)) Answer run.texts file (taken_in run Cnf) result)
       → cnf (mode_of asked) says.bytes ≡ said → cnf (mode_of asked) (taken_in run Cnf) ≡ said → IsRefusedBy run said
   text says told decided = record {
     asked = asked;
@@ -113,11 +114,11 @@ untaken run asked file gives named u = go u.error u.takes u.ends where
       ≡ status_of_error error → Core run
   go (cnf_error.Refused kind line) takes ends =
       refused run asked gives (alone (CnfRefused kind line)) ends refl (λ e. cc)
-      ((asked, gives, file, named), λ t. let says = text_read (λ e. cc) takes t in text says says.told says.decided)
+      ((asked, gives, file, named), λ t. let says = text_read run.texts (λ e. cc) takes (run.fits Cnf tt file) t in text says says.told says.decided)
   go cnf_error.TooLong takes ends =
       refused run asked gives (alone (TooLong Cnf)) ends refl (λ e. cc) (
         (asked, gives, file, named),
-        λ t. let says = text_read (λ e. cc) takes t in
+        λ t. let says = text_read run.texts (λ e. cc) takes (run.fits Cnf tt file) t in
             text says says.told says.decided,
       )
   go cnf_error.ReadFault takes ends = unread run asked gives (alone ReadFault) ends
@@ -127,15 +128,15 @@ untaken run asked file gives named u = go u.error u.takes u.ends where
     given = gives;
     file = file;
     named = named;
-    wants = λ t. not_early (takes.memory t refl);
+    wants = λ t. not_early (takes.memory t refl) run.texts (run.fits Cnf tt file);
     alone = rest;
   }))) ends
 
 -- the formula that is asked for was read
-pub formula_read : (mode : Mode) {tells : Bool} {old new : Channel} {files : Files} {file : List ℕ} {problem : Formula}
-    → TakesFormula mode tells old new files file (Ok problem) → IsTrue tells
-    → IsRead files file (cnf mode) (formula problem)
-formula_read mode takes t = let says = text_read (λ e. ok_err e) takes t in
+pub formula_read : (mode : Mode) {tells : Bool} {old new : Channel} {files : Files} {file : List ℕ} {problem : Formula} (texts : Texts)
+    → TakesFormula mode tells old new files file (Ok problem) → Fits files old new file texts → IsTrue tells
+    → IsRead texts file (cnf mode) (formula problem)
+formula_read mode texts takes fits t = let says = text_read texts (λ e. ok_err e) takes fits t in
     record { bytes = says.bytes; stands = says.stands; says = says.told }
 
 pub took : (run : Run) (asked : Command) (file : List ℕ) (problem : Formula) → command run.words ≡ Some asked → formula_file asked
@@ -146,7 +147,7 @@ took run asked file problem gives named takes t = record {
   command = gives;
   file = file;
   named = named;
-  read = formula_read (mode_of asked) takes t;
+  read = formula_read (mode_of asked) run.texts takes (run.fits Cnf tt file) t;
 }
 
 -- a run of `solve` that nothing was written in
@@ -157,32 +158,36 @@ solve_alone run task gives proof made out status =
     record { proof = left_proof run proof; made = made; out = out; makes = λ make. absurd (decided_apart gives refl make.1 refl) }
 
 -- the order that was had is the one that is asked for
-pub ordered : {tells : Bool} {old new : Channel} {files : Files} (problem : Formula) {order : List ℕ} (file : Option (List ℕ))
-    → HasOrder problem.vars file tells old new files (Ok order) → IsTrue tells → IsOrdered files file problem order
-ordered problem None has t = (has.natural refl).made
-ordered problem (Some file) has t = let says = text_read (λ e. ok_err e) (has.named file refl) t in
+pub ordered : {tells : Bool} {old new : Channel} {files : Files} (texts : Texts) (problem : Formula) {order : List ℕ}
+    (file : Option (List ℕ)) → HasOrder problem.vars file tells old new files (Ok order)
+    → ((name : List ℕ) → Fits files old new name texts) → IsTrue tells → IsOrdered texts file problem order
+ordered texts problem None has fits t = (has.natural refl).made
+ordered texts problem (Some file) has fits t = let says = text_read texts (λ e. ok_err e) (has.named file refl) (fits file) t in
     record { bytes = says.bytes; stands = says.stands; says = says.told }
 
 -- and so are the plan and its order
 pub planned : {tells : Bool} {old_buckets new_buckets old new : Channel} {files : Files} {problem : Formula} {given : List ℕ}
-    {named : Option (List ℕ)} {order : List ℕ} {moves : List Move} (plan : Planned)
+    {named : Option (List ℕ)} {order : List ℕ} {moves : List Move} (texts : Texts) (plan : Planned)
     → HasBuckets problem.vars (buckets_file plan) tells old_buckets new_buckets files (Ok named)
-    → HasPlan problem given named plan tells old new files (Ok (basis_of order moves)) → IsTrue tells
-    → IsPlanned files plan problem given order moves
-planned (ByName name) bucketed has t = let made = (has.named name refl).made in
+    → HasPlan problem given named plan tells old new files (Ok (basis_of order moves))
+    → ((name : List ℕ) → Fits files old_buckets new_buckets name texts) → ((name : List ℕ) → Fits files old new name texts) → IsTrue tells
+    → IsPlanned texts plan problem given order moves
+planned texts (ByName name) bucketed has by_buckets fits t = let made = (has.named name refl).made in
     (ap (λ (b : Basis). b.order) made, ap (λ (b : Basis). b.plan) made)
-planned (ByFile file) bucketed has t = let s = has.scheduled file refl in let says = text_read (λ e. ok_err e) s.takes t in
+planned texts (ByFile file) bucketed has by_buckets fits t =
+    let s = has.scheduled file refl in
+    let says = text_read texts (λ e. ok_err e) s.takes (fits file) t in
     (s.order, record { bytes = says.bytes; stands = says.stands; says = says.told })
 planned {tells = tells} {old_buckets = old_buckets} {new_buckets = new_buckets} {files = files} {problem = problem} {given = given}
-    {named = named} {order = order} {moves = moves} (ByBuckets file) bucketed has t =
+    {named = named} {order = order} {moves = moves} texts (ByBuckets file) bucketed has by_buckets fits t =
     let b = bucketed.named file refl in by b.0 b.1 b.2 where
       some : {read : List ℕ} → ◌≡◌ {A = Result (Option (List ℕ)) OrderError} (Ok named) (Ok (Some read)) → named ≡ Some read
       some e = cc
 
       by : (read : Result (List ℕ) OrderError) → TakesOrder problem.vars tells old_buckets new_buckets files file read
-          → ◌≡◌ {A = Result (Option (List ℕ)) OrderError} (Ok named) (as_some read) → (order ≡ given) × AreByBuckets files file problem moves
+          → ◌≡◌ {A = Result (Option (List ℕ)) OrderError} (Ok named) (as_some read) → (order ≡ given) × AreByBuckets texts file problem moves
       by (Ok read) takes e =
-          let says = text_read (λ e. ok_err e) takes t in
+          let says = text_read texts (λ e. ok_err e) takes (by_buckets file) t in
           let made = (has.bucketed file refl).made read (some e) in (
             ap (λ (b : Basis). b.order) made,
             record {
@@ -192,7 +197,7 @@ planned {tells = tells} {old_buckets = old_buckets} {new_buckets = new_buckets} 
             },
           )
       by (Err error) takes e = absurd (ok_err e)
-planned Found bucketed has t = (has.found refl).found
+planned texts Found bucketed has by_buckets fits t = (has.found refl).found
 
 -- the order was not had, by a command that goes by one
 pub unordered : (run : Run) (asked : Command) (own : List ℕ) (order : Option (List ℕ)) → command run.words ≡ Some asked
@@ -211,7 +216,7 @@ unordered run asked own order gives called is goes u = by order refl u.orders wh
   }
 
   wanted : (IsTrue run.tells → (file : List ℕ) → name_given Order asked ≡ Some file
-      → WantsRead (order_wants u.problem.vars) run.files file (taken_in run Order)) → MemoryIsWanted run
+      → WantsRead (order_wants u.problem.vars) run.texts file (taken_in run Order)) → MemoryIsWanted run
   wanted wants = inr (inr (inl (record {
     asked = asked;
     given = gives;
@@ -231,7 +236,7 @@ unordered run asked own order gives called is goes u = by order refl u.orders wh
   go file named error takes ends = by_error error takes ends where
     text : {Answer : Result (List ℕ) OrderError → OrderText → Type 0} {result : Result (List ℕ) OrderError} {said : OrderText}
         → IsTrue run.tells
-        → (says : ReadsText (order_text u.problem.vars) Answer run.files file (taken_in run Order) result)
+        → (says : ReadsText (order_text u.problem.vars) Answer run.texts file (taken_in run Order) result)
         → order_text u.problem.vars says.bytes ≡ said → order_text u.problem.vars (taken_in run Order) ≡ said
         → OrderIsRefusedBy run said
     text t says told decided = record {
@@ -250,10 +255,10 @@ unordered run asked own order gives called is goes u = by order refl u.orders wh
         → run.status ≡ status_of_order error → Core run
     by_error (order_error.Refused kind line) takes ends =
         refused run asked gives (alone (OrderRefused kind line)) ends refl (λ e. cc)
-        ((asked, gives, file, named), λ t. let says = text_read (λ e. cc) takes t in text t says says.told says.decided)
+        ((asked, gives, file, named), λ t. let says = text_read run.texts (λ e. cc) takes (run.fits Order tt file) t in text t says says.told says.decided)
     by_error order_error.TooLong takes ends =
         refused run asked gives (alone (TooLong Order)) ends refl (λ e. cc)
-        ((asked, gives, file, named), λ t. let says = text_read (λ e. cc) takes t in text t says says.told says.decided)
+        ((asked, gives, file, named), λ t. let says = text_read run.texts (λ e. cc) takes (run.fits Order tt file) t in text t says says.told says.decided)
     by_error order_error.ReadFault takes ends = unread run asked gives (alone ReadFault) ends
         (Order, tt, takes.failed refl, asked, file, gives, named) (λ t. inr (inl (record {
           asked = asked;
@@ -268,8 +273,8 @@ unordered run asked own order gives called is goes u = by order refl u.orders wh
           before_cubes = untouched run Cubes u.cubes;
         })))
     by_error order_error.OutOfMemory takes ends = short run asked gives (alone OutOfMemory)
-        (wanted (λ t other same. subst (λ (f : List ℕ). WantsRead (order_wants u.problem.vars) run.files f (taken_in run Order))
-        (some_same named same) (not_early (takes.memory t refl)))) ends
+        (wanted (λ t other same. subst (λ (f : List ℕ). WantsRead (order_wants u.problem.vars) run.texts f (taken_in run Order))
+        (some_same named same) (not_early (takes.memory t refl) run.texts (run.fits Order tt file)))) ends
 
   by : (file : Option (List ℕ)) → order ≡ file → HasOrder u.problem.vars file run.tells (run.before Order) (run.after Order) run.files
       (Err u.error) → Core run
@@ -293,7 +298,7 @@ unbucketed run task gives u = by task.plan refl u.bucketed where
   go file named error takes ends = by_error error takes ends where
     text : {Answer : Result (List ℕ) OrderError → OrderText → Type 0} {result : Result (List ℕ) OrderError} {said : OrderText}
         → IsTrue run.tells
-        → (says : ReadsText (order_text u.problem.vars) Answer run.files file (taken_in run Buckets) result)
+        → (says : ReadsText (order_text u.problem.vars) Answer run.texts file (taken_in run Buckets) result)
         → order_text u.problem.vars says.bytes ≡ said → order_text u.problem.vars (taken_in run Buckets) ≡ said
         → BucketsAreRefusedBy run said
     text t says told decided = record {
@@ -302,7 +307,7 @@ unbucketed run task gives u = by task.plan refl u.bucketed where
         task = task;
         asks = asks t;
         order = u.given;
-        ordered = ordered u.problem task.order u.orders t;
+        ordered = ordered run.texts u.problem task.order u.orders (run.fits Order tt) t;
         file = file;
         named = named;
         read = record { bytes = says.bytes; stands = says.stands; says = told };
@@ -314,17 +319,17 @@ unbucketed run task gives u = by task.plan refl u.bucketed where
         → run.status ≡ status_of_buckets error → Core run
     by_error (order_error.Refused kind line) takes ends =
         refused run (Solve task) gives (alone (BucketsRefused kind line)) ends refl (λ e. cc)
-        ((task, gives, file, named), λ t. let says = text_read (λ e. cc) takes t in text t says says.told says.decided)
+        ((task, gives, file, named), λ t. let says = text_read run.texts (λ e. cc) takes (run.fits Buckets tt file) t in text t says says.told says.decided)
     by_error order_error.TooLong takes ends =
         refused run (Solve task) gives (alone (TooLong Buckets)) ends refl (λ e. cc)
-        ((task, gives, file, named), λ t. let says = text_read (λ e. cc) takes t in text t says says.told says.decided)
+        ((task, gives, file, named), λ t. let says = text_read run.texts (λ e. cc) takes (run.fits Buckets tt file) t in text t says says.told says.decided)
     by_error order_error.ReadFault takes ends = unread run (Solve task) gives (alone ReadFault) ends
         (Buckets, tt, takes.failed refl, Solve task, file, gives, ap buckets_file named) (λ t. inr (inr (inl (record {
           task = task;
           problem = u.problem;
           asks = asks t;
           order = u.given;
-          ordered = ordered u.problem task.order u.orders t;
+          ordered = ordered run.texts u.problem task.order u.orders (run.fits Order tt) t;
           file = file;
           named = named;
           failed = takes.failed refl;
@@ -337,10 +342,10 @@ unbucketed run task gives u = by task.plan refl u.bucketed where
       problem = u.problem;
       asks = asks;
       order = u.given;
-      ordered = ordered u.problem task.order u.orders;
+      ordered = ordered run.texts u.problem task.order u.orders (run.fits Order tt);
       file = file;
       named = named;
-      wants = λ t. not_early (takes.memory t refl);
+      wants = λ t. not_early (takes.memory t refl) run.texts (run.fits Buckets tt file);
       before_schedule = u.schedule;
       before_proof = u.proof;
     }))))) ends
@@ -371,25 +376,25 @@ unplanned run task gives u = by task.plan refl u.plans where
   alone = solve_alone run task gives u.proof u.made u.out
 
   bucket_order : IsTrue run.tells → (file : List ℕ) → task.plan ≡ ByBuckets file
-      → (buckets : List ℕ) × IsRead run.files file (order_text u.problem.vars) (given_order buckets)
+      → (buckets : List ℕ) × IsRead run.texts file (order_text u.problem.vars) (given_order buckets)
   bucket_order t file same = let b = u.bucketed.named file (ap buckets_file same) in from b.0 b.1 b.2 where
     from : (read : Result (List ℕ) OrderError)
         → TakesOrder u.problem.vars run.tells (run.before Buckets) (run.after Buckets) run.files file read
         → ◌≡◌ {A = Result (Option (List ℕ)) OrderError} (Ok u.named) (as_some read)
-        → (buckets : List ℕ) × IsRead run.files file (order_text u.problem.vars) (given_order buckets)
-    from (Ok order) takes e = let says = text_read (λ e. ok_err e) takes t in
+        → (buckets : List ℕ) × IsRead run.texts file (order_text u.problem.vars) (given_order buckets)
+    from (Ok order) takes e = let says = text_read run.texts (λ e. ok_err e) takes (run.fits Buckets tt file) t in
         (order, record { bytes = says.bytes; stands = says.stands; says = says.told })
     from (Err error) takes e = absurd (ok_err e)
 
   wanted : (IsTrue run.tells → (file : List ℕ) → task.plan ≡ ByFile file → (taken_in run Schedule ≡ [])
-      ⊎ WantsRead (schedule_wants u.problem) run.files file (taken_in run Schedule)) → MemoryIsWanted run
+      ⊎ WantsRead (schedule_wants u.problem) run.texts file (taken_in run Schedule)) → MemoryIsWanted run
   wanted wants = inr (inr (inr (inr (inl (record {
     task = task;
     given = gives;
     problem = u.problem;
     asks = asks;
     order = u.given;
-    ordered = ordered u.problem task.order u.orders;
+    ordered = ordered run.texts u.problem task.order u.orders (run.fits Order tt);
     bucketed = bucket_order;
     wants = wants;
     before_proof = u.proof;
@@ -405,7 +410,7 @@ unplanned run task gives u = by task.plan refl u.plans where
   go file named error takes ends = by_error error takes ends where
     text : {Answer : Result (List Move) PlanError → ScheduleText → Type 0} {result : Result (List Move) PlanError} {said : ScheduleText}
         → IsTrue run.tells
-        → (says : ReadsText (schedule u.problem) Answer run.files file (taken_in run Schedule) result) → schedule u.problem says.bytes
+        → (says : ReadsText (schedule u.problem) Answer run.texts file (taken_in run Schedule) result) → schedule u.problem says.bytes
         ≡ said → schedule u.problem (taken_in run Schedule) ≡ said
         → ScheduleIsRefusedBy run said
     text t says told decided = record {
@@ -414,7 +419,7 @@ unplanned run task gives u = by task.plan refl u.plans where
         task = task;
         asks = asks t;
         order = u.given;
-        ordered = ordered u.problem task.order u.orders t;
+        ordered = ordered run.texts u.problem task.order u.orders (run.fits Order tt) t;
         file = file;
         named = named;
         read = record { bytes = says.bytes; stands = says.stands; says = told };
@@ -426,17 +431,17 @@ unplanned run task gives u = by task.plan refl u.plans where
         → run.status ≡ status_of_plan error → Core run
     by_error (plan_error.Refused kind line) takes ends =
         refused run (Solve task) gives (alone (PlanRefused kind line)) ends refl (λ e. cc)
-        ((task, gives, file, named), λ t. let says = text_read (λ e. cc) takes t in text t says says.told says.decided)
+        ((task, gives, file, named), λ t. let says = text_read run.texts (λ e. cc) takes (run.fits Schedule tt file) t in text t says says.told says.decided)
     by_error plan_error.TooLong takes ends =
         refused run (Solve task) gives (alone (TooLong Schedule)) ends refl (λ e. cc)
-        ((task, gives, file, named), λ t. let says = text_read (λ e. cc) takes t in text t says says.told says.decided)
+        ((task, gives, file, named), λ t. let says = text_read run.texts (λ e. cc) takes (run.fits Schedule tt file) t in text t says says.told says.decided)
     by_error plan_error.ReadFault takes ends = unread run (Solve task) gives (alone ReadFault) ends
         (Schedule, tt, takes.failed refl, Solve task, file, gives, ap schedule_file named) (λ t. inr (inr (inr (inl (record {
           task = task;
           problem = u.problem;
           asks = asks t;
           order = u.given;
-          ordered = ordered u.problem task.order u.orders t;
+          ordered = ordered run.texts u.problem task.order u.orders (run.fits Order tt) t;
           file = file;
           named = named;
           failed = takes.failed refl;
@@ -444,14 +449,17 @@ unplanned run task gives u = by task.plan refl u.plans where
         })))))
     by_error plan_error.OutOfMemory takes ends = short run (Solve task) gives (alone OutOfMemory)
         (wanted (λ t other same. subst (λ (f : List ℕ). (taken_in run Schedule ≡ [])
-        ⊎ WantsRead (schedule_wants u.problem) run.files f (taken_in run Schedule)) (same_file (sym named ∙ same))
+        ⊎ WantsRead (schedule_wants u.problem) run.texts f (taken_in run Schedule)) (same_file (sym named ∙ same))
         (none_or (takes.memory t refl)))) ends where
           same_file : {a b : List ℕ} → ByFile a ≡ ByFile b → a ≡ b
           same_file e = cc
 
-          none_or : {A B C : Type 0} → (A × B) ⊎ C → B ⊎ C
+          none_or : {A B : Type 0}
+              → (A × B) ⊎ ((texts : Texts) → Fits run.files (run.before Schedule) (run.after Schedule) file texts
+              → WantsRead (schedule_wants u.problem) texts file (taken_in run Schedule))
+              → B ⊎ WantsRead (schedule_wants u.problem) run.texts file (taken_in run Schedule)
           none_or (inl none) = inl none.1
-          none_or (inr wants) = inr wants
+          none_or (inr wants) = inr (wants run.texts (run.fits Schedule tt file))
 
   by : (plan : Planned) → task.plan ≡ plan
       → HasPlan u.problem u.given u.named plan run.tells (run.before Schedule) (run.after Schedule) run.files (Err u.error) → Core run

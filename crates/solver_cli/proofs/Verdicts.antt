@@ -85,8 +85,8 @@ plainly run problem bytes gives plain (judgement.Refused line reason) = refl
 -- the proof was judged, and what it becomes was written where that is asked for
 pub judged : Laws → (run : Run) {problem : Formula} (j : Judging run problem) (verdict : Verdict)
     → JudgesProof (format_of j.asked) run.tells (run.before ProofIn) (run.after ProofIn) run.files j.file problem.clauses (Ok verdict)
-    → (IsTrue run.tells → (bytes : List ℕ) → run.files j.file ≡ Some bytes → Rewritten run problem bytes verdict)
-    → {text : List ℕ} → (IsTrue run.tells → (bytes : List ℕ) → run.files j.file ≡ Some bytes
+    → (IsTrue run.tells → (bytes : List ℕ) → run.texts j.file ≡ Some bytes → Rewritten run problem bytes verdict)
+    → {text : List ℕ} → (IsTrue run.tells → (bytes : List ℕ) → run.texts j.file ≡ Some bytes
     → text ≡ verdict_text_for run problem bytes verdict)
     → (printed : Result ⊤ Failed) → PutsText run.tells (run.before Out) (run.after Out) text printed
     → run.status ≡ status_of_printed verdict printed → Core run
@@ -94,8 +94,8 @@ judged laws run {problem = problem} j verdict judges rewrites {text = text} says
   no_fault : (v : Verdict) → ◌≡◌ {A = Result Verdict CheckError} (Ok v) (Err error.ReadFault) → ⊥
   no_fault v e = cc
 
-  judged_text : IsTrue run.tells → JudgesText (format_of j.asked) run.files j.file problem.clauses (taken_in run ProofIn) (Ok verdict)
-  judged_text t = elim (judges.read t) [ inl e ↦ absurd (no_fault verdict e) | inr found ↦ found ]
+  judged_text : IsTrue run.tells → JudgesText (format_of j.asked) run.texts j.file problem.clauses (taken_in run ProofIn) (Ok verdict)
+  judged_text t = elim (judges.read t) [ inl e ↦ absurd (no_fault verdict e) | inr found ↦ found run.texts (run.fits ProofIn tt j.file) ]
 
   has : (t : IsTrue run.tells) → HasVerdict run problem (judged_text t).bytes verdict
   has t = let found = judged_text t in record {

@@ -2,7 +2,7 @@
 use Rattle.std.specs.Prelude.{◌≡◌, ◌++◌, ℕ, ℤ, List, [], Option, None, Some, length}
 use Rattle.cnf_base.specs.Formula.{Formula}
 use Rattle.cnf_base.specs.ProofText.{proof_lines}
-use Rattle.host_io.specs.Files.{Files}
+use Rattle.host_io.specs.Files.{Texts}
 use Rattle.dimacs_reader.specs.Cnf.{cnf, formula as given_formula}
 use Rattle.lrat_rules.specs.State.{start}
 use Rattle.lrat_rules.specs.Run.{Judged, Reached, Stopped, run as run_lines}
@@ -38,9 +38,9 @@ moves_of_plan Bucket formula order = bucket formula order
 moves_of_plan Conjoin formula order = conjoin (length formula.clauses)
 
 -- the text that stands in the file of this name is read as that
-pub record IsRead {Text : Type 0} (files : Files) (file : List ℕ) (whole : List ℕ → Text) (text : Text) : Type 0 where
+pub record IsRead {Text : Type 0} (texts : Texts) (file : List ℕ) (whole : List ℕ → Text) (text : Text) : Type 0 where
   pub bytes : List ℕ
-  pub stands : files file ≡ Some bytes
+  pub stands : texts file ≡ Some bytes
   pub says : whole bytes ≡ text
 
 -- an order of so many variables
@@ -48,14 +48,14 @@ abbrev pub IsOrderOf : ℕ → List ℕ → Type 0
 IsOrderOf vars order = IsOrder order × (length order ≡ vars)
 
 -- the order of the formula's variables that the words give: the one in the named file, or without one the variables by rising number
-abbrev pub IsOrdered : Files → Option (List ℕ) → Formula → List ℕ → Type 0
-IsOrdered files None problem order = order ≡ natural problem.vars
-IsOrdered files (Some file) problem order = IsRead files file (order_text problem.vars) (given_order order)
+abbrev pub IsOrdered : Texts → Option (List ℕ) → Formula → List ℕ → Type 0
+IsOrdered texts None problem order = order ≡ natural problem.vars
+IsOrdered texts (Some file) problem order = IsRead texts file (order_text problem.vars) (given_order order)
 
 -- the moves of the bucket plan by the order of the variables in the named file
-pub record AreByBuckets (files : Files) (file : List ℕ) (problem : Formula) (moves : List Move) : Type 0 where
+pub record AreByBuckets (texts : Texts) (file : List ℕ) (problem : Formula) (moves : List Move) : Type 0 where
   pub buckets : List ℕ
-  pub read : IsRead files file (order_text problem.vars) (given_order buckets)
+  pub read : IsRead texts file (order_text problem.vars) (given_order buckets)
   pub planned : moves ≡ bucket problem buckets
 
 -- found by trials: some order of the variables, and the moves of the bucket plan by some order of them
@@ -67,18 +67,18 @@ pub record AreFound (problem : Formula) (order : List ℕ) (moves : List Move) :
 
 -- The order of the diagrams and the moves. The order is the one that the words give; the moves are those of the plan of the given name
 -- over it, those of the schedule in the named file, or those of the bucket plan by the order in the named file. Or both are found.
-abbrev pub IsPlanned : Files → Planned → Formula → List ℕ → List ℕ → List Move → Type 0
-IsPlanned files (ByName name) problem given order moves = (order ≡ given) × (moves ≡ moves_of_plan name problem given)
-IsPlanned files (ByFile file) problem given order moves = (order ≡ given) × IsRead files file (schedule problem) (given_plan moves)
-IsPlanned files (ByBuckets file) problem given order moves = (order ≡ given) × AreByBuckets files file problem moves
-IsPlanned files Found problem given order moves = AreFound problem order moves
+abbrev pub IsPlanned : Texts → Planned → Formula → List ℕ → List ℕ → List Move → Type 0
+IsPlanned texts (ByName name) problem given order moves = (order ≡ given) × (moves ≡ moves_of_plan name problem given)
+IsPlanned texts (ByFile file) problem given order moves = (order ≡ given) × IsRead texts file (schedule problem) (given_plan moves)
+IsPlanned texts (ByBuckets file) problem given order moves = (order ≡ given) × AreByBuckets texts file problem moves
+IsPlanned texts Found problem given order moves = AreFound problem order moves
 
 -- The files that are named give this formula, this order of its variables and these moves.
-pub record AreOfFiles (files : Files) (task : ToSolve) (problem : Formula) (order : List ℕ) (moves : List Move) : Type 0 where
-  pub read : IsRead files task.file (cnf task.mode) (given_formula problem)
+pub record AreOfFiles (texts : Texts) (task : ToSolve) (problem : Formula) (order : List ℕ) (moves : List Move) : Type 0 where
+  pub read : IsRead texts task.file (cnf task.mode) (given_formula problem)
   pub given : List ℕ
-  pub ordered : IsOrdered files task.order problem given
-  pub planned : IsPlanned files task.plan problem given order moves
+  pub ordered : IsOrdered texts task.order problem given
+  pub planned : IsPlanned texts task.plan problem given order moves
 
 -- They are those of the board of so many squares a side: its formula, its column order and its column schedule.
 pub record AreOfBoard (size : ℕ) (problem : Formula) (order : List ℕ) (moves : List Move) : Type 0 where
@@ -87,15 +87,15 @@ pub record AreOfBoard (size : ℕ) (problem : Formula) (order : List ℕ) (moves
   pub its_moves : moves ≡ board_moves size
 
 -- a command gives a formula to decide, the order of its variables and the moves
-abbrev pub AreGiven : Files → Command → Formula → List ℕ → List Move → Type 0
-AreGiven files (Solve task) problem order moves = AreOfFiles files task problem order moves
-AreGiven files (Check task) problem order moves = ⊥
-AreGiven files (Bench task) problem order moves = AreOfBoard task.size problem order moves
-AreGiven files (Make task) problem order moves = ⊥
-AreGiven files (Arrange task) problem order moves = ⊥
-AreGiven files (Ask task) problem order moves = ⊥
-AreGiven files (Convert task) problem order moves = ⊥
-AreGiven files (Trim task) problem order moves = ⊥
+abbrev pub AreGiven : Texts → Command → Formula → List ℕ → List Move → Type 0
+AreGiven texts (Solve task) problem order moves = AreOfFiles texts task problem order moves
+AreGiven texts (Check task) problem order moves = ⊥
+AreGiven texts (Bench task) problem order moves = AreOfBoard task.size problem order moves
+AreGiven texts (Make task) problem order moves = ⊥
+AreGiven texts (Arrange task) problem order moves = ⊥
+AreGiven texts (Ask task) problem order moves = ⊥
+AreGiven texts (Convert task) problem order moves = ⊥
+AreGiven texts (Trim task) problem order moves = ⊥
 
 -- the outcome is true of the formula, and the proof that was written shows it
 pub record Holds (limits : Limits) (problem : Formula) (order : List ℕ) (moves : List Move) (bytes : List ℕ)

@@ -23,8 +23,8 @@ pub record ChecksConverted (converted checked : Run) (into : Conversion) (format
   pub check_asked : command checked.words ≡ Some (Check task)
   pub judges : task.format ≡ format
   pub same_mode : task.mode ≡ conversion.mode
-  pub same_formula : checked.files task.file ≡ converted.files conversion.file
-  pub same_proof : checked.files task.proof ≡ Some (written_in converted ProofOut)
+  pub same_formula : checked.texts task.file ≡ converted.texts conversion.file
+  pub same_proof : checked.texts task.proof ≡ Some (written_in converted ProofOut)
 
 -- an LRAT proof became a DRAT proof that is no longer than is looked at, and this is judged; a DRAT proof became an LRAT proof, which is
 -- judged

@@ -2,14 +2,14 @@
 use Rattle.std.specs.Prelude.{◌≡◌, ◌≢◌, ◌⊎◌, ◌≤◌, ◌++◌, ℕ, Bool, List, [], None, Some, Result, Ok, Err, length, IsTrue, IsOk, IsErr}
 use Rattle.std.specs.Prelude.{if◌then◌else◌}
 use Rattle.cnf_base.specs.Formula.{Formula}
-use Rattle.host_io.specs.Channel.{Channel, Rose}
-use Rattle.host_io.specs.Files.{Files}
+use Rattle.host_io.specs.Channel.{Channel, Leaves, MayFollow, Rose}
+use Rattle.host_io.specs.Files.{Files, Texts}
 use Rattle.lrat_rules.specs.Run.{Refutes}
 use Rattle.lrat_rules.specs.State.{start}
 use Rattle.lrat_checker.specs.declared.verdict.Verdict.{Verdict}
 use Rattle.lrat_checker.specs.declared.verdict.Verdict.TheVariants.{Verified}
 use Rattle.lrat_checker.specs.declared.verdict.CheckError.{CheckError}
-use Rattle.text_scan.specs.Decides.{gained, Decides, OnlyReads}
+use Rattle.text_scan.specs.Decides.{gained, Decides, Fits, OnlyReads}
 use Rattle.drat_rules.specs.Clauses.{Equality, same_list, same_set}
 use Rattle.drat_proof.specs.Drat.{named_drat, named_drat_steps}
 use Rattle.drat_proof.specs.Conversion.{AreFirstLines, HasVerdict as IsAnswered, HasWritten, converted}
@@ -73,27 +73,29 @@ pub record Converts (tells : Bool) (in_old in_new out_old out_new : Channel) (in
 -- An opened proof was judged over this formula, and converted to a created file, which was flushed.
 pub record ConvertsProof (tells : Bool) (in_old in_new out_old out_new : Channel) (into : Conversion) (problem : Formula)
     (result : Result Verdict ConvertError) : Type 0 where
-  pub judged : IsTrue tells → IsAnswered result (verdict_in (format_before into) problem.clauses in_old.left)
-  pub decided : IsTrue tells → IsAnswered result (verdict_in (format_before into) problem.clauses (gained in_old in_new))
+  pub left : IsTrue tells → Leaves in_old.left (gained in_old in_new) in_new.left
+  pub judged : IsTrue tells → (more : List ℕ) → MayFollow in_new more
+      → IsAnswered result (verdict_in (format_before into) problem.clauses (gained in_old in_new ++ more))
   pub undecided : IsTrue tells → result ≡ Err ReadFault → so_far_in (format_before into) problem.clauses (gained in_old in_new) ≡ None
-  pub memory : IsTrue tells → result ≡ Err OutOfMemory
-      → WantsProof (format_before into) problem.clauses in_old.left (gained in_old in_new)
+  pub memory : IsTrue tells → result ≡ Err OutOfMemory → (more : List ℕ) → MayFollow in_new more
+      → WantsProof (format_before into) problem.clauses (gained in_old in_new ++ more) (gained in_old in_new)
   pub read_fault : result ≡ Err ReadFault → Rose in_old.faults in_new.faults
   pub unfailed_reads : result ≢ Err ReadFault → in_new.faults ≡ in_old.faults
   pub read_written : in_new.written ≡ in_old.written
   pub read_name : in_new.name ≡ in_old.name
   pub read_faults : in_old.faults ≤ in_new.faults
-  pub written : IsTrue tells → HasConverted into problem result in_old.left (added out_old out_new)
+  pub written : IsTrue tells → (more : List ℕ) → MayFollow in_new more
+      → HasConverted into problem result (gained in_old in_new ++ more) (added out_old out_new)
   pub flushed : IsTrue tells → IsOk result → out_new.flushed ≡ length out_new.written
   pub write_fault : result ≡ Err WriteFault → Rose out_old.faults out_new.faults
   pub unfailed_writes : result ≢ Err WriteFault → out_new.faults ≡ out_old.faults
   pub name : out_new.name ≡ out_old.name
 
 -- what the file of this name holds was converted
-pub record ConvertsText (into : Conversion) (problem : Formula) (files : Files) (file : List ℕ) (written : List ℕ)
+pub record ConvertsText (into : Conversion) (problem : Formula) (texts : Texts) (file : List ℕ) (written : List ℕ)
     (result : Result Verdict ConvertError) : Type 0 where
   pub bytes : List ℕ
-  pub stands : files file ≡ Some bytes
+  pub stands : texts file ≡ Some bytes
   pub holds : HasConverted into problem result bytes written
 
 -- The proof's file was opened and the other one created, and the proof was converted; or nothing was written.
@@ -105,7 +107,7 @@ pub record RewritesProof (tells : Bool) (in_old in_new out_old out_new : Channel
   pub read_written : in_new.written ≡ in_old.written
   pub read_name : (in_new.name ≡ Some file) ⊎ (in_new.name ≡ None)
   pub written : IsTrue tells → (IsErr result × (added out_old out_new ≡ []))
-      ⊎ ConvertsText into problem files file (added out_old out_new) result
+      ⊎ ((texts : Texts) → Fits files in_old in_new file texts → ConvertsText into problem texts file (added out_old out_new) result)
   pub flushed : IsTrue tells → IsOk result → out_new.flushed ≡ length out_new.written
   pub write_fault : result ≡ Err WriteFault → Rose out_old.faults out_new.faults
   pub unfailed_writes : result ≢ Err WriteFault → out_new.faults ≡ out_old.faults

@@ -60,7 +60,7 @@ pub record AreOpenBuckets (run : Run) : Type 0 where
   pub problem : Formula
   pub asks : AsksOver run (Solve task) (formula problem)
   pub order : List ℕ
-  pub ordered : IsOrdered run.files task.order problem order
+  pub ordered : IsOrdered run.texts task.order problem order
   pub file : List ℕ
   pub named : task.plan ≡ ByBuckets file
   pub failed : HasFault run Buckets
@@ -73,7 +73,7 @@ pub record IsOpenSchedule (run : Run) : Type 0 where
   pub problem : Formula
   pub asks : AsksOver run (Solve task) (formula problem)
   pub order : List ℕ
-  pub ordered : IsOrdered run.files task.order problem order
+  pub ordered : IsOrdered run.texts task.order problem order
   pub file : List ℕ
   pub named : task.plan ≡ ByFile file
   pub failed : HasFault run Schedule
@@ -96,7 +96,7 @@ pub record AreOpenCubes (run : Run) : Type 0 where
   pub problem : Formula
   pub asks : AsksOver run (Ask task) (formula problem)
   pub order : List ℕ
-  pub ordered : IsOrdered run.files task.order problem order
+  pub ordered : IsOrdered run.texts task.order problem order
   pub failed : HasFault run Cubes
   pub undecided : cubes_so_far problem.vars (taken_in run Cubes) ≡ overlong_cubes
 

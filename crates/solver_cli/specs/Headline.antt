@@ -1,6 +1,7 @@
--- What the program promises, over one run of it: its words, the host before and after, and how it ended. What it
--- says of bytes is said of hosts that tell their bytes. What `solve` and `bench` are given is one sentence (`AreGiven`). Sentences that say
--- more of other commands than of `drat` and `lrat` have a second case (`ConvertsAsItReads`), and `trim` creates its file after the verdict.
+-- What the program promises, over one run of it: its words, the host before and after, any contents of the files that fit the bytes taken
+-- of them, and how it ended. What it says of bytes is said of hosts that tell them, as the real one and those in memory do. What `solve`
+-- and `bench` are given is one sentence (`AreGiven`). Sentences that say more of other commands than of `drat` and `lrat` have a second
+-- case (`ConvertsAsItReads`), and `trim` creates its file after the verdict.
 use Rattle.std.specs.Prelude.{◌≡◌, ◌≢◌, ◌⊎◌, ◌++◌, ◌<◌, ℕ, ℤ, Bool, true, false, List, [], None, Some, length, IsTrue, IsFalse}
 use Rattle.std.specs.Prelude.{⊤}
 use Rattle.cnf_base.specs.Truth.{Satisfies, assignment_of}
@@ -294,7 +295,7 @@ pub record FormulaWantsMemory (run : Run) : Type 0 where
   pub given : command run.words ≡ Some asked
   pub file : List ℕ
   pub named : formula_file asked ≡ Some file
-  pub wants : IsTrue run.tells → WantsRead (cnf_wants (mode_of asked)) run.files file (taken_in run Cnf)
+  pub wants : IsTrue run.tells → WantsRead (cnf_wants (mode_of asked)) run.texts file (taken_in run Cnf)
   pub alone : (role : Role) → role ≢ Cnf → role ≢ Err → run.after role ≡ run.before role
 
 -- For an order of the variables, where the formula was accepted: the text of the file that is named may want it, or none is named. No
@@ -306,7 +307,7 @@ pub record OrderWantsMemory (run : Run) : Type 0 where
   pub problem : Formula
   pub asks : IsTrue run.tells → AsksOver run asked (formula problem)
   pub wants : IsTrue run.tells → (file : List ℕ) → name_given Order asked ≡ Some file
-      → WantsRead (order_wants problem.vars) run.files file (taken_in run Order)
+      → WantsRead (order_wants problem.vars) run.texts file (taken_in run Order)
   pub before_buckets : run.after Buckets ≡ run.before Buckets
   pub before_schedule : run.after Schedule ≡ run.before Schedule
   pub before_cubes : run.after Cubes ≡ run.before Cubes
@@ -319,10 +320,10 @@ pub record BucketsWantMemory (run : Run) : Type 0 where
   pub problem : Formula
   pub asks : IsTrue run.tells → AsksOver run (Solve task) (formula problem)
   pub order : List ℕ
-  pub ordered : IsTrue run.tells → IsOrdered run.files task.order problem order
+  pub ordered : IsTrue run.tells → IsOrdered run.texts task.order problem order
   pub file : List ℕ
   pub named : task.plan ≡ ByBuckets file
-  pub wants : IsTrue run.tells → WantsRead (order_wants problem.vars) run.files file (taken_in run Buckets)
+  pub wants : IsTrue run.tells → WantsRead (order_wants problem.vars) run.texts file (taken_in run Buckets)
   pub before_schedule : run.after Schedule ≡ run.before Schedule
   pub before_proof : run.after ProofOut ≡ run.before ProofOut
 
@@ -333,11 +334,11 @@ pub record PlanWantsMemory (run : Run) : Type 0 where
   pub problem : Formula
   pub asks : IsTrue run.tells → AsksOver run (Solve task) (formula problem)
   pub order : List ℕ
-  pub ordered : IsTrue run.tells → IsOrdered run.files task.order problem order
+  pub ordered : IsTrue run.tells → IsOrdered run.texts task.order problem order
   pub bucketed : IsTrue run.tells → (file : List ℕ) → task.plan ≡ ByBuckets file
-      → (buckets : List ℕ) × IsRead run.files file (order_text problem.vars) (given_order buckets)
+      → (buckets : List ℕ) × IsRead run.texts file (order_text problem.vars) (given_order buckets)
   pub wants : IsTrue run.tells → (file : List ℕ) → task.plan ≡ ByFile file
-      → (taken_in run Schedule ≡ []) ⊎ WantsRead (schedule_wants problem) run.files file (taken_in run Schedule)
+      → (taken_in run Schedule ≡ []) ⊎ WantsRead (schedule_wants problem) run.texts file (taken_in run Schedule)
   pub before_proof : run.after ProofOut ≡ run.before ProofOut
 
 -- For deciding the formula that is asked for, once all of its texts were accepted and the proof's file was created.
@@ -358,7 +359,7 @@ pub record VerdictWantsMemory (run : Run) : Type 0 where
   pub named : name_given ProofIn asked ≡ Some file
   pub problem : Formula
   pub asks : IsTrue run.tells → AsksOver run asked (formula problem)
-  pub wants : (GivesTrimming run → ⊥) → IsTrue run.tells → (bytes : List ℕ) × (run.files file ≡ Some bytes)
+  pub wants : (GivesTrimming run → ⊥) → IsTrue run.tells → (bytes : List ℕ) × (run.texts file ≡ Some bytes)
       × WantsProof (format_of asked) problem.clauses bytes (taken_in run ProofIn)
   pub before_answer : run.after Out ≡ run.before Out
 
@@ -377,8 +378,8 @@ pub record CubesWantMemory (run : Run) : Type 0 where
   pub problem : Formula
   pub asks : IsTrue run.tells → AsksOver run (Ask task) (formula problem)
   pub order : List ℕ
-  pub ordered : IsTrue run.tells → IsOrdered run.files task.order problem order
-  pub wants : IsTrue run.tells → WantsRead (cubes_wants problem.vars) run.files task.cubes (taken_in run Cubes)
+  pub ordered : IsTrue run.tells → IsOrdered run.texts task.order problem order
+  pub wants : IsTrue run.tells → WantsRead (cubes_wants problem.vars) run.texts task.cubes (taken_in run Cubes)
   pub before_proof : run.after ProofOut ≡ run.before ProofOut
 
 pub record AnswersWantMemory (run : Run) : Type 0 where

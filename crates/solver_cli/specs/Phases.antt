@@ -4,10 +4,10 @@ use Rattle.std.specs.Prelude.{IsOk, IsErr, ◌-◌}
 use Rattle.std.specs.Prelude.{IfOk, IfErr, ℤ, ⊤}
 use Rattle.cnf_base.specs.Formula.{Formula, IsFormula}
 use Rattle.host_io.specs.declared.source.Failed.{Failed}
-use Rattle.host_io.specs.Channel.{Channel, Rose}
-use Rattle.host_io.specs.Files.{Files}
+use Rattle.host_io.specs.Channel.{Channel, Leaves, MayFollow, Rose}
+use Rattle.host_io.specs.Files.{Files, Texts}
 use Rattle.cnf_base.specs.Limits.{max_bytes}
-use Rattle.text_scan.specs.Decides.{gained}
+use Rattle.text_scan.specs.Decides.{gained, Fits}
 use Rattle.text_scan.specs.Items.{items}
 use Rattle.dimacs_reader.specs.Cnf.{overlong as unread_cnf, cnf, cnf_so_far}
 use Rattle.dimacs_reader.specs.Answers.{Answers as CnfAnswers, WantsMemory as CnfWantsMemory}
@@ -57,16 +57,16 @@ use Rattle.solver_cli.specs.declared.status.Status.{Status}
 -- A text was read: the answer is that of the whole text that stands in the file of this name, and already that of the
 -- bytes taken.
 pub record ReadsText {Text R : Type 0} (whole : List ℕ → Text) (answers : R → Text
-    → Type 0) (files : Files) (file taken : List ℕ) (result : R) : Type 0 where
+    → Type 0) (texts : Texts) (file taken : List ℕ) (result : R) : Type 0 where
   pub bytes : List ℕ
-  pub stands : files file ≡ Some bytes
+  pub stands : texts file ≡ Some bytes
   pub told : answers result (whole bytes)
   pub decided : answers result (whole taken)
 
 -- Memory was wanted for a text: by the whole that stands in the file of this name, and already by the bytes taken.
-pub record WantsRead (wants : List ℕ → Type 0) (files : Files) (file taken : List ℕ) : Type 0 where
+pub record WantsRead (wants : List ℕ → Type 0) (texts : Texts) (file taken : List ℕ) : Type 0 where
   pub bytes : List ℕ
-  pub stands : files file ≡ Some bytes
+  pub stands : texts file ≡ Some bytes
   pub whole : wants bytes
   pub front : wants taken
 
@@ -76,35 +76,38 @@ pub record Wanting (E : Type 0) : Type 1 where
   pub answer : E
   pub texts : List ℕ → Type 0
 
--- The text of an opened file was read. `whole` is what a text is, `so_far` what its front decides, `unread` where that is
--- nothing yet; `answers` says which answers a text allows, `fit` what is promised of a value that was read, and `fault` is
--- the answer where a call on the file failed. Then the bytes taken decide nothing yet. Memory was wanted only where the text may want it.
+-- The text of an opened file was read: the answer is that of the bytes taken with whatever may follow them. `whole` is what a text is,
+-- `so_far` what its front decides, `unread` where that is nothing yet; `answers` says which answers a text allows, `fit` what is promised
+-- of a value that was read, and `fault` is the answer where a call on the file failed. Then the bytes taken decide nothing yet. Memory was
+-- wanted only where the text may want it.
 pub record ReadsOpened {Text T E : Type 0} (whole so_far : List ℕ → Text) (unread : Text) (answers : Result T E → Text → Type 0) (fit : T
     → Type 0) (fault : E) (wanting : Wanting E)
     (tells : Bool) (old new : Channel) (result : Result T E) : Type 0 where
-  pub told : IsTrue tells → answers result (whole old.left)
-  pub decided : IsTrue tells → answers result (whole (gained old new))
+  pub left : IsTrue tells → Leaves old.left (gained old new) new.left
+  pub told : IsTrue tells → (more : List ℕ) → MayFollow new more → answers result (whole (gained old new ++ more))
   pub fits : IfOk result fit
   pub failed : result ≡ Err fault → Rose old.faults new.faults
   pub unfailed : result ≢ Err fault → new.faults ≡ old.faults
   pub undecided : IsTrue tells → result ≡ Err fault → so_far (gained old new) ≡ unread
   pub memory : IsTrue tells → result ≡ Err wanting.answer → (IsTrue wanting.early × (gained old new ≡ []))
-      ⊎ (wanting.texts old.left × wanting.texts (gained old new))
+      ⊎ ((more : List ℕ) → MayFollow new more → wanting.texts (gained old new ++ more))
   pub written : new.written ≡ old.written
   pub name : new.name ≡ old.name
   pub faults : old.faults ≤ new.faults
 
--- the same of a file that was opened for it
+-- The same of a file that was opened for it: the answer is that of each content of the file that agrees with what the host tells of it,
+-- and with the bytes taken.
 pub record TakesText {Text T E : Type 0} (whole so_far : List ℕ → Text) (unread : Text) (answers : Result T E → Text → Type 0) (fit : T
     → Type 0) (fault : E) (wanting : Wanting E)
     (tells : Bool) (old new : Channel) (files : Files) (file : List ℕ) (result : Result T E) : Type 0 where
-  pub read : IsTrue tells → (result ≡ Err fault) ⊎ ReadsText whole answers files file (gained old new) result
+  pub read : IsTrue tells → (result ≡ Err fault)
+      ⊎ ((texts : Texts) → Fits files old new file texts → ReadsText whole answers texts file (gained old new) result)
   pub fits : IfOk result fit
   pub failed : result ≡ Err fault → Rose old.faults new.faults
   pub unfailed : result ≢ Err fault → new.faults ≡ old.faults
   pub undecided : IsTrue tells → result ≡ Err fault → so_far (gained old new) ≡ unread
   pub memory : IsTrue tells → result ≡ Err wanting.answer → (IsTrue wanting.early × (gained old new ≡ []))
-      ⊎ WantsRead wanting.texts files file (gained old new)
+      ⊎ ((texts : Texts) → Fits files old new file texts → WantsRead wanting.texts texts file (gained old new))
   pub written : new.written ≡ old.written
   pub name : (new.name ≡ Some file) ⊎ (new.name ≡ None)
   pub faults : old.faults ≤ new.faults
@@ -242,25 +245,26 @@ abbrev pub WantsProof : ProofFormat → List (List ℤ) → List ℕ → List �
 WantsProof format clauses bytes taken = (taken ≡ [])
     ⊎ (IsTrue (may_want_memory_in format clauses (length bytes - length taken) bytes) × IsTrue (may_want_memory_in format clauses 0 taken))
 
--- The answer of the check is the verdict of the text in the opened proof's file, in its format, and already of the bytes taken; where a
--- call on it failed, these decide nothing yet.
+-- The answer of the check is the verdict, in its format, of the bytes taken of an opened proof's file with whatever may follow them; where
+-- a call on it failed, these decide nothing yet.
 pub record ChecksProof (format : ProofFormat) (tells : Bool) (old new : Channel) (clauses : List (List ℤ))
     (result : Result Verdict CheckError) : Type 0 where
-  pub judged : IsTrue tells → Answers result (verdict_in format clauses old.left)
-  pub decided : IsTrue tells → Answers result (verdict_in format clauses (gained old new))
+  pub left : IsTrue tells → Leaves old.left (gained old new) new.left
+  pub judged : IsTrue tells → (more : List ℕ) → MayFollow new more → Answers result (verdict_in format clauses (gained old new ++ more))
   pub fault : result ≡ Err CheckReadFault → Rose old.faults new.faults
   pub unfailed : result ≢ Err CheckReadFault → new.faults ≡ old.faults
   pub undecided : IsTrue tells → result ≡ Err CheckReadFault → so_far_in format clauses (gained old new) ≡ None
-  pub memory : IsTrue tells → result ≡ Err CheckOutOfMemory → WantsProof format clauses old.left (gained old new)
+  pub memory : IsTrue tells → result ≡ Err CheckOutOfMemory → (more : List ℕ) → MayFollow new more
+      → WantsProof format clauses (gained old new ++ more) (gained old new)
   pub written : new.written ≡ old.written
   pub name : new.name ≡ old.name
   pub faults : old.faults ≤ new.faults
 
 -- what the file of this name holds was judged
-pub record JudgesText (format : ProofFormat) (files : Files) (file : List ℕ) (clauses : List (List ℤ)) (taken : List ℕ)
+pub record JudgesText (format : ProofFormat) (texts : Texts) (file : List ℕ) (clauses : List (List ℤ)) (taken : List ℕ)
     (result : Result Verdict CheckError) : Type 0 where
   pub bytes : List ℕ
-  pub stands : files file ≡ Some bytes
+  pub stands : texts file ≡ Some bytes
   pub judged : Answers result (verdict_in format clauses bytes)
   pub decided : Answers result (verdict_in format clauses taken)
   pub memory : result ≡ Err CheckOutOfMemory → WantsProof format clauses bytes taken
@@ -268,7 +272,8 @@ pub record JudgesText (format : ProofFormat) (files : Files) (file : List ℕ) (
 -- the proof's file was opened, and its text judged
 pub record JudgesProof (format : ProofFormat) (tells : Bool) (old new : Channel) (files : Files) (file : List ℕ)
     (clauses : List (List ℤ)) (result : Result Verdict CheckError) : Type 0 where
-  pub read : IsTrue tells → (result ≡ Err CheckReadFault) ⊎ JudgesText format files file clauses (gained old new) result
+  pub read : IsTrue tells → (result ≡ Err CheckReadFault)
+      ⊎ ((texts : Texts) → Fits files old new file texts → JudgesText format texts file clauses (gained old new) result)
   pub fault : result ≡ Err CheckReadFault → Rose old.faults new.faults
   pub unfailed : result ≢ Err CheckReadFault → new.faults ≡ old.faults
   pub undecided : IsTrue tells → result ≡ Err CheckReadFault → so_far_in format clauses (gained old new) ≡ None

@@ -1,11 +1,12 @@
 -- One run of the program, and what its words ask for.
-use Rattle.std.specs.Prelude.{◌≡◌, ◌⊎◌, ◌≤◌, ℕ, Bool, true, false, List, Option, None, Some, length, drop, IsTrue}
+use Rattle.std.specs.Prelude.{◌≡◌, ◌⊎◌, ◌≤◌, ℕ, Bool, true, false, List, Option, None, Some, length, drop, IsTrue, refl}
 use Rattle.cnf_base.specs.Formula.{Formula}
 use Rattle.cnf_base.specs.Truth.{Assignment, Satisfies}
 use Rattle.host_io.specs.declared.role.Role.{Role}
 use Rattle.host_io.specs.declared.role.Role.TheVariants.{Cnf, Order, Buckets, Schedule, ProofIn, Cubes, ProofOut, Made, Out, Err}
 use Rattle.host_io.specs.Channel.{Channel, Rose}
-use Rattle.host_io.specs.Files.{Files, IsInput, IsCreated}
+use Rattle.host_io.specs.Files.{Files, Texts, Agrees, stored_as, IsInput, IsCreated}
+use Rattle.text_scan.specs.Decides.{Fits, gained}
 use Rattle.dimacs_reader.specs.Cnf.{CnfText, formula, cnf}
 use Rattle.lrat_rules.specs.Run.{Refutes}
 use Rattle.lrat_checker.specs.TextVerdict.{max_bytes, text_verdict}
@@ -31,8 +32,22 @@ use Rattle.solver_cli.specs.Verdict.{printed_verdict}
 use Rattle.solver_cli.specs.Phases.{buckets_file}
 use Rattle.solver_cli.specs.ConvertedProof.{IsConversion}
 
--- One run of the program: whether the host tells its bytes, the words, the roles and the files before, the roles
--- and the files after, and how it ended.
+-- These contents of the files fit: they agree with what the host tells of the files, and what a file holds that was read begins with the
+-- bytes that were taken of it, and has no more where its end was met.
+abbrev pub AllFit : Files → (Role → Channel) → (Role → Channel) → Texts → Type 0
+AllFit files before after texts = (role : Role) → IsInput role → (file : List ℕ) → Fits files (before role) (after role) file texts
+
+stored_agrees : (text : Option (List ℕ)) (channel : Channel) (taken : List ℕ) → Agrees (stored_as text) channel taken text
+stored_agrees None channel taken = refl
+stored_agrees (Some bytes) channel taken = refl
+
+-- what a host holds that tells all of its files fits
+pub all_told : (texts : Texts) (before after : Role → Channel) → AllFit (λ name. stored_as (texts name)) before after texts
+all_told texts before after role input file named =
+    stored_agrees (texts file) (after role) (gained (before role) (after role))
+
+-- One run of the program: whether the host tells its bytes, the words, the roles before and after, what the host tells of the files
+-- before and after, any contents of the files that fit, and how it ended.
 pub record Run : Type 0 where
   pub tells : Bool
   pub words : List (List ℕ)
@@ -40,6 +55,8 @@ pub record Run : Type 0 where
   pub after : Role → Channel
   pub files : Files
   pub files_after : Files
+  pub texts : Texts
+  pub fits : AllFit files before after texts
   pub status : Status
 
 -- the bytes that a role wrote in the run, and those that it took
@@ -168,7 +185,7 @@ pub record AsksOver (run : Run) (asked : Command) (text : CnfText) : Type 0 wher
   pub command : command run.words ≡ Some asked
   pub file : List ℕ
   pub named : formula_file asked ≡ Some file
-  pub read : IsRead run.files file (cnf (mode_of asked)) text
+  pub read : IsRead run.texts file (cnf (mode_of asked)) text
 
 -- They ask to decide this formula, or cubes over it, by an order that stands in a file, whose text says this.
 pub record AsksByOrder (run : Run) (problem : Formula) (text : OrderText) : Type 0 where
@@ -176,41 +193,41 @@ pub record AsksByOrder (run : Run) (problem : Formula) (text : OrderText) : Type
   pub asks : AsksOver run asked (formula problem)
   pub file : List ℕ
   pub named : name_given Order asked ≡ Some file
-  pub read : IsRead run.files file (order_text problem.vars) text
+  pub read : IsRead run.texts file (order_text problem.vars) text
 
 -- They ask to decide this formula by buckets of an order that stands in a file, and the order is given; the text of that file says this.
 pub record AsksByBuckets (run : Run) (problem : Formula) (text : OrderText) : Type 0 where
   pub task : ToSolve
   pub asks : AsksOver run (Solve task) (formula problem)
   pub order : List ℕ
-  pub ordered : IsOrdered run.files task.order problem order
+  pub ordered : IsOrdered run.texts task.order problem order
   pub file : List ℕ
   pub named : task.plan ≡ ByBuckets file
-  pub read : IsRead run.files file (order_text problem.vars) text
+  pub read : IsRead run.texts file (order_text problem.vars) text
 
 -- They ask to decide this formula by a schedule, and the order is given; the text of the schedule's file says this.
 pub record AsksBySchedule (run : Run) (problem : Formula) (text : ScheduleText) : Type 0 where
   pub task : ToSolve
   pub asks : AsksOver run (Solve task) (formula problem)
   pub order : List ℕ
-  pub ordered : IsOrdered run.files task.order problem order
+  pub ordered : IsOrdered run.texts task.order problem order
   pub file : List ℕ
   pub named : task.plan ≡ ByFile file
-  pub read : IsRead run.files file (schedule problem) text
+  pub read : IsRead run.texts file (schedule problem) text
 
 -- They ask about cubes over this formula, by this order of its variables; the text of the cubes' file says this.
 pub record AsksByCubes (run : Run) (problem : Formula) (order : List ℕ) (text : CubeText) : Type 0 where
   pub task : ToAsk
   pub asks : AsksOver run (Ask task) (formula problem)
-  pub ordered : IsOrdered run.files task.order problem order
-  pub read : IsRead run.files task.cubes (cube_text problem.vars) text
+  pub ordered : IsOrdered run.texts task.order problem order
+  pub read : IsRead run.texts task.cubes (cube_text problem.vars) text
 
 -- They ask to decide this formula by this order of its variables and these moves: those of the files that are named, those of a board,
 -- or, where they are to be found, any order and the moves of the bucket plan by any order.
 pub record AsksBy (run : Run) (problem : Formula) (order : List ℕ) (moves : List Move) : Type 0 where
   pub asked : Command
   pub command : command run.words ≡ Some asked
-  pub given : AreGiven run.files asked problem order moves
+  pub given : AreGiven run.texts asked problem order moves
 
 -- With `bench` this is the formula of the board that they ask for; and so are the order and the moves, those of its columns.
 abbrev pub IsBoardAsked : Run → Formula → Type 0
@@ -231,7 +248,7 @@ pub record AsksToJudge (run : Run) (problem : Formula) (bytes : List ℕ) : Type
   pub asks : AsksOver run asked (formula problem)
   pub file : List ℕ
   pub named : name_given ProofIn asked ≡ Some file
-  pub stands : run.files file ≡ Some bytes
+  pub stands : run.texts file ≡ Some bytes
 
 -- and this is the verdict on it, by the rules of its format
 pub record HasVerdict (run : Run) (problem : Formula) (bytes : List ℕ) (verdict : Verdict) : Type 0 where

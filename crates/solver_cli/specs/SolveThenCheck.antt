@@ -23,8 +23,8 @@ pub record ChecksSolved (solved checked : Run) : Type 0 where
   pub check_asked : command checked.words ≡ Some (Check task)
   pub format : task.format ≡ Lrat
   pub same_mode : task.mode ≡ solve.mode
-  pub same_formula : checked.files task.file ≡ solved.files solve.file
-  pub same_proof : checked.files task.proof ≡ Some (written_in solved ProofOut)
+  pub same_formula : checked.texts task.file ≡ solved.texts solve.file
+  pub same_proof : checked.texts task.proof ≡ Some (written_in solved ProofOut)
 
 -- How the run that judges these bytes may end: they are verified, unless memory ran out, they are more than are looked
 -- at, or a call of the host failed.

@@ -1,9 +1,9 @@
 -- What `trim` leaves of the proof that it reads, and of the one that it writes.
 use Rattle.std.specs.Prelude.{◌≡◌, ◌≢◌, ◌⊎◌, ◌≤◌, ◌++◌, ℕ, ℤ, Bool, List, Option, None, Some, Result, Err, length, IsTrue, IsOk, IsErr, ⊤}
 use Rattle.host_io.specs.declared.source.Failed.{Failed}
-use Rattle.host_io.specs.Channel.{Channel, Rose}
-use Rattle.host_io.specs.Files.{Files}
-use Rattle.text_scan.specs.Decides.{gained}
+use Rattle.host_io.specs.Channel.{Channel, Leaves, MayFollow, Rose}
+use Rattle.host_io.specs.Files.{Files, Texts}
+use Rattle.text_scan.specs.Decides.{gained, Fits}
 use Rattle.lrat_checker.specs.TextVerdict.{text_verdict, verdict_so_far}
 use Rattle.lrat_checker.specs.declared.verdict.CheckError.{CheckError}
 use Rattle.lrat_checker.specs.declared.verdict.CheckError.TheVariants.{ReadFault}
@@ -17,11 +17,11 @@ use Rattle.proof_trim.specs.declared.text.Trimmed.{Trimmed}
 abbrev pub TrimsBytes : Result Trimmed CheckError → List (List ℤ) → List ℕ → Type 0
 TrimsBytes result clauses bytes = Trims result (text_verdict clauses bytes) (trimmed clauses bytes) (core clauses bytes) (additions_of_text bytes)
 
--- The answer is that of the text in the opened proof's file, and already of the bytes taken; where a call on it failed, these decide
+-- The answer is that of the bytes taken of an opened proof's file, with whatever may follow them; where a call on it failed, these decide
 -- nothing yet.
 pub record TrimsOpened (tells : Bool) (old new : Channel) (clauses : List (List ℤ)) (result : Result Trimmed CheckError) : Type 0 where
-  pub told : IsTrue tells → TrimsBytes result clauses old.left
-  pub decided : IsTrue tells → TrimsBytes result clauses (gained old new)
+  pub left : IsTrue tells → Leaves old.left (gained old new) new.left
+  pub told : IsTrue tells → (more : List ℕ) → MayFollow new more → TrimsBytes result clauses (gained old new ++ more)
   pub fault : result ≡ Err ReadFault → Rose old.faults new.faults
   pub unfailed : result ≢ Err ReadFault → new.faults ≡ old.faults
   pub undecided : IsTrue tells → result ≡ Err ReadFault → verdict_so_far clauses (gained old new) ≡ None
@@ -30,17 +30,18 @@ pub record TrimsOpened (tells : Bool) (old new : Channel) (clauses : List (List 
   pub faults : old.faults ≤ new.faults
 
 -- what the file of this name holds was trimmed
-pub record TrimsText (files : Files) (file : List ℕ) (clauses : List (List ℤ)) (taken : List ℕ) (result : Result Trimmed CheckError)
+pub record TrimsText (texts : Texts) (file : List ℕ) (clauses : List (List ℤ)) (taken : List ℕ) (result : Result Trimmed CheckError)
     : Type 0 where
   pub bytes : List ℕ
-  pub stands : files file ≡ Some bytes
+  pub stands : texts file ≡ Some bytes
   pub told : TrimsBytes result clauses bytes
   pub decided : TrimsBytes result clauses taken
 
 -- the proof's file was opened, and its text trimmed
 pub record TrimsProof (tells : Bool) (old new : Channel) (files : Files) (file : List ℕ) (clauses : List (List ℤ))
     (result : Result Trimmed CheckError) : Type 0 where
-  pub read : IsTrue tells → (result ≡ Err ReadFault) ⊎ TrimsText files file clauses (gained old new) result
+  pub read : IsTrue tells → (result ≡ Err ReadFault)
+      ⊎ ((texts : Texts) → Fits files old new file texts → TrimsText texts file clauses (gained old new) result)
   pub fault : result ≡ Err ReadFault → Rose old.faults new.faults
   pub unfailed : result ≢ Err ReadFault → new.faults ≡ old.faults
   pub undecided : IsTrue tells → result ≡ Err ReadFault → verdict_so_far clauses (gained old new) ≡ None

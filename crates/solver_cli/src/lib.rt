@@ -1,10 +1,10 @@
-//! The program as a library. `run` does all that it does, over any host: it reads the command line, decides a formula and writes the
-//! proof, or judges a proof, and prints the answer, and may write that proof in the other format, or trimmed; or it answers cubes over a
-//! formula, by one proof; or it makes a workload's texts, or an order of a formula's variables. Its contract, `Promises` of
-//! `specs/Headline.antt`, is what the program is worth; `run_with` is that over the command line as the system gives it, and `start` makes
-//! that one call for `main`. It stands on
-//! `command_line`, `term_runner`, `parity_runs`, `plan_search`, `variable_order`, `lrat_checker`, `drat_checker`, `drat_proof`,
-//! `lrat_from_drat`, `proof_trim`, `cube_queries`, `cube_text`, `dimacs_reader` and `answer_text`.
+//! The program as a library. `run` does all that it does, over any host: it reads the command line, decides a formula and writes the proof,
+//! or judges a proof, and prints the answer, and may write that proof in the other format, or trimmed; or it answers cubes over a formula,
+//! by one proof; or it makes a workload's texts, or an order of a formula's variables. Its contract, `Promises` of `specs/Headline.antt`,
+//! is what the program is worth; `run_with` is that over the command line as it comes, `run_system` over the system itself, and `start`
+//! makes that one call for `main`. It stands on `command_line`, `term_runner`, `parity_runs`, `plan_search`, `variable_order`,
+//! `lrat_checker`, `drat_checker`, `drat_proof`, `lrat_from_drat`, `proof_trim`, `cube_queries`, `cube_text`, `dimacs_reader` and
+//! `answer_text`.
 #![tactic(auto)]
 
 mod answer;
@@ -47,4 +47,4 @@ pub use complaint::complain;
 pub use laws::{drat_then_check_law, lrat_then_check_law, order_line_law, solve_then_check_law};
 pub use program::{run, run_in_memory, run_with};
 pub use status::{Status, Why};
-pub use system::start;
+pub use system::{run_system, start};

@@ -1,17 +1,19 @@
 // One run of the program.
 ghost use Rattle.std.specs.Prelude.{◌≡◌, ◌⊎◌, ℕ, List, None, length, map, IfErr, IfOk, true};
+ghost use Rattle.std.specs.Process.{exit_status};
 ghost use Rattle.std.specs.String.{string_bytes};
 ghost use Rattle.std.specs.Iterator.{IsFinite};
 ghost use Rattle.std.specs.Iterator.Runs.{WholeRun};
 ghost use Rattle.host_io.specs.declared.role.Role.{Role};
 ghost use Rattle.host_io.specs.declared.role.Role.TheVariants.{ProofOut, Made, Out, Err as ErrRole};
-ghost use Rattle.host_io.specs.Files.{FilesBut, Kept};
-ghost use Rattle.host_io.specs.Memory.{channel_of, files_of};
+ghost use Rattle.host_io.specs.Files.{FilesBut, Kept, Texts};
+ghost use Rattle.host_io.specs.Memory.{channel_of, files_of, told_files};
 ghost use Rattle.schedule_plan.specs.Limits.{AreLimits};
 ghost use Rattle.schedule_plan.specs.Plan.{IsAdmissible};
 ghost use Rattle.command_line.specs.Command.{IsSize, command, progress_asked};
 ghost use Rattle.command_line.specs.Reading.{convert_of, text_of, trim_of};
 ghost use Rattle.solver_cli.specs.Headline.{Promises};
+ghost use Rattle.solver_cli.specs.Run.{AllFit, all_told};
 ghost use Rattle.solver_cli.specs.Progress.{IsTold};
 ghost use Rattle.solver_cli.specs.ExitCode.{exit_code};
 ghost use Rattle.solver_cli.specs.Start.{OnlyTold, status_of_kind};
@@ -52,6 +54,7 @@ use proof_trim::{Core, KeptSteps, Trimmed, trim_law};
 use schedule_plan::{Order, Plan};
 use std::alloc::Global;
 use std::io::ErrorKind;
+use std::process::ExitCode;
 use workload::board;
 
 fn work<H: Host>(alloc: Global, words: &[String], host: &mut H) -> Status
@@ -371,15 +374,19 @@ fn show<H: Host>(host: &mut H, verdict: Verdict) -> Status
 /// wrong, and says how the run ends.
 pub fn run<H: Host>(alloc: Global, words: &[String], host: &mut H) -> Status
     requires unnamed { (role : Role) → (H.channel host.old role).name ≡ None }
-    ensures promises { Promises (record {
-      tells = H.tells;
-      words = map string_bytes words.now;
-      before = H.channel host.old;
-      after = H.channel host.new;
-      files = H.files host.old;
-      files_after = H.files host.new;
-      status = result;
-    }) }
+    // of any contents of the files that fit
+    ensures promises { (texts : Texts) (fits : AllFit (H.files host.old) (H.channel host.old) (H.channel host.new) texts)
+        → Promises (record {
+          tells = H.tells;
+          words = map string_bytes words.now;
+          before = H.channel host.old;
+          after = H.channel host.new;
+          files = H.files host.old;
+          files_after = H.files host.new;
+          texts = texts;
+          fits = fits;
+          status = result;
+        }) }
 {
     soundness_law();
     check_law();
@@ -398,8 +405,10 @@ pub fn run_in_memory(alloc: Global, words: &[String], host: &mut MemoryHost) -> 
       words = map string_bytes words.now;
       before = channel_of host.old;
       after = channel_of host.new;
-      files = files_of host.old;
-      files_after = files_of host.new;
+      files = told_files host.old;
+      files_after = told_files host.new;
+      texts = files_of host.old;
+      fits = all_told (files_of host.old) (channel_of host.old) (channel_of host.new);
       status = result;
     }) }
 {
@@ -412,33 +421,36 @@ pub fn run_with<H: Host, I: Iterator<Item = String> + Drop>(
     alloc: Global,
     words: Result<I, ErrorKind>,
     host: &mut H,
-) -> u8
+) -> ExitCode
     requires unnamed { (role : Role) → (H.channel host.old role).name ≡ None }
     requires words { IfOk words (λ source. I.can_next source × IsFinite (I.remaining source)) }
     // the words of the run are all that came, in turn; it is left out only where memory for them ran out
-    ensures came { IfOk words (λ source. (status : Status) × (result ≡ exit_code status) × (((given : List (List ℕ))
+    ensures came { IfOk words (λ source. (status : Status) × (exit_status result ≡ exit_code status) × (((given : List (List ℕ))
         × WholeRun I.next_gives source (λ all. given ≡ map string_bytes all.items)
-        × Promises (record {
+        × ((texts : Texts) (fits : AllFit (H.files host.old) (H.channel host.old) (H.channel host.new) texts)
+        → Promises (record {
           tells = H.tells;
           words = given;
           before = H.channel host.old;
           after = H.channel host.new;
           files = H.files host.old;
           files_after = H.files host.new;
+          texts = texts;
+          fits = fits;
           status = status;
-        }))
+        })))
         ⊎ ((status ≡ OutOfMemory) × OnlyTold H.tells (H.channel host.old) (H.channel host.new) (H.files host.old)
         (H.files host.new) status))) }
-    ensures unread { IfErr words (λ kind. (result ≡ exit_code (status_of_kind kind))
+    ensures unread { IfErr words (λ kind. (exit_status result ≡ exit_code (status_of_kind kind))
         × OnlyTold H.tells (H.channel host.old) (H.channel host.new) (H.files host.old) (H.files host.new) (status_of_kind kind)) }
 {
     let words = match words {
         Ok(words) => words,
-        Err(kind) => return tell(host, Status::from(kind)),
+        Err(kind) => return ExitCode::from(tell(host, Status::from(kind))),
     };
     match gather(alloc, words) {
-        Ok(words) => run(alloc, &words, host).code(),
-        Err(error) => tell(host, Status::from(error)),
+        Ok(words) => ExitCode::from(run(alloc, &words, host).code()),
+        Err(error) => ExitCode::from(tell(host, Status::from(error))),
     }
 }
 

@@ -3,7 +3,7 @@ ghost use Rattle.std.specs.Prelude.{◌≡◌, ◌≢◌, ℕ, ◌+◌, ◌^◌,
 ghost use Rattle.std.specs.Prelude.{IfSome};
 ghost use Rattle.std.specs.Prelude.{IfOk, OnOk, OnErr, is_ok, if◌then◌else◌};
 ghost use Rattle.cnf_base.specs.Text.{has_bytes};
-ghost use Rattle.host_io.specs.Channel.{Rose};
+ghost use Rattle.host_io.specs.Channel.{IsOver, Rose};
 ghost use Rattle.text_scan.specs.declared.scanner.ScanStatus.TheVariants.{Reading, Ended, Overlong, Faulted};
 ghost use Rattle.text_scan.specs.declared.scanner.ScanError.TheVariants.{ReadFault};
 ghost use Rattle.text_scan.specs.Items.{items, items_of_front, the_end, too_long, next_word};
@@ -426,7 +426,7 @@ impl Scanner {
             (λ bytes more. ahead self.old bytes ≡ ahead self.new more) }
         ensures taken { IsTrue S.tells → self.new.unread ≡ gained (S.channel source.old) (S.channel source.new) }
         ensures failed { OnErr result (self.new.unread ≡ []) }
-        ensures ended { IsTrue S.tells → result ≡ Ok false → (S.channel source.new).left ≡ [] }
+        ensures ended { IsTrue S.tells → result ≡ Ok false → IsOver (S.channel source.new).left }
         ensures ended_unread { result ≡ Ok false → self.new.unread ≡ [] }
         ensures more { result ≡ Ok true → 0 < length self.new.unread }
         ensures kept { self.new ≡ record self.old { unread = self.new.unread; status = self.new.status } }

@@ -54,6 +54,13 @@ impl<R: Read + Drop> Input<R> {
         })
     }
 
+    /// Whether a read met the end.
+    pub(crate) fn has_ended(&self) -> bool
+        ensures { result ≡ (traffic_in self.now).ended }
+    {
+        self.ended
+    }
+
     /// One read.
     pub(crate) fn read_once(
         &mut self,
@@ -73,7 +80,7 @@ impl<R: Read + Drop> Input<R> {
         let answer = tally.note(self.stream.read(buf));
         if let Some(Ok(count)) = answer {
             self.taken = self.taken.and(&buf[..count]);
-            self.ended = count == 0 && !buf.is_empty();
+            self.ended = self.ended || count == 0 && !buf.is_empty();
         }
         answer
     }

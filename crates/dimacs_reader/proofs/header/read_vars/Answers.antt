@@ -1,14 +1,14 @@
 -- An error of the scanner is handed on, and behind the token the front of the text is what its rest is.
-use Rattle.std.proofs.Common.{◌≡◌, ℕ, List, Some, refl, sym, ◌∙◌, false, arith}
+use Rattle.std.proofs.Common.{◌≡◌, ℕ, List, Some, refl, sym, ◌∙◌, false, arith, ap, subst}
 use Rattle.std.specs.Prelude.{nat_lt}
 use Rattle.cnf_base.specs.Number.{plain_number}
-use Rattle.text_scan.specs.Decides.{gained, gained-then, Decides-map}
+use Rattle.text_scan.specs.Decides.{gained, gained-then, Decides-map, Decides-then}
 use Rattle.text_scan.specs.Scan.{ahead, so_far}
 use Rattle.dimacs_reader.specs.Answers.{error_of}
 use Rattle.dimacs_reader.specs.Cnf.{max_vars, after_vars, after_format}
 use Rattle.dimacs_reader.specs.Header.{HasVars, Begins}
 use Rattle.dimacs_reader.proofs.Judged.{error_is}
-use Rattle.dimacs_reader.proofs.Began.{error_begins, error_so_far, uncapped, front_of_next, behind_so_far}
+use Rattle.dimacs_reader.proofs.Began.{error_begins, error_so_far, uncapped, front_of_next, behind_so_far, begins_behind}
 use Rattle.dimacs_reader.proofs.header.read_vars.Goals as goal
 
 pub returns-in_err-next-clause-decides : goal.returns-in_err-next-clause-decides
@@ -45,3 +45,17 @@ returns-else-vars-gt-MAX_VARS-clause-so_far g c = λ told.
     (front_of_next old mid c.in-Some.token first (after_format c.args.mode) (after_vars c.args.mode vars)
     (λ items. rw (number, within) refl) c.next.ensures.stopped_scanner gives)
     (c.read_count.ensures.so_far told)
+
+pub returns-else-vars-gt-MAX_VARS-clause-decides : goal.returns-else-vars-gt-MAX_VARS-clause-decides
+returns-else-vars-gt-MAX_VARS-clause-decides g c = λ told.
+    let old = c.args.scanner.now in
+    let last = c.read_count.new.scanner in
+    let vars = c.in-Some-plain_number.vars in
+    let number : plain_number c.in-Some.token.bytes ≡ Some vars = uncapped (plain_number c.in-Some.token.bytes) vars
+    (sym c.plain_number.ensures.value ∙ c.in-Some-plain_number.is) (omega arith) in
+    let within : nat_lt max_vars vars ≡ false = grind arith in
+    Decides-then (λ bytes more. Begins c.read_count.result (after_format c.args.mode (ahead old bytes))
+    (λ vars count. HasVars (ahead old bytes) vars count (ahead last more))) (rw c.in-Some.is at (c.in_ok-next.ensures.gives told))
+    (c.read_count.ensures.decides told)
+    (λ bytes middle more p q. begins_behind c.read_count.result _ _ _ _ (ap (after_format c.args.mode) p ∙ rw (number, within) refl)
+    (λ vars count h. subst (λ items. HasVars items vars count (ahead last more)) (sym p) (number ∙ ap Some (sym h.0), rw h.0 (omega arith), h.1)) q)

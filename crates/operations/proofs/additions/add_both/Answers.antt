@@ -143,32 +143,32 @@ returns-in_err-first-clause-gives g c untorn =
 pub returns-in-Err-clause-steps : goal.returns-in-Err-clause-steps
 returns-in-Err-clause-steps g c = c.steps_law.ensures.further _ _ _ _ _ _ c.in_ok-first.ensures.added.steps c.in-Err.ensures.steps
 
-pub returns-in-Err-2-clause-steps : goal.returns-in-Err-2-clause-steps
-returns-in-Err-2-clause-steps g c =
+pub returns-clause-steps : goal.returns-clause-steps
+returns-clause-steps g c =
     let other : c.in-Err.e ≢ WriteFault = search rules in
     (c.high_clause_law.ensures.left c.args.table.now c.add.new.table c.add-2.new.table c.retire-in-Err-2.new.self
     c.in_ok-first.first c.in-Err.e c.in_ok-first.ensures.added
     (record { steps = c.in-Err.ensures.steps; whole = other; same = c.in-Err.ensures.refused other })
     (record { steps = c.retire-in-Err-2.ensures.steps; is = c.retire-in-Err-2.ensures.retired })).0
 
-pub returns-in-Err-2-clause-retires : goal.returns-in-Err-2-clause-retires
-returns-in-Err-2-clause-retires g c =
+pub returns-clause-retires : goal.returns-clause-retires
+returns-clause-retires g c =
     let other : c.in-Err.e ≢ WriteFault = search rules in
     (c.high_clause_law.ensures.left c.args.table.now c.add.new.table c.add-2.new.table c.retire-in-Err-2.new.self
     c.in_ok-first.first c.in-Err.e c.in_ok-first.ensures.added
     (record { steps = c.in-Err.ensures.steps; whole = other; same = c.in-Err.ensures.refused other })
     (record { steps = c.retire-in-Err-2.ensures.steps; is = c.retire-in-Err-2.ensures.retired })).1
 
-pub returns-in-Err-2-clause-gives : goal.returns-in-Err-2-clause-gives
-returns-in-Err-2-clause-gives g c untorn =
+pub returns-clause-gives : goal.returns-clause-gives
+returns-clause-gives g c untorn =
     let other : c.in-Err.e ≢ WriteFault = λ is. untorn (ap Err is) in
     (c.high_clause_law.ensures.left c.args.table.now c.add.new.table c.add-2.new.table c.retire-in-Err-2.new.self
     c.in_ok-first.first c.in-Err.e c.in_ok-first.ensures.added
     (record { steps = c.in-Err.ensures.steps; whole = other; same = c.in-Err.ensures.refused other })
     (record { steps = c.retire-in-Err-2.ensures.steps; is = c.retire-in-Err-2.ensures.retired })).2
 
-pub returns-in-Err-2-clause-id_limit : goal.returns-in-Err-2-clause-id_limit
-returns-in-Err-2-clause-id_limit g c is = subst (λ (t : TableState g.row.S.Denot). IsUsedUp t)
+pub returns-clause-id_limit : goal.returns-clause-id_limit
+returns-clause-id_limit g c is = subst (λ (t : TableState g.row.S.Denot). IsUsedUp t)
     (sym c.retire-in-Err-2.ensures.retired) (c.in-Err.ensures.id_limit (ap Err (same_error is)))
 
 pub retire-requires-clause-own : goal.retire-requires-clause-own

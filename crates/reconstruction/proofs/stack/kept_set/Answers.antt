@@ -2,7 +2,7 @@
 use Rattle.std.proofs.Common.{◌∙◌, List, [], ◌∷◌, ◌++◌, ap, sym}
 use Rattle.std.specs.Prelude.{slice_index_or}
 use Rattle.reconstruction.specs.declared.entries.Kept.{Kept}
-use Rattle.reconstruction.proofs.Among.{kept_more}
+use Rattle.reconstruction.proofs.KeptSets.{kept_more}
 use Rattle.reconstruction.proofs.stack.kept_set.Goals as goal
 
 pub set-preserved : goal.set-preserved

@@ -1,7 +1,7 @@
 -- What is left to show of `rewrite`.
-use Rattle.std.proofs.Common.{rules, refl, sym, IsOk}
+use Rattle.std.proofs.Common.{rules, refl, sym}
 use Rattle.host_io.specs.declared.role.Role.TheVariants.{ProofIn, ProofOut}
-use Rattle.solver_cli.proofs.Converting.{kept_as, kept_read, kept_written, on_ok, rewritten, then_kept, uncreated, unread}
+use Rattle.solver_cli.proofs.Converting.{kept_as, kept_read, kept_written, rewritten, then_kept, uncreated, unread}
 use Rattle.solver_cli.proofs.conversion.rewrite.Goals as goal
 
 pub returns-then-is_err-clause-rewrites : goal.returns-then-is_err-clause-rewrites
@@ -15,8 +15,7 @@ returns-then-is_err-2-clause-rewrites g c =
 
 pub returns-clause-rewrites : goal.returns-clause-rewrites
 returns-clause-rewrites g c =
-    let opened : IsOk c.open_read.result = search rules in
-    rewritten c.open_read.ensures.opens opened (λ t. on_ok c.open_read.result opened (c.open_read.ensures.content t))
+    rewritten c.open_read.ensures.opens (search rules) c.open_read.ensures.content
     (c.open_read.ensures.kept.others ProofOut refl)
     c.create.ensures.opens (search rules) (c.create.ensures.kept.others ProofIn refl) c.convert_opened.ensures.converts
 

@@ -8,4 +8,4 @@ returns-then-is_err-clause-takes g c = unopened refl (λ e. cc) c.open_read.ensu
 
 -- src/formula.rt:14:1
 pub returns-clause-takes : goal.returns-clause-takes
-returns-clause-takes g c = taken c.open_read.ensures.opens (search rules) (λ t. search rules) c.read_formula.ensures.reads
+returns-clause-takes g c = taken c.open_read.ensures.opens (search rules) c.open_read.ensures.content c.read_formula.ensures.reads

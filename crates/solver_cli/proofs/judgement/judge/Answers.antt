@@ -12,7 +12,7 @@ pub returns-then-is_err-clause-told : goal.returns-then-is_err-clause-told
 returns-then-is_err-clause-told g c = untold c.args.progress (c.open_read.ensures.kept.others ErrRole refl)
 
 pub returns-then-progress-clause-judges : goal.returns-then-progress-clause-judges
-returns-then-progress-clause-judges g c = judged c.open_read.ensures.opens (search rules) (λ t. search rules) c.check_telling.ensures.checks
+returns-then-progress-clause-judges g c = judged c.open_read.ensures.opens (search rules) c.open_read.ensures.content c.check_telling.ensures.checks
 
 pub returns-else-progress-clause-judges : goal.returns-else-progress-clause-judges
-returns-else-progress-clause-judges g c = judged c.open_read.ensures.opens (search rules) (λ t. search rules) c.check_opened.ensures.checks
+returns-else-progress-clause-judges g c = judged c.open_read.ensures.opens (search rules) c.open_read.ensures.content c.check_opened.ensures.checks

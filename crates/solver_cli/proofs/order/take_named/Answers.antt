@@ -7,4 +7,4 @@ pub returns-then-is_err-clause-takes : goal.returns-then-is_err-clause-takes
 returns-then-is_err-clause-takes g c = unopened refl (λ e. cc) c.open_read.ensures.opens (search rules)
 
 pub returns-clause-takes : goal.returns-clause-takes
-returns-clause-takes g c = taken c.open_read.ensures.opens (search rules) (λ t. search rules) c.read_order.ensures.reads
+returns-clause-takes g c = taken c.open_read.ensures.opens (search rules) c.open_read.ensures.content c.read_order.ensures.reads

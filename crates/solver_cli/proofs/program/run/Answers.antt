@@ -5,7 +5,7 @@ use Rattle.solver_cli.proofs.program.run.Goals as goal
 
 pub returns : goal.returns
 returns g c = record {
-  promises = promises
+  promises = λ texts fits. promises
       (both
       (record {
         sound = c.soundness_law.ensures.refuted;

@@ -1,6 +1,5 @@
 -- What is left to show of `trim_proof`.
-use Rattle.std.proofs.Common.{rules, IsOk}
-use Rattle.solver_cli.proofs.Converting.{on_ok}
+use Rattle.std.proofs.Common.{rules}
 use Rattle.solver_cli.proofs.Cut.{cut_whole, unopened}
 use Rattle.solver_cli.proofs.trimming.trim_proof.Goals as goal
 
@@ -9,6 +8,5 @@ returns-then-is_err-clause-trims g c = unopened c.open_read.ensures.opens (searc
 
 pub returns-clause-trims : goal.returns-clause-trims
 returns-clause-trims g c =
-    let opened : IsOk c.open_read.result = search rules in
-    cut_whole c.open_read.ensures.opens opened (λ t. on_ok c.open_read.result opened (c.open_read.ensures.content t))
+    cut_whole c.open_read.ensures.opens (search rules) c.open_read.ensures.content
     c.trim_opened.ensures.trims
