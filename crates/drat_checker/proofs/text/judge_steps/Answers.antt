@@ -104,6 +104,10 @@ steps-preserved g c =
       beside = c.next_into.ensures.beside ∙ c.steps.invariant.beside;
     }
 
+pub returns-in_err-reason-in-Ok-Some-clause-decides : goal.returns-in_err-reason-in-Ok-Some-clause-decides
+returns-in_err-reason-in-Ok-Some-clause-decides g c = λ told.
+    Decides-then _ (c.steps.invariant.same told) (c.in-Ok-Some.ensures.gives told) (λ bytes middle more before gives. search rules)
+
 -- memory was wanted to judge the step that was read
 pub returns-in_err-reason-in-Ok-Some-clause-wants : goal.returns-in_err-reason-in-Ok-Some-clause-wants
 returns-in_err-reason-in-Ok-Some-clause-wants g c = λ told is.

@@ -36,6 +36,10 @@ returns-in-Some-clause-decides g c = λ told.
     (λ bytes middle more before gives. before ∙ at_bad_step c.steps.judge c.steps.has_empty _ _ _ _ gives c.next_into.new.step
     c.in-Ok-Some.line c.in-Some.reason (ap (λ r. given c.next_into.new.step (Ok r)) c.in-Ok-Some.field-0-is) bad)
 
+pub returns-in_err-reason-in-Ok-Some-clause-decides : goal.returns-in_err-reason-in-Ok-Some-clause-decides
+returns-in_err-reason-in-Ok-Some-clause-decides g c = λ told.
+    Decides-then _ (c.steps.invariant.same told) (c.in-Ok-Some.ensures.gives told) (λ bytes middle more before gives. search rules)
+
 pub returns-in-Err-clause-decides : goal.returns-in-Err-clause-decides
 returns-in-Err-clause-decides g c = λ told.
     Decides-then (λ bytes more. Answers c.answer_to.result (steps_verdict c.args.judge.now false (steps_ahead c.args.reader.now bytes)))
