@@ -1,14 +1,14 @@
 -- What trimming an opened proof, and writing its trimmed form, says of the run.
-use Rattle.std.proofs.Common.{◌≡◌, ℕ, ℤ, Bool, List, [], ◌++◌, length, refl, sym, ap, ◌∙◌, subst, arith, None, Some, Ok, Err, IsTrue, IsOk}
+use Rattle.std.proofs.Common.{◌≡◌, ℕ, ℤ, Bool, List, [], ◌++◌, refl, sym, ap, ◌∙◌, subst, arith, None, Some, Ok, Err, IsTrue, IsOk}
 use Rattle.std.proofs.Common.{inl, inr}
-use Rattle.std.specs.Prelude.{◌≢◌, Option, Result, IsErr, OnOk, ⊤, drop}
+use Rattle.std.specs.Prelude.{◌≢◌, Option, Result, IsErr, OnOk, ⊤}
 use Rattle.cnf_base.specs.Formula.{Formula}
 use Rattle.cnf_base.specs.declared.step.Step.{Step}
 use Rattle.host_io.specs.Channel.{Channel, Rose}
-use Rattle.host_io.specs.Files.{Files, Texts, Offers, Opens}
+use Rattle.host_io.specs.Files.{Files, Offers, Opens}
 use Rattle.host_io.specs.declared.role.Role.TheVariants.{ProofIn}
 use Rattle.host_io.specs.declared.source.Failed.{Failed}
-use Rattle.text_scan.specs.Decides.{gained, Decides, Fits, OnlyReads}
+use Rattle.text_scan.specs.Decides.{gained, Decides, OnlyReads}
 use Rattle.dimacs_reader.specs.Cnf.{formula}
 use Rattle.lrat_checker.specs.TextVerdict.{Answers, text_verdict, verdict_so_far}
 use Rattle.lrat_checker.specs.declared.verdict.Verdict.{Verdict}
@@ -83,13 +83,13 @@ cut_whole {old = old} {opened = opened} {new = new} {files = files} {clauses = c
     let same : gained opened new ≡ gained old new = taken_since new opens in
     record {
       read = λ t. inr (λ texts fits.
-      let found = of_content new files texts opens ok (content t) (trims.left t) trims.name fits in
-      record {
-        bytes = gained opened new ++ found.0;
-        stands = found.2;
-        told = trims.told t found.0 found.1;
-        decided = of_taken (TrimsBytes result clauses) opened new same (trims.told t);
-      });
+          let found = of_content new files texts opens ok (content t) (trims.left t) trims.name fits in
+          record {
+            bytes = gained opened new ++ found.0;
+            stands = found.2;
+            told = trims.told t found.0 found.1;
+            decided = of_taken (TrimsBytes result clauses) opened new same (trims.told t);
+          });
       fault = λ e. rose_since opens.faults.no_less (trims.fault e);
       unfailed = λ no. trims.unfailed no ∙ opens.faults.unfailed ok;
       undecided = λ t e. ap (verdict_so_far clauses) (sym same) ∙ trims.undecided t e;
@@ -126,16 +126,16 @@ judges_of {old = old} {new = new} {clauses = clauses} result trims plenty = reco
   read = λ t. elim (trims.read t) [
     | inl e ↦ inl (ap answer_of e)
     | inr trimmed_text ↦ inr (λ texts fits.
-    let text = trimmed_text texts fits in
-    record {
-      bytes = text.bytes;
-      stands = text.stands;
-      judged = as_answers result (text_verdict clauses text.bytes) (trimmed clauses text.bytes) (core_numbers clauses text.bytes)
-          (additions_of_text text.bytes) text.told;
-      decided = as_answers result (text_verdict clauses (gained old new)) (trimmed clauses (gained old new))
-          (core_numbers clauses (gained old new)) (additions_of_text (gained old new)) text.decided;
-      memory = λ e. absurd (plenty e);
-    })
+        let text = trimmed_text texts fits in
+        record {
+          bytes = text.bytes;
+          stands = text.stands;
+          judged = as_answers result (text_verdict clauses text.bytes) (trimmed clauses text.bytes) (core_numbers clauses text.bytes)
+              (additions_of_text text.bytes) text.told;
+          decided = as_answers result (text_verdict clauses (gained old new)) (trimmed clauses (gained old new))
+              (core_numbers clauses (gained old new)) (additions_of_text (gained old new)) text.decided;
+          memory = λ e. absurd (plenty e);
+        })
   ];
   fault = λ e. trims.fault (read_failed result e);
   unfailed = λ differs. trims.unfailed (λ e. differs (ap answer_of e));

@@ -1,11 +1,11 @@
 -- What the check of an opened proof says of the run.
-use Rattle.std.proofs.Common.{◌≡◌, ℕ, ◌+◌, ◌-◌, ℤ, Bool, List, [], ◌++◌, length, length-append, refl, sym, ap, ◌∙◌, subst, arith, None, Some}
+use Rattle.std.proofs.Common.{◌≡◌, ℕ, ◌+◌, ◌-◌, ℤ, Bool, List, [], ◌++◌, length, length-append, refl, sym, ap, ◌∙◌, subst, arith, None}
 use Rattle.std.proofs.Common.{Err, IsTrue, IsOk, inl, inr}
-use Rattle.std.specs.Prelude.{◌≢◌, ◌⊎◌, Result, IsErr, OnOk, ⊤, drop}
+use Rattle.std.specs.Prelude.{◌≢◌, ◌⊎◌, Result, IsErr, OnOk, ⊤}
 use Rattle.host_io.specs.Channel.{Channel, MayFollow, Rose}
-use Rattle.host_io.specs.Files.{Files, Texts, Offers, Opens}
+use Rattle.host_io.specs.Files.{Files, Offers, Opens}
 use Rattle.host_io.specs.declared.source.Failed.{Failed}
-use Rattle.text_scan.specs.Decides.{gained, gained-none, Decides, Fits, OnlyReads, Decides-taken}
+use Rattle.text_scan.specs.Decides.{gained, gained-none, Decides, OnlyReads, Decides-taken}
 use Rattle.lrat_checker.specs.TextVerdict.{Answers}
 use Rattle.lrat_checker.specs.declared.verdict.Verdict.{Verdict}
 use Rattle.lrat_checker.specs.declared.verdict.CheckError.{CheckError}
@@ -39,8 +39,10 @@ wanted_by format clauses old new (inl same) more may = inl (ap (gained old) same
 wanted_by format clauses old new (inr decides) more may =
     let parts : length (gained old new ++ more) ≡ length (gained old new) + length more = length-append (gained old new) more in
     let behind : length more ≡ length (gained old new ++ more) - length (gained old new) = omega (arith, parts) in
-    inr (subst (λ n. IsTrue (may_want_memory_in format clauses n (gained old new ++ more))) behind (decides.holds more may),
-    Decides-taken decides)
+    inr (
+      subst (λ n. IsTrue (may_want_memory_in format clauses n (gained old new ++ more))) behind (decides.holds more may),
+      Decides-taken decides,
+    )
 
 seen : (format : ProofFormat) (tells : Bool) (old new : Channel) (clauses : List (List ℤ)) (result : Result Verdict CheckError)
     → (IsTrue tells → Decides old new (λ bytes more. Answers result (verdict_in format clauses bytes)))
@@ -101,14 +103,14 @@ judged {format = format} {tells = tells} {old = old} {opened = opened} {new = ne
     let same : gained opened new ≡ gained old new = taken_since new opens in
     record {
       read = λ t. inr (λ texts fits.
-      let found = of_content new files texts opens ok (content t) (checks.left t) checks.name fits in
-      record {
-        bytes = gained opened new ++ found.0;
-        stands = found.2;
-        judged = checks.judged t found.0 found.1;
-        decided = of_taken (λ l. Answers result (verdict_in format clauses l)) opened new same (checks.judged t);
-        memory = λ e. subst (WantsProof format clauses (gained opened new ++ found.0)) same (checks.memory t e found.0 found.1);
-      });
+          let found = of_content new files texts opens ok (content t) (checks.left t) checks.name fits in
+          record {
+            bytes = gained opened new ++ found.0;
+            stands = found.2;
+            judged = checks.judged t found.0 found.1;
+            decided = of_taken (λ l. Answers result (verdict_in format clauses l)) opened new same (checks.judged t);
+            memory = λ e. subst (WantsProof format clauses (gained opened new ++ found.0)) same (checks.memory t e found.0 found.1);
+          });
       fault = λ e. rose_since opens.faults.no_less (checks.fault e);
       unfailed = λ no. checks.unfailed no ∙ opens.faults.unfailed ok;
       undecided = λ t e. ap (so_far_in format clauses) (sym same) ∙ checks.undecided t e;

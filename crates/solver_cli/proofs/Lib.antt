@@ -41,3 +41,4 @@ pub mod OrderLine
 pub mod Commented
 pub mod Muted
 pub mod Reported
+pub mod Begun

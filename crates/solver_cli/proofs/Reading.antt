@@ -6,7 +6,7 @@ use Rattle.host_io.specs.Channel.{Channel, Leaves, MayFollow, Rose}
 use Rattle.host_io.specs.Files.{Files, Texts, Agrees, Offers, Opens}
 use Rattle.host_io.specs.declared.source.Failed.{Failed}
 use Rattle.text_scan.specs.Decides.{gained, gained-none, Decides, Fits, OnlyReads, agreed_text}
-use Rattle.solver_cli.specs.Phases.{ReadsText, ReadsOpened, TakesText, WantsRead, Wanting}
+use Rattle.solver_cli.specs.Phases.{ReadsText, ReadsOpened, TakesText, Wanting}
 
 -- want of memory, as the readers tell it
 abbrev pub Wanted : {E : Type 0} → Wanting E → Channel → Channel → Type 0
@@ -122,13 +122,13 @@ taken {whole = whole} {so_far = so_far} {answers = answers} {wanting = wanting} 
     let same : gained opened new ≡ gained old new = taken_since new opens in
     record {
       read = λ t. inr (λ texts fits.
-      let found = of_content new files texts opens ok (content t) (reads.left t) reads.name fits in
-      record {
-        bytes = gained opened new ++ found.0;
-        stands = found.2;
-        told = reads.told t found.0 found.1;
-        decided = of_taken (λ l. answers result (whole l)) opened new same (reads.told t);
-      });
+          let found = of_content new files texts opens ok (content t) (reads.left t) reads.name fits in
+          record {
+            bytes = gained opened new ++ found.0;
+            stands = found.2;
+            told = reads.told t found.0 found.1;
+            decided = of_taken (λ l. answers result (whole l)) opened new same (reads.told t);
+          });
       fits = reads.fits;
       failed = λ e. rose_since opens.faults.no_less (reads.failed e);
       unfailed = λ differs. reads.unfailed differs ∙ opens.faults.unfailed ok;
@@ -136,13 +136,13 @@ taken {whole = whole} {so_far = so_far} {answers = answers} {wanting = wanting} 
       memory = λ t e. elim (reads.memory t e) [
         | inl none ↦ inl (none.0, sym same ∙ none.1)
         | inr wants ↦ inr (λ texts fits.
-        let found = of_content new files texts opens ok (content t) (reads.left t) reads.name fits in
-        record {
-          bytes = gained opened new ++ found.0;
-          stands = found.2;
-          whole = wants found.0 found.1;
-          front = of_taken wanting.texts opened new same wants;
-        })
+            let found = of_content new files texts opens ok (content t) (reads.left t) reads.name fits in
+            record {
+              bytes = gained opened new ++ found.0;
+              stands = found.2;
+              whole = wants found.0 found.1;
+              front = of_taken wanting.texts opened new same wants;
+            })
       ];
       written = reads.written ∙ opens.idle.written ∙ sym opens.was_idle.written;
       name = inl (reads.name ∙ opens.named ok);

@@ -6,8 +6,8 @@ use Rattle.host_io.specs.declared.role.Role.{Role}
 use Rattle.host_io.specs.declared.role.Role.TheVariants.{Cnf, Order, Buckets, Schedule, ProofIn, Cubes, ProofOut, Made, Out}
 use Rattle.host_io.specs.declared.source.Failed.{Failed}
 use Rattle.host_io.specs.Channel.{Channel}
-use Rattle.host_io.specs.Files.{Files, Texts, Stored, Agrees, FilesBut, Others}
-use Rattle.text_scan.specs.Decides.{gained, Fits}
+use Rattle.host_io.specs.Files.{Files, Stored, Agrees, FilesBut, Others}
+use Rattle.text_scan.specs.Decides.{gained}
 use Rattle.lrat_checker.specs.declared.verdict.Verdict.{Verdict}
 use Rattle.lrat_checker.specs.declared.verdict.CheckError.{CheckError}
 use Rattle.command_line.specs.declared.format.ProofFormat.{ProofFormat}
@@ -27,7 +27,7 @@ judged_in {old = old} {new = new} {file = file} files before same judges = recor
   read = λ t. elim (judges.read t) [
     | inl fault ↦ inl fault
     | inr text ↦ inr (λ texts fits.
-    text texts (λ named. subst (λ (told : Stored). Agrees told new (gained old new) (texts file)) (sym (same file none_some)) (fits named)))
+        text texts (λ named. subst (λ (told : Stored). Agrees told new (gained old new) (texts file)) (sym (same file none_some)) (fits named)))
   ];
   fault = judges.fault;
   unfailed = judges.unfailed;

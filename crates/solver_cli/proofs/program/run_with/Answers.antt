@@ -8,7 +8,7 @@ returns-in-Ok-gather-clause-came g c =
     let came = c.in-Ok-gather.ensures in
     at_ok _ c.in-Ok.is (
       c.run.result,
-      c.from.ensures ∙ c.code.ensures,
+      c.from-in-Ok-gather.ensures ∙ c.code.ensures,
       inl (
         map string_bytes c.deref.result.now,
         (came.0, came.1, came.2, ap (map string_bytes) (c.deref.ensures.value ∙ came.3)),
