@@ -1,5 +1,6 @@
-"""The texts of docs/FORMATS.md as the scripts beside it read and judge them, apart from the program: a formula, an order, a schedule, a
-proof; the first refusal, with its line; and the text that tells values. It follows the tables of that page, and isn't made to be fast.
+"""The texts of docs/FORMATS.md as the scripts beside it read and judge them, apart from the program: a formula, an order, a schedule,
+cubes, a proof; the first refusal, with its line; and the text that tells values. It follows the tables of that page, and isn't made to be
+fast.
 lrat.py is another judge of LRAT, which shares nothing with this one.
 """
 import itertools
@@ -11,6 +12,7 @@ from terms import AND, EXISTS, PUSH
 SET = "e"
 
 MOST_VARIABLES, MOST_CLAUSES, MOST_LITERALS = 1_000_000, 10_000_000, 100_000_000
+MOST_CUBES = 1_000_000
 MOST_LITERAL, MOST_ID = 2_147_483_647, 999_999_999_999_999_999
 
 
@@ -114,6 +116,30 @@ def order(text, variables):
             seen.add(number)
     if len(found) < variables:
         raise Refused("Missing", end_of(text))
+    return found
+
+
+def cubes(text, variables):
+    found, cube, literals = [], [], 0
+    for line, row in rows(text, b"#"):
+        for token in row:
+            number = signed(token)
+            if number is None:
+                raise Refused("BadToken", line)
+            if len(found) == MOST_CUBES or number and literals == MOST_LITERALS:
+                raise Refused("Limit", line)
+            if abs(number) > variables:
+                raise Refused("LiteralRange", line)
+            if -number in cube:
+                raise Refused("BothSigns", line)
+            if number:
+                literals += 1
+                cube.append(number)
+            else:
+                found.append(cube)
+                cube = []
+    if cube:
+        raise Refused("NoEndingZero", end_of(text))
     return found
 
 
