@@ -379,8 +379,7 @@ def linked(name):
 
 
 def same(command):
-    """each file to write is an input by another name, ./NAME, a link or a hard link: what was read is answered, and the input is lost; or
-    it is another file to write, ./NAME: the later one stands"""
+    """each file to write is another file of the command by another name, ./NAME, a link or a hard link: it isn't created, and the other stays"""
     for name, old, how in itertools.product(command.made, command.inputs, ("./", "link", "hard")):
         def more(old=old, how=how):
             if how == "link":
@@ -388,18 +387,21 @@ def same(command):
             elif how == "hard":
                 os.link(old, "link")
 
-        def wanted(_, name=name, old=old, how=how):
-            is_read = command.place("read", old) < command.place("create", name)
-            left = command.plain if is_read else command.over(old, "")
-            text = left.files.get(name)
-            others = {it: held for it, held in left.files.items() if it != name}
-            return left._replace(files={**others, old: text, **({} if how == "./" else {"link": text})})
-
+        wanted = partial(command.failed, command.calls, command.place("create", name))
         yield command.case((name, old, how), wanted, command.renamed(name, "./" + old if how == "./" else "link"), more=more)
     for name, other in itertools.permutations(command.made, 2):
-        left = without(command.plain, name)
-        left = left._replace(files={other: command.plain.files[command.made[-1]]})
+        left = command.failed(command.calls, max(command.place("create", it) for it in (name, other)))
+        left = left._replace(files={other: text for text in left.files.values()})
         yield command.case((name, other), left, command.renamed(name, "./" + other))
+
+
+def shared(command):
+    """standard output or standard error is a file to write: it isn't created"""
+    for name, (stream, to) in itertools.product(command.made, {"out": 1, "err": 2}.items()):
+        left = command.failed(command.calls, command.place("create", name))
+        left = left._replace(files={**left.files, name: getattr(left, stream)}, **{stream: b""})
+        streams = [(os.POSIX_SPAWN_OPEN, to, name, os.O_WRONLY | os.O_CREAT, 0o644)]
+        yield command.case((name, stream), left, streams=streams)
 
 
 # The command line.
@@ -420,4 +422,4 @@ def words(command):
 
 
 FAULTS = [fails, fails_once, breaks, takes_nothing, shrinks, grows, ends, sigpipe, pieces, memory, size, handles, limits, odd_inputs,
-          odd_outputs, devices, pipes, streams, links, same, words]
+          odd_outputs, devices, pipes, streams, links, same, shared, words]

@@ -240,13 +240,13 @@ const DRAT_PROOF: Argument<'static> = Argument {
 const DRAT_OUT: Argument<'static> = Argument {
     name: "out",
     form: Form::Needed("P"),
-    help: "The DRAT proof; never PROOF's own file: it would be emptied",
+    help: "The DRAT proof",
 };
 
 const LRAT_OUT: Argument<'static> = Argument {
     name: "out",
     form: Form::Needed("P"),
-    help: "The LRAT proof; never PROOF's own file: it would be emptied",
+    help: "The LRAT proof",
 };
 
 const TRIMMED_OUT: Argument<'static> = Argument {

@@ -7,6 +7,7 @@ ghost use Rattle.host_io.specs.Real.{no_traffic, Opened, Created, StandardOutput
 ghost use Rattle.host_io.specs.Port.{traffic_in, traffic_out, name_in, name_out, Settles};
 
 mod flow;
+mod open_files;
 mod tally;
 
 use crate::log::Log;
@@ -14,6 +15,7 @@ use crate::made::Made;
 use crate::reach::Reach;
 use crate::source::Failed;
 pub(crate) use flow::{Input, Output};
+use open_files::OpenFiles;
 use std::env::Args;
 use std::fs::File;
 use std::io::{ErrorKind, Stderr, Stdout};
@@ -30,6 +32,7 @@ const NOTHING: &str = "/dev/null";
 pub(crate) struct System {
     rt: HostRuntime,
     made: Made,
+    open: OpenFiles,
     held: [Option<Named<File>>; 3],
 }
 
@@ -57,6 +60,7 @@ impl System {
         System {
             rt,
             made: Made::new(),
+            open: OpenFiles::new(),
             held: [None, None, None],
         }
     }
@@ -88,19 +92,22 @@ impl System {
     {
         self.made = self.made.and(&Reach::Opened(name));
         let stream = File::open(&self.rt, name)?;
+        self.open.note(&stream)?;
         Ok(Named {
             name: Log::of(name),
             stream,
         })
     }
 
-    // Trusted: the file of this name, created.
+    // Trusted: the file of this name, created, unless it is open.
     fn created(&mut self, name: &str) -> io::Result<Named<File>>
         ensures name { IfOk result (λ file. file.name.bytes ≡ name.now) }
         ensures made { self.new ≡ self.old ++ Created name.now ∷ [] }
     {
         self.made = self.made.and(&Reach::Created(name));
+        self.open.refuse(&self.rt, name)?;
         let stream = File::create(&self.rt, name)?;
+        self.open.note(&stream)?;
         Ok(Named {
             name: Log::of(name),
             stream,
