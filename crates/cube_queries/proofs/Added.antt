@@ -40,7 +40,7 @@ use Rattle.cube_queries.proofs.Alone.{alone_good}
 use Rattle.cube_queries.proofs.Costed.{costs_at}
 use Rattle.cube_queries.proofs.Parts.{among_map, of_map}
 use Rattle.cube_queries.proofs.Stays.{Stays, goes_further, good_same, good_stands, keeps_same}
-use Rattle.cube_queries.proofs.Tries.{error_is}
+use Rattle.cube_queries.proofs.Taken.{error_is}
 use Rattle.cube_queries.proofs.Whole.{goes_none}
 
 pub adds_none : {S T : Type 0} → StepByStep S → (runner : Runner S) → IsRunner runner → (x : T) (most : ℕ) → Adds most runner runner (Ok x)

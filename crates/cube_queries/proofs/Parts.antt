@@ -1,23 +1,13 @@
 -- More parts of functions, and fewer.
-use Rattle.std.proofs.Common.{◌≡◌, ◌<◌, ◌≤◌, ℕ, zero, suc, Bool, List, [], ◌∷◌, length, map, Contains, refl, ap}
+use Rattle.std.proofs.Common.{◌≡◌, ℕ, zero, suc, Bool, List, [], ◌∷◌, map, Contains, refl, ap}
 use Rattle.std.proofs.Common.{◌⊎◌, arith, inl, inr}
 use Rattle.node_table.specs.Value.{IsSubfunction, Levels}
 use Rattle.term_runner.specs.Counting.{IsPartOfOne}
-use Rattle.term_runner.specs.Width.{AreMore, HasAtMost}
+use Rattle.term_runner.specs.Width.{AreMore}
 use Rattle.cube_queries.specs.Width.{HaveMore}
 
--- more than a number are more than a lesser one
-pub more_less : (functions : List (Levels → Bool)) (few number : ℕ) → few ≤ number → HaveMore functions number → HaveMore functions few
-more_less functions few number less have = record {
-  parts = have.parts;
-  more = omega (arith, less, have.more);
-  are = have.are;
-  essential = have.essential;
-  differ = have.differ;
-}
-
 -- those of some functions are those of more
-pub part_within : (some all : List (Levels → Bool)) → ((f : Levels → Bool) → Contains some f → Contains all f) → (part : Levels → Bool)
+part_within : (some all : List (Levels → Bool)) → ((f : Levels → Bool) → Contains some f → Contains all f) → (part : Levels → Bool)
     → IsPartOfOne some part → IsPartOfOne all part
 part_within some all within part is = record { function = is.function; among = within is.function is.among; is_part = is.is_part }
 
@@ -41,12 +31,6 @@ more_of_one all f among number have = record {
   differ = have.differ;
 }
 
--- a constant has no parts that matter
-pub constant_few : (b : Bool) (number : ℕ) → HasAtMost (λ a. b) number
-constant_few b number have =
-    let some : 0 < length have.parts = omega (arith, have.more) in
-    have.essential 0 some b (λ a. (have.are 0 some).same a)
-
 -- the first of a list, and those behind it
 pub first_among : {X : Type 0} (x : X) (xs : List X) → Contains (x ∷ xs) x
 first_among x xs = (0, omega arith, refl)
@@ -69,10 +53,3 @@ of_map f [] y there = absurd (omega (arith, there.1))
 of_map f (x ∷ xs) y (zero, small, at) = (x, first_among x xs, at)
 of_map f (x ∷ xs) y (suc k, small, at) =
     let was = of_map f xs y (k, omega (arith, small), at) in (was.0, later_among x was.0 xs was.1, was.2)
-
-pub map_same : {X Y : Type 0} (f g : X → Y) (xs : List X) → ((x : X) → Contains xs x → f x ≡ g x) → map f xs ≡ map g xs
-map_same f g [] same = refl
-map_same f g (x ∷ xs) same =
-    let one = same x (first_among x xs) in
-    let rest = map_same f g xs (λ y there. same y (later_among x y xs there)) in
-    λ i. one i ∷ rest i

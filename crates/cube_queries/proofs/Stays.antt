@@ -5,21 +5,19 @@ use Rattle.std.proofs.Common.{refl, sym, ap, subst, arith, inl, inr}
 use Rattle.std.specs.Prelude.{IsTrue}
 use Rattle.std.specs.Option.{option_to_list}
 use Rattle.std.proofs.lemmas.List.Elements.{Contains-append_left}
-use Rattle.cnf_base.specs.Truth.{Assignment}
 use Rattle.node_table.specs.declared.error.TableError.{TableError}
 use Rattle.node_table.specs.declared.error.TableError.TheVariants.{NodeLimit, IdLimit, OutOfMemory, WriteFault}
-use Rattle.node_table.specs.Diagram.{KeepsNodes, is_node}
+use Rattle.node_table.specs.Diagram.{is_node}
 use Rattle.node_table.specs.HandedOn.{no_error, same_error}
-use Rattle.node_table.specs.Laws.{Growth, StepByStep}
+use Rattle.node_table.specs.Laws.{StepByStep}
 use Rattle.node_table.specs.Progress.{Leaves}
 use Rattle.node_table.specs.Table.{TableState, live_nodes}
-use Rattle.node_table.specs.Value.{Levels, by_level, value_of}
+use Rattle.node_table.specs.Value.{by_level, value_of}
 use Rattle.term_runner.specs.declared.held.HeldTerm.{HeldTerm}
 use Rattle.term_runner.specs.declared.runner.Runner.{Runner}
-use Rattle.term_runner.specs.declared.term.Term.{Term}
-use Rattle.term_runner.specs.Runner.{Gives, IsGood, IsListed, IsRunner, Releases, nodes_of}
+use Rattle.term_runner.specs.Runner.{IsGood, IsRunner, Releases, nodes_of}
 use Rattle.term_runner.specs.Tidy.{LeavesReached}
-use Rattle.cube_queries.specs.Steps.{GivesBack, Goes, KeepsTerms, Takes}
+use Rattle.cube_queries.specs.Steps.{GivesBack, Goes, KeepsTerms}
 
 -- other errors than a failed write
 pub memory_whole : {T : Type 0} → ◌≡◌ {A = Result T TableError} (Err OutOfMemory) (Err WriteFault) → ⊥
@@ -31,15 +29,7 @@ nodes_whole is = let e : NodeLimit ≡ WriteFault = same_error is in cc
 pub ids_whole : {T : Type 0} → ◌≡◌ {A = Result T TableError} (Err IdLimit) (Err WriteFault) → ⊥
 ids_whole is = let e : IdLimit ≡ WriteFault = same_error is in cc
 
--- a list that is longer has what was there
-pub good_listed : {S : Type 0} (old new : Runner S) (held : HeldTerm) → IsListed old.terms.out.items new.terms.out.items held
-    → (other : HeldTerm) → IsGood old other → IsGood new other
-good_listed old new held listed other (inl is) = inl is
-good_listed old new held (inl same) other (inr among) = inr (subst (λ (l : List HeldTerm). Contains l other) (sym same.1) among)
-good_listed old new held (inr more) other (inr among) =
-    inr (subst (λ (l : List HeldTerm). Contains l other) (sym more.1)
-    (Contains-append_left old.terms.out.items (held ∷ []) other among))
-
+-- where the list is as it was
 pub good_same : {S : Type 0} (old new : Runner S) → new.terms.out.items ≡ old.terms.out.items → (other : HeldTerm) → IsGood old other
     → IsGood new other
 good_same old new same other (inl is) = inl is
@@ -50,50 +40,6 @@ pub good_stands : {S : Type 0} (runner : Runner S) → IsRunner runner → (held
 good_stands runner is held (inl same) = subst (λ (h : HeldTerm). IsTrue (is_node runner.terms.table.graph h.node)) (sym same) refl
 good_stands runner is held (inr among) =
     (is.proved held (Contains-append_left runner.terms.out.items (option_to_list runner.kept) held among)).stands
-
-module _ {S : Type 0} (growth : Growth) (old new : Runner S) (runner : IsRunner old) where
-  -- where nodes stay, terms keep their values
-  pub keeps_by : KeepsNodes old.terms.table.graph new.terms.table.graph → ((held : HeldTerm) → IsGood old held → IsGood new held)
-      → KeepsTerms old new
-  keeps_by nodes good = record {
-    good = good;
-    values = λ held is a.
-        growth.value old.terms.table.graph new.terms.table.graph runner.over.sound.tied.reduced nodes
-        (by_level new.terms.table.graph.order a) held.node (good_stands old runner held is)
-        ∙ (λ i. value_of old.terms.table.graph (by_level (nodes.order i) a) held.node);
-  }
-
-  module _ (function : Levels → Bool) (holds : Assignment → Bool) (operands : List HeldTerm) where
-    -- a call that gives a term is a step
-    pub takes_of : (result : Result Term TableError) → Gives function holds operands old new result → Takes holds old new result
-    takes_of (Ok term) gives = record {
-      goes_on = gives.goes_on;
-      value = gives.term.value;
-      listed = gives.listed;
-      refused = gives.refused;
-      keeps = λ whole. keeps_by gives.nodes (good_listed old new term.held gives.listed);
-      goes = record {
-        formula = gives.same.formula;
-        limits = gives.same.limits;
-        order = gives.nodes.order;
-        origin = gives.same.origin;
-        leaves = gives.leaves;
-      };
-    }
-    takes_of (Err error) gives = record {
-      goes_on = gives.goes_on;
-      value = tt;
-      listed = tt;
-      refused = gives.refused;
-      keeps = λ whole. keeps_by gives.nodes (good_same old new (gives.refused whole refl));
-      goes = record {
-        formula = gives.same.formula;
-        limits = gives.same.limits;
-        order = gives.nodes.order;
-        origin = gives.same.origin;
-        leaves = gives.leaves;
-      };
-    }
 
 -- the node of a term on a list
 node_at : (list : List HeldTerm) (held : HeldTerm) (k : ℕ) → k < length list → get_or list k held ≡ held
@@ -161,56 +107,7 @@ module _ {S : Type 0} (steps : StepByStep S) (old mid new : Runner S) where
     goes = goes_further None one.goes other.goes;
   }
 
-  -- a step behind others
-  pub takes_behind : (before after : Assignment → Bool) → ((a : Assignment) → after a ≡ before a) → (result : Result Term TableError)
-      → Stays old mid → Takes after mid new result → Takes before old new result
-  takes_behind before after same (Ok term) stays takes = record {
-    goes_on = takes.goes_on;
-    value = λ a. takes.value a ∙ same a;
-    listed = subst (λ (l : List HeldTerm). IsListed l new.terms.out.items term.held) stays.out takes.listed;
-    refused = λ whole is. takes.refused whole is ∙ stays.out;
-    keeps = λ whole. keeps_further old mid new stays.keeps (takes.keeps whole);
-    goes = goes_further None stays.goes takes.goes;
-  }
-  takes_behind before after same (Err error) stays takes = record {
-    goes_on = takes.goes_on;
-    value = tt;
-    listed = tt;
-    refused = λ whole is. takes.refused whole is ∙ stays.out;
-    keeps = λ whole. keeps_further old mid new stays.keeps (takes.keeps whole);
-    goes = goes_further (Some error) stays.goes takes.goes;
-  }
-
-  -- where the reclamation failed
-  pub takes_none : {T : Type 0} (holds : Assignment → Bool) (error : TableError) → Stays old mid
-      → GivesBack {S = S} {T = T} mid new (Err error) → Takes holds old new (Err error)
-  takes_none holds error stays back = record {
-    goes_on = λ whole. back.goes_on (λ is. whole (ap Err (same_error is)));
-    value = tt;
-    listed = tt;
-    refused = λ whole is. back.out ∙ stays.out;
-    keeps = λ whole. keeps_further old mid new stays.keeps (back.keeps (λ is. whole (ap Err (same_error is))));
-    goes = goes_further (Some error) stays.goes back.goes;
-  }
-
--- at the limit of nodes, and behind a reclamation
-pub goes_at_limit : {S : Type 0} (old new : Runner S) → Goes old new (Some NodeLimit) → Goes old new None
-goes_at_limit old new goes = record {
-  formula = goes.formula;
-  limits = goes.limits;
-  order = goes.order;
-  origin = goes.origin;
-  leaves = goes.leaves.0;
-}
-
-pub stays_at_limit : {S : Type 0} (holds : Assignment → Bool) (old new : Runner S) → Takes holds old new (Err NodeLimit) → Stays old new
-stays_at_limit holds old new takes = record {
-  runner = takes.goes_on nodes_whole;
-  out = takes.refused nodes_whole refl;
-  keeps = takes.keeps nodes_whole;
-  goes = goes_at_limit old new takes.goes;
-}
-
+-- a reclamation
 pub stays_back : {S T : Type 0} (old new : Runner S) (answer : T) → GivesBack old new (Ok answer) → Stays old new
 stays_back old new answer back = record {
   runner = back.goes_on no_error;

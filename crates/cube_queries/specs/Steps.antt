@@ -1,25 +1,22 @@
--- Steps of a session of cubes: calls of a runner, tried once more behind a reclamation where they met the limit of nodes.
-use Rattle.std.specs.Prelude.{◌≡◌, ◌≢◌, ◌≤◌, ◌++◌, ◌+◌, ◌*◌, ◌&&◌, ℕ, Bool, List, [], ◌∷◌, Result, Err, IfOk, IsErr, Option, Some, ℤ, length, map}
+-- Steps of a session of cubes: calls of a runner.
+use Rattle.std.specs.Prelude.{◌≡◌, ◌≢◌, ◌≤◌, ◌+◌, ◌*◌, ◌&&◌, ℕ, Bool, List, [], ◌∷◌, Result, Err, IfOk, IsErr, Option, Some, ℤ, length}
 use Rattle.std.specs.List.{list_all}
 use Rattle.cnf_base.specs.Formula.{Formula}
 use Rattle.cnf_base.specs.Truth.{Assignment, clause_holds}
 use Rattle.node_table.specs.declared.error.TableError.{TableError}
 use Rattle.node_table.specs.declared.error.TableError.TheVariants.{NodeLimit}
-use Rattle.node_table.specs.Diagram.{KeepsNodes, levels}
+use Rattle.node_table.specs.Diagram.{levels}
 use Rattle.node_table.specs.Progress.{Leaves, error_of}
-use Rattle.node_table.specs.Table.{AddsAtMost, UnlessTorn}
-use Rattle.node_table.specs.Value.{Levels, value_of}
-use Rattle.operations.specs.Budget.{most_additions}
-use Rattle.quantify.specs.RunsFor.{LacksOneOf, MakesOnlyOf}
+use Rattle.node_table.specs.Table.{UnlessTorn}
+use Rattle.node_table.specs.Value.{Levels}
 use Rattle.clause_terms.specs.Term.{by_variable}
 use Rattle.schedule_plan.specs.Plan.{conjoin, input as input_term, term_holds}
 use Rattle.term_runner.specs.declared.held.HeldTerm.{HeldTerm}
 use Rattle.term_runner.specs.declared.runner.Runner.{Runner}
 use Rattle.term_runner.specs.declared.term.Term.{Term}
-use Rattle.term_runner.specs.Caches.{HaveRoom}
-use Rattle.term_runner.specs.Counting.{IsPartOfOne}
 use Rattle.term_runner.specs.Price.{IsMovePrice}
-use Rattle.term_runner.specs.Runner.{IsGood, IsListed, IsRunner, holds_in}
+use Rattle.term_runner.specs.Runner.{IsListed, IsRunner, holds_in}
+pub use Rattle.term_runner.specs.Takes.{KeepsTerms, function_in, functions_out}
 use Rattle.term_runner.specs.Width.{HasWidth, IsWider}
 use Rattle.cube_queries.specs.declared.answer.Answer.{Answer}
 use Rattle.cube_queries.specs.Answers.{AreAnswers, IsAnswer}
@@ -32,11 +29,6 @@ pub record Goes {S : Type 0} (old new : Runner S) (error : Option TableError) : 
   pub order : new.terms.table.graph.order ≡ old.terms.table.graph.order
   pub origin : new.terms.table.book.origin ≡ old.terms.table.book.origin
   pub leaves : Leaves old.terms.table new.terms.table error
-
--- the terms that may be taken may be taken yet, and keep their values
-pub record KeepsTerms {S : Type 0} (old new : Runner S) : Type 0 where
-  pub good : (held : HeldTerm) → IsGood old held → IsGood new held
-  pub values : (held : HeldTerm) → IsGood old held → (a : Assignment) → holds_in new held a ≡ holds_in old held a
 
 -- A step gives a term that holds where this does, behind those that are out.
 pub record Takes {S : Type 0} (holds : Assignment → Bool) (old new : Runner S) (result : Result Term TableError) : Type 0 where
@@ -88,13 +80,6 @@ pub record RepliesAll {S : Type 0} (cubes : List (List ℤ)) (old new : Runner S
   pub answers : IfOk result (AreAnswers new.formula.now new.terms.table.graph.order new.terms.table.book.steps cubes)
   pub goes : Goes old new (error_of result)
 
--- a term's function by levels, and those of all terms that are out
-abbrev pub function_in : {S : Type 0} → Runner S → HeldTerm → Levels → Bool
-function_in runner held a = value_of runner.terms.table.graph a held.node
-
-abbrev pub functions_out : {S : Type 0} → Runner S → List (Levels → Bool)
-functions_out runner = map (function_in runner) runner.terms.out.items
-
 -- a clause's function by levels
 abbrev pub clause_in : {S : Type 0} → Runner S → ℕ → Levels → Bool
 clause_in runner number a = term_holds runner.formula.now (by_variable runner.terms.table.graph.order a) (input_term number)
@@ -103,16 +88,6 @@ clause_in runner number a = term_holds runner.formula.now (by_variable runner.te
 abbrev pub functions_with : {S : Type 0} → Runner S → HeldTerm → ℕ → List (Levels → Bool)
 functions_with runner held number = (λ a. function_in runner held a && clause_in runner number a) ∷ clause_in runner number
     ∷ function_in runner held ∷ []
-
--- A call that makes nodes of parts of these functions, however it ends.
-pub record IsTryFor {S : Type 0} (own : List (Levels → Bool)) (old new : Runner S) (error : Option TableError) : Type 0 where
-  pub leaves : Leaves old.terms.table new.terms.table error
-  pub nodes : KeepsNodes old.terms.table.graph new.terms.table.graph
-  pub made : MakesOnlyOf old.terms.table.graph new.terms.table.graph (IsPartOfOne own)
-  pub lacks : error ≡ Some NodeLimit → LacksOneOf new.terms.table.graph (IsPartOfOne own)
-  pub adds : AddsAtMost (most_additions (levels old.terms.table.graph) + 1) old.terms.table new.terms.table
-  pub pairs : (width : ℕ) → HaveRoom old.terms.caches width → (HaveMore (own ++ functions_out old) width → ⊥)
-      → AddsAtMost (2 * (width * width) + 1) old.terms.table new.terms.table
 
 -- What so many moves cost, however they end, with these functions in hand: at the limit of nodes more parts of them differ than nodes are
 -- allowed; and where they have few, no more numbers are taken than at a move's price each.

@@ -5,7 +5,7 @@ ghost use Rattle.node_table.specs.Progress.{error_of};
 ghost use Rattle.term_runner.specs.Runner.{IsRunner};
 ghost use Rattle.cube_queries.specs.Steps.{CostsPlan, TakesAlone, formula_holds};
 
-use crate::steps::{term_of, with_clause};
+use crate::steps::with_clause;
 use cnf_base::Cnf;
 use host_io::Sink;
 use node_table::{Node, TableError, growth_law, steps_law};
@@ -30,9 +30,9 @@ pub(crate) fn term_of_formula<S: Sink + Drop>(
         return Ok(runner.truth());
     }
     if let Some(number) = formula.first_empty() {
-        return term_of(runner, number as u32);
+        return runner.term(number as u32);
     }
-    let mut term = term_of(runner, 1)?;
+    let mut term = runner.term(1)?;
     'clauses: for place in 1..formula.len() {
         if is_false(term.node()) {
             return Ok(term);

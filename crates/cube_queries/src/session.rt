@@ -9,7 +9,7 @@ ghost use Rattle.cube_queries.specs.Steps.{CostsAll, CostsCubes, RepliesAll, for
 
 use crate::answer::Answers;
 use crate::formula_term::term_of_formula;
-use crate::steps::{give_back, reply};
+use crate::steps::reply;
 use cnf_base::Cnf;
 use cube_models::Finder;
 use cube_text::Cubes;
@@ -60,7 +60,7 @@ fn reply_each<S: Sink + Drop>(
     let mut answers = Answers::new(alloc);
     let mut finder = Finder::new(alloc);
     let mut sums = Vec::new(alloc);
-    give_back(runner)?;
+    let _ = runner.reclaim()?;
     'cubes: for place in 0..cubes.len() {
         let cube = cubes.cube(place + 1);
         let answer = reply(alloc, runner, &mut finder, &mut sums, term, cube)?;

@@ -1,16 +1,14 @@
-// Steps of a session. One that meets the limit of nodes is tried once more behind a reclamation.
-ghost use Rattle.std.specs.Prelude.{◌≡◌, ◌≤◌, ◌&&◌, ◌↔◌, ◌∷◌, [], List, Err, IsTrue, IfOk, OnOk, length};
+// Steps of a session.
+ghost use Rattle.std.specs.Prelude.{◌≡◌, ◌≤◌, ◌&&◌, ◌∷◌, [], List, IsTrue, IfOk, length};
 ghost use Rattle.std.specs.List.{list_all};
 ghost use Rattle.cnf_base.specs.Cube.{is_consistent};
 ghost use Rattle.cnf_base.specs.Truth.{Assignment, is_literal_of};
-ghost use Rattle.node_table.specs.declared.error.TableError.TheVariants.{NodeLimit};
 ghost use Rattle.node_table.specs.Diagram.{levels};
 ghost use Rattle.node_table.specs.Progress.{error_of};
 ghost use Rattle.schedule_plan.specs.Plan.{input as input_term, term_holds};
 ghost use Rattle.term_runner.specs.declared.held.HeldTerm.{HeldTerm as HeldValue};
-ghost use Rattle.term_runner.specs.Runner.{IsGood, IsListed, IsRunner, holds_in, nodes_of};
-ghost use Rattle.term_runner.specs.Tidy.{LeavesReached};
-ghost use Rattle.cube_queries.specs.Steps.{Costs, GivesBack, Replies, Takes, TakesAlone, TakesOver, clause_in, formula_holds};
+ghost use Rattle.term_runner.specs.Runner.{IsGood, IsListed, IsRunner, holds_in};
+ghost use Rattle.cube_queries.specs.Steps.{Costs, Replies, TakesAlone, TakesOver, formula_holds};
 ghost use Rattle.cube_queries.specs.Steps.{function_in, functions_out, functions_with};
 ghost use Rattle.cube_models.specs.Finder.{IsFinder};
 ghost use Rattle.cube_queries.specs.Sums.{AreAllReached, AreReady};
@@ -22,55 +20,9 @@ use crate::walk::least_values;
 use cnf_base::{Id, Lit};
 use cube_models::Finder;
 use host_io::Sink;
-use node_table::{TableError, growth_law, steps_law};
+use node_table::{TableError, steps_law};
 use std::alloc::Global;
 use term_runner::{Runner, Term, counting_law};
-
-/// The term of the clause of this number.
-pub(crate) fn term_of<S: Sink + Drop>(
-    runner: &mut Runner<'_, S>,
-    number: u32,
-) -> Result<Term, TableError>
-    requires runner { IsRunner runner.old }
-    requires from_one { 1 ≤ number }
-    requires to_len { number ≤ length runner.old.formula.now.clauses }
-    ensures takes { Takes (λ a. term_holds runner.old.formula.now a (input_term number)) runner.old runner.new result }
-    ensures costs { Costs 1 (clause_in runner.old number ∷ functions_out runner.old) runner.old runner.new (error_of result) }
-{
-    counting_law::<S>();
-    growth_law();
-    steps_law::<S>();
-    let found = runner.term(number);
-    if !met_limit(&found) {
-        return found;
-    }
-    give_back(runner)?;
-    runner.term(number)
-}
-
-// The term that holds where both do. They stay.
-fn both_of<S: Sink + Drop>(
-    runner: &mut Runner<'_, S>,
-    u: &Term,
-    v: &Term,
-) -> Result<Term, TableError>
-    requires runner { IsRunner runner.old }
-    requires first { IsGood runner.old u.now.held }
-    requires second { IsGood runner.old v.now.held }
-    ensures takes { Takes (λ a. holds_in runner.old u.now.held a && holds_in runner.old v.now.held a) runner.old runner.new result }
-    ensures costs { Costs 1 ((λ a. function_in runner.old u.now.held a && function_in runner.old v.now.held a) ∷ functions_out runner.old)
-        runner.old runner.new (error_of result) }
-{
-    counting_law::<S>();
-    growth_law();
-    steps_law::<S>();
-    let found = runner.meet(u, v);
-    if !met_limit(&found) {
-        return found;
-    }
-    give_back(runner)?;
-    runner.meet(u, v)
-}
 
 /// The conjunction of the one term that is out, which is released, and the clause of this number.
 pub(crate) fn with_clause<S: Sink + Drop>(
@@ -108,7 +60,7 @@ fn with_term<S: Sink + Drop>(
 {
     counting_law::<S>();
     steps_law::<S>();
-    let clause = term_of(runner, number)?;
+    let clause = runner.term(number)?;
     both_into(runner, term, clause)
 }
 
@@ -126,8 +78,9 @@ fn both_into<S: Sink + Drop>(
     ensures costs { Costs 1 ((λ a. function_in runner.old u.now.held a && function_in runner.old v.held a) ∷ functions_out runner.old)
         runner.old runner.new (error_of result) }
 {
+    counting_law::<S>();
     steps_law::<S>();
-    let both = both_of(runner, u, &v);
+    let both = runner.meet(u, &v);
     runner.release(v);
     both
 }
@@ -162,24 +115,4 @@ pub(crate) fn reply<S: Sink + Drop>(
         return refuse(alloc, runner, finder, sums, term, cube);
     };
     Ok(Answer::Sat(values))
-}
-
-/// Gives nodes back that no term reaches.
-pub(crate) fn give_back<S: Sink + Drop>(runner: &mut Runner<'_, S>) -> Result<u32, TableError>
-    requires { IsRunner runner.old }
-    ensures back { GivesBack runner.old runner.new result }
-    ensures reached { OnOk result (LeavesReached runner.old.terms.table.graph runner.new.terms.table.graph
-        (nodes_of runner.old.terms.out.items)) }
-{
-    runner.reclaim()
-}
-
-// Whether a try met the limit of nodes.
-fn met_limit(found: &Result<Term, TableError>) -> bool
-    ensures { IsTrue result ↔ (found.now ≡ Err NodeLimit) }
-{
-    match found {
-        Err(TableError::NodeLimit) => true,
-        _ => false,
-    }
 }

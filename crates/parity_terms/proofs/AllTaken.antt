@@ -16,7 +16,7 @@ use Rattle.term_runner.specs.declared.runner.Runner.{Runner}
 use Rattle.term_runner.specs.Runner.{IsRunner}
 use Rattle.parity_terms.specs.declared.row.Row.{Row}
 use Rattle.parity_terms.specs.Ends.{Ends, ReleasesAll}
-use Rattle.parity_terms.specs.Full.{IsFull, LacksBehind}
+use Rattle.term_runner.specs.Full.{IsFull, LacksBehind}
 use Rattle.parity_terms.specs.Order.{ArePlaces}
 use Rattle.parity_terms.specs.Owned.{Owns}
 use Rattle.parity_terms.specs.Rows.{AreReduced, Eliminates, IsRow, TakesEquation, held_of, place_in, vector_of}

@@ -17,9 +17,8 @@ use Rattle.term_runner.specs.Width.{AreMore, HasAtMost}
 use Rattle.parity_terms.specs.Limit.{IsClauseAmong, by_levels, functions_of, level_in}
 use Rattle.parity_terms.specs.Numbered.{AreNumbered, DependsOn}
 use Rattle.parity_terms.proofs.ClausesNumbered.{any_numbered, clause_depends, clause_numbered}
-use Rattle.parity_terms.proofs.CostPaid.{numbered_few}
 use Rattle.parity_terms.proofs.InHand.{level_function}
-use Rattle.parity_terms.proofs.Numbered.{at_most, numbered_same, one_more}
+use Rattle.parity_terms.proofs.Numbered.{at_most, numbered_few, numbered_same, one_more}
 use Rattle.parity_terms.proofs.SumNeeds.{all_few, below_numbers}
 
 few_powers : (count : ℕ) → count ≤ 8 → 2 ^ count - 1 ≤ 255

@@ -26,7 +26,7 @@ use Rattle.parity_terms.specs.Order.{AreInOrder, AreOrdered, HaveSameFirst}
 use Rattle.parity_terms.specs.Owned.{Owns}
 use Rattle.parity_terms.specs.Rows.{IsRow, held_of, vector_of}
 use Rattle.parity_terms.specs.Steps.{Keeps}
-use Rattle.parity_terms.proofs.CostPaid.{numbered_few}
+use Rattle.parity_terms.proofs.Numbered.{numbered_few}
 use Rattle.parity_terms.proofs.InHand.{rows_numbered, sum_term_numbered}
 use Rattle.parity_terms.proofs.RowVariables.{BeginsBehind, begins_anywhere, begins_later, clause_levels_of, few_rounds, levels_of}
 use Rattle.parity_terms.proofs.RowVariables.{ordered_of, sum_of_both}

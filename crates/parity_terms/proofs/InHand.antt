@@ -6,6 +6,7 @@ use Rattle.std.specs.Prelude.{IsTrue}
 use Rattle.std.proofs.Math.Nat.{add-mul, one-mul}
 use Rattle.cnf_base.specs.Truth.{Assignment}
 use Rattle.node_table.specs.Diagram.{is_node}
+use Rattle.node_table.specs.Laws.{Growth}
 use Rattle.node_table.specs.Value.{IsSubfunction, Levels}
 use Rattle.parity_nodes.specs.Sums.{sum_is}
 use Rattle.clause_terms.specs.Term.{by_variable}
@@ -17,9 +18,12 @@ use Rattle.term_runner.specs.Runner.{IsRunner, holds_in}
 use Rattle.parity_terms.specs.declared.row.Row.{Row}
 use Rattle.parity_terms.specs.Limit.{AreAmong, by_levels, functions_of, level_in}
 use Rattle.parity_terms.specs.Numbered.{AreNumbered}
+use Rattle.parity_terms.specs.Owned.{Owns}
 use Rattle.parity_terms.specs.Rows.{IsRow, held_of}
+use Rattle.parity_terms.specs.Steps.{Keeps}
 use Rattle.parity_terms.proofs.Numbered.{at_most, none_numbered, numbered_same, one_more}
 use Rattle.parity_terms.proofs.SumsNumbered.{sum_numbered}
+use Rattle.parity_terms.proofs.Taken.{owned_stands}
 
 module _ {S : Type 0} (counting : Counting S) (runner : Runner S) (goes_on : IsRunner runner) where
   -- a term's function by levels, where it is known by assignments
@@ -86,3 +90,12 @@ module _ {S : Type 0} (counting : Counting S) (old new : Runner S) (goes_on : Is
     where
       later : (terms : List HeldTerm) (held other : HeldTerm) → Contains terms other → Contains (held ∷ terms) other
       later terms held other there = (suc there.0, let small = there.1 in omega (arith, small), there.2)
+
+-- where the terms in hand stay, so do their functions
+module _ {S : Type 0} (counting : Counting S) (growth : Growth) (terms : List HeldTerm) (old new : Runner S) (runner : IsRunner old)
+    (owns : Owns terms old.terms.out.items) where
+  pub functions_keep : IsRunner new → Keeps terms old new
+      → functions_of new.terms.table.graph terms ≡ functions_of old.terms.table.graph terms
+  functions_keep goes_on keeps =
+      functions_kept counting old new runner goes_on keeps.order terms (owned_stands growth old new runner terms owns)
+      keeps.stand keeps.values

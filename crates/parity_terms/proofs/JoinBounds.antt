@@ -22,9 +22,9 @@ use Rattle.parity_terms.specs.Limit.{AreBounded, IsBounded, IsClauseAmong, funct
 use Rattle.parity_terms.specs.Numbered.{AreNumbered, DependsOn}
 use Rattle.parity_terms.specs.Owned.{Owns}
 use Rattle.parity_terms.specs.Steps.{Keeps}
+use Rattle.parity_terms.proofs.InHand.{functions_keep}
 use Rattle.parity_terms.proofs.ClauseNeeds.{both_in_hand, clause_few, clause_needs, join_few, join_needs, with_term_few}
 use Rattle.parity_terms.proofs.Totals.{moves_fewer, moves_more, one_move}
-use Rattle.parity_terms.proofs.TwoTries.{functions_keep}
 
 abbrev first_of : (Levels → Bool) → List (Levels → Bool) → Levels → Bool
 first_of d [] = d

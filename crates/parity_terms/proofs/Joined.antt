@@ -19,7 +19,7 @@ use Rattle.term_runner.specs.declared.runner.Runner.{Runner}
 use Rattle.term_runner.specs.declared.term.Term.{Term}
 use Rattle.term_runner.specs.Runner.{IsRunner, Releases, holds_in}
 use Rattle.parity_terms.specs.Clauses.{AreNumbers, Joins, TakesClauses}
-use Rattle.parity_terms.specs.Full.{IsFull, LacksBehind}
+use Rattle.term_runner.specs.Full.{IsFull, LacksBehind}
 use Rattle.parity_terms.specs.Owned.{Owns}
 use Rattle.parity_terms.specs.Steps.{Goes, Keeps, Takes}
 use Rattle.parity_terms.proofs.Taken.{goes_released, keeps_further}

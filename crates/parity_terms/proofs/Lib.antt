@@ -10,7 +10,6 @@ pub mod SumValues
 pub mod SumStep
 pub mod Reduced
 pub mod Placing
-pub mod Again
 pub mod Joined
 pub mod AllReleased
 pub mod EquationClauses
@@ -21,10 +20,7 @@ pub mod Numbered
 pub mod FixedParts
 pub mod SumsNumbered
 pub mod ClausesNumbered
-pub mod MetLimit
-pub mod CostPaid
 pub mod InHand
-pub mod TwoTries
 pub mod SumNeeds
 pub mod ClauseNeeds
 pub mod RowVariables

@@ -9,7 +9,7 @@ use Rattle.std.proofs.lemmas.Map.Keys.{IsDistinct-cons}
 use Rattle.std.proofs.lemmas.Map.Steps.{length-le_from_distinct_below}
 use Rattle.node_table.specs.Value.{IsSubfunction, Levels}
 use Rattle.term_runner.specs.Counting.{IsPartOfOne}
-use Rattle.term_runner.specs.Width.{AreMore, IsEssential, part_at}
+use Rattle.term_runner.specs.Width.{AreMore, HasAtMost, IsEssential, part_at}
 use Rattle.parity_terms.specs.Numbered.{AreNumbered}
 
 last : (count : ℕ) → count < suc count
@@ -81,6 +81,11 @@ few_numbered is_part bound number numbered more =
   where
     own : (place : ℕ) → place < length more.parts → ℕ
     own place small = numbered.number (part_at more.parts place) (more.are place small) (more.essential place small)
+
+-- a function whose parts have numbers
+pub numbered_few : (f : Levels → Bool) (bound width : ℕ) → bound ≤ width → AreNumbered (IsSubfunction f) bound → HasAtMost f width
+numbered_few f bound width less numbered more =
+    let few = few_numbered (IsSubfunction f) bound width numbered more in omega (arith, few, less)
 
 -- fewer numbers are some of more
 pub at_most : (is_part : (Levels → Bool) → Type 0) (few many : ℕ) → few ≤ many → AreNumbered is_part few → AreNumbered is_part many

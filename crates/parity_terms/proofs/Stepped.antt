@@ -52,6 +52,12 @@ module _ {S : Type 0} (old new : Runner S) (holds : Assignment → Bool) (terms 
   among_given (Ok term) held there = among_more held term.held terms there
   among_given (Err error) held there = there
 
+-- the limit of nodes was met in step
+pub step_behind : {S : Type 0} (terms : List HeldTerm) (holds : Assignment → Bool) (old new : Runner S) (found : Result Term TableError)
+    → Takes terms holds old new found → found ≡ Err NodeLimit → IsTrue new.terms.table.book.in_step
+step_behind terms holds old new found takes limit =
+    ((subst (λ (r : Result Term TableError). Takes terms holds old new r) limit takes).goes_on nodes_whole).over.sound.in_step
+
 -- the terms before the last one
 keeps_before : {S : Type 0} (held : HeldTerm) (terms : List HeldTerm) (old new : Runner S) → Keeps (terms ++ held ∷ []) old new
     → Keeps terms old new

@@ -23,9 +23,8 @@ use Rattle.parity_terms.specs.Numbered.{AreNumbered, DependsOn}
 use Rattle.parity_terms.specs.Owned.{Owns}
 use Rattle.parity_terms.specs.Steps.{Keeps}
 use Rattle.parity_terms.proofs.ClauseNeeds.{clause_few, clause_needs, clauses_depend}
-use Rattle.parity_terms.proofs.InHand.{level_function}
+use Rattle.parity_terms.proofs.InHand.{functions_keep, level_function}
 use Rattle.parity_terms.proofs.Totals.{moves_fewer, moves_more, one_move}
-use Rattle.parity_terms.proofs.TwoTries.{functions_keep}
 
 -- more is allowed
 pub bounded_more : {S T : Type 0} (more many moves most : ℕ) (least : ℕ) (terms : List HeldTerm) (old new : Runner S)

@@ -15,9 +15,8 @@ use Rattle.term_runner.specs.Runner.{IsRunner, holds_in}
 use Rattle.term_runner.specs.Width.{AreMore, HasAtMost}
 use Rattle.parity_terms.specs.Limit.{AreAmong, by_levels, functions_of, level_in}
 use Rattle.parity_terms.specs.Numbered.{AreNumbered}
-use Rattle.parity_terms.proofs.CostPaid.{numbered_few}
 use Rattle.parity_terms.proofs.InHand.{level_function, sum_term_numbered}
-use Rattle.parity_terms.proofs.Numbered.{few_numbered, numbered_same, one_more}
+use Rattle.parity_terms.proofs.Numbered.{few_numbered, numbered_few, numbered_same, one_more}
 use Rattle.parity_terms.proofs.SumsNumbered.{both_at, both_sums_numbered, sum_numbered}
 
 -- a function at the head of others, or one of these

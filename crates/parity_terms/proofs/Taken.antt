@@ -1,40 +1,33 @@
 -- What a call of a runner leaves of the terms in hand, and what several calls do.
-use Rattle.std.proofs.Common.{◌≡◌, ◌≢◌, ◌⊎◌, ◌∙◌, ◌<◌, ℕ, zero, suc, Bool, List, [], ◌∷◌, Contains}
+use Rattle.std.proofs.Common.{◌≡◌, ◌≢◌, ◌⊎◌, ◌∙◌, suc, Bool, List, [], ◌∷◌, Contains}
 use Rattle.std.proofs.Common.{Ok, Err, Result}
-use Rattle.std.proofs.Common.{length, refl, sym, ap, subst, arith, inl, inr}
-use Rattle.std.specs.Prelude.{IfOk, IsTrue, slice_index_or}
+use Rattle.std.proofs.Common.{refl, sym, ap, subst, arith, inl, inr}
+use Rattle.std.specs.Prelude.{IfOk, IsTrue}
 use Rattle.std.specs.Option.{option_to_list}
-use Rattle.std.proofs.lemmas.List.Elements.{Contains-append_left}
+use Rattle.std.proofs.lemmas.List.Elements.{Contains-append_left, Contains-append_right}
 use Rattle.cnf_base.specs.Truth.{Assignment}
 use Rattle.node_table.specs.declared.error.TableError.{TableError}
-use Rattle.node_table.specs.declared.error.TableError.TheVariants.{NodeLimit, IdLimit, OutOfMemory, WriteFault}
+use Rattle.node_table.specs.declared.error.TableError.TheVariants.{WriteFault}
 use Rattle.node_table.specs.declared.node.Node.{Node}
 use Rattle.node_table.specs.declared.node.Node.TheVariants.{False, True, Inner}
 use Rattle.node_table.specs.Diagram.{is_node}
+use Rattle.node_table.specs.HandedOn.{no_error}
 use Rattle.node_table.specs.Laws.{Growth, StepByStep}
-use Rattle.node_table.specs.Progress.{Continues, Leaves, error_of}
+use Rattle.node_table.specs.Progress.{Continues, error_of}
 use Rattle.node_table.specs.Table.{TableState}
-use Rattle.node_table.specs.Value.{Levels, by_level, value_of}
+use Rattle.node_table.specs.Value.{by_level, value_of}
 use Rattle.term_runner.specs.declared.held.HeldTerm.{HeldTerm}
 use Rattle.term_runner.specs.declared.runner.Runner.{Runner}
 use Rattle.term_runner.specs.declared.term.Term.{Term}
 use Rattle.term_runner.specs.Caches.{sizes}
-use Rattle.term_runner.specs.Runner.{Gives, IsRunner, Releases, holds_in, nodes_of, true_term}
-use Rattle.term_runner.specs.Tidy.{LeavesReached}
+use Rattle.term_runner.specs.Runner.{IsListed, IsRunner, Releases, true_term}
+use Rattle.term_runner.specs.Takes.{Takes as Call}
 use Rattle.parity_terms.specs.Owned.{Owns}
 use Rattle.parity_terms.specs.Steps.{Goes, Keeps, Takes, with_given}
 use Rattle.parity_terms.proofs.Owned.{owned_good, owns_given, owns_released}
 
 pub among_more : (held first : HeldTerm) (terms : List HeldTerm) → Contains terms held → Contains (first ∷ terms) held
 among_more held first terms there = (suc there.0, omega (arith, there.1), there.2)
-
--- the node of a term that is there
-node_there : (terms : List HeldTerm) (k : ℕ) (held : HeldTerm) → k < length terms → slice_index_or terms k held ≡ held
-    → Contains (nodes_of terms) held.node
-node_there [] k held small at = absurd (omega (arith, small))
-node_there (first ∷ terms) zero held small at = (0, omega arith, ap (λ (h : HeldTerm). h.node) at)
-node_there (first ∷ terms) (suc k) held small at =
-    let rest = node_there terms k held (omega (arith, small)) at in (suc rest.0, omega (arith, rest.1), rest.2)
 
 -- fewer terms
 pub keeps_fewer : {S : Type 0} (held : HeldTerm) (terms : List HeldTerm) (old new : Runner S) → Keeps (held ∷ terms) old new
@@ -125,72 +118,64 @@ pub owned_stands : {S : Type 0} (growth : Growth) (old new : Runner S) → IsRun
 owned_stands growth old new runner terms owns held there =
     out_stands old runner held (owned_good held terms old.terms.out.items owns there)
 
--- a call that gives a term
-module _ {S : Type 0} (growth : Growth) (old new : Runner S) (runner : IsRunner old) (terms : List HeldTerm)
-    (owns : Owns terms old.terms.out.items) (function : Levels → Bool) (holds : Assignment → Bool) (operands : List HeldTerm) where
-  order_left : (result : Result Term TableError) → Leaves old.terms.table new.terms.table (error_of result) → result ≢ Err WriteFault
-      → new.terms.table.graph.order ≡ old.terms.table.graph.order
-  order_left (Ok term) leaves whole = leaves.order
-  order_left (Err NodeLimit) leaves whole = leaves.0.order
-  order_left (Err IdLimit) leaves whole = leaves.0.order
-  order_left (Err OutOfMemory) leaves whole = leaves.order
-  order_left (Err WriteFault) leaves whole = leaves.order
+-- what is there of the empty clause behind a call that gives a term
+refuted_left : {S : Type 0} (old new : Runner S) (result : Result Term TableError)
+    → IfOk result (λ term. term.held.node ≡ False → IsTrue new.refuted)
+    → (IfOk result (λ term. term.held.node ≢ False) → new.refuted ≡ old.refuted) → IsTrue old.refuted → IsTrue new.refuted
+refuted_left old new (Err error) refutes same was = same tt ∙ was
+refuted_left old new (Ok term) refutes same was = by_node term.held.node refl
+  where
+    by_node : (node : Node) → term.held.node ≡ node → IsTrue new.refuted
+    by_node False is = refutes is
+    by_node True is = same (λ none. let e : True ≡ False = sym is ∙ none in cc) ∙ was
+    by_node (Inner key) is = same (λ none. let e : Inner key ≡ False = sym is ∙ none in cc) ∙ was
 
-  refuted_left : (result : Result Term TableError) → IfOk result (λ term. term.held.node ≡ False → IsTrue new.refuted)
-      → (IfOk result (λ term. term.held.node ≢ False) → new.refuted ≡ old.refuted) → IsTrue old.refuted → IsTrue new.refuted
-  refuted_left (Err error) refutes same was = same tt ∙ was
-  refuted_left (Ok term) refutes same was = by_node term.held.node refl
-    where
-      by_node : (node : Node) → term.held.node ≡ node → IsTrue new.refuted
-      by_node False is = refutes is
-      by_node True is = same (λ none. let e : True ≡ False = sym is ∙ none in cc) ∙ was
-      by_node (Inner key) is = same (λ none. let e : Inner key ≡ False = sym is ∙ none in cc) ∙ was
+-- the term that a call gave stands
+given_stands : {S : Type 0} (before : List HeldTerm) (runner : Runner S) → IsRunner runner → (held : HeldTerm)
+    → IsListed before runner.terms.out.items held → IsTrue (is_node runner.terms.table.graph held.node)
+given_stands before runner is held (inl none) = out_stands runner is held (inl none.0)
+given_stands before runner is held (inr one) =
+    out_stands runner is held (inr (subst (λ (l : List HeldTerm). Contains l held) (sym one.1)
+    (Contains-append_right before (held ∷ []) held (0, omega arith, refl))))
 
-  owns_left : (result : Result Term TableError) → Gives function holds operands old new result → result ≢ Err WriteFault
+-- A call that gives a term.
+module _ {S : Type 0} (old new : Runner S) (terms : List HeldTerm) (owns : Owns terms old.terms.out.items) (holds : Assignment → Bool) where
+  owns_left : (result : Result Term TableError) → Call holds old new result → result ≢ Err WriteFault
       → Owns (with_given terms result) new.terms.out.items
-  owns_left (Ok term) gives whole = owns_given term.held terms old.terms.out.items new.terms.out.items owns gives.listed
-  owns_left (Err error) gives whole = subst (Owns terms) (sym (gives.refused whole refl)) owns
+  owns_left (Ok term) call whole = owns_given term.held terms old.terms.out.items new.terms.out.items owns call.listed
+  owns_left (Err error) call whole = subst (Owns terms) (sym (call.refused whole refl)) owns
 
-  module _ (result : Result Term TableError) (gives : Gives function holds operands old new result) where
-    keeps_given : result ≢ Err WriteFault → Keeps terms old new
-    keeps_given whole =
-        let order = order_left result gives.leaves whole in
-        let stand = owned_stands growth old new runner terms owns in
-        record {
-          formula = gives.same.formula;
-          limits = gives.same.limits;
-          sizes = gives.same.sizes;
-          order = order;
-          origin = gives.same.origin;
-          refuted = refuted_left result gives.refutes (gives.unrefuted whole);
-          stand = λ held there.
-              growth.stands old.terms.table.graph new.terms.table.graph gives.nodes held.node (stand held there);
-          values = λ held there a.
-              ap (λ (l : List ℕ). value_of new.terms.table.graph (by_level l a) held.node) order
-              ∙ growth.value old.terms.table.graph new.terms.table.graph runner.over.sound.tied.reduced gives.nodes
-              (by_level old.terms.table.graph.order a) held.node (stand held there);
-        }
-
-  stands_given : (result : Result Term TableError) → Gives function holds operands old new result
+  stands_left : (result : Result Term TableError) → Call holds old new result
       → IfOk result (λ term. IsTrue (is_node new.terms.table.graph term.held.node))
-  stands_given (Ok term) gives = gives.term.stands
-  stands_given (Err error) gives = tt
+  stands_left (Ok term) call = given_stands old.terms.out.items new (call.goes_on no_error) term.held call.listed
+  stands_left (Err error) call = tt
 
-  value_given : (result : Result Term TableError) → Gives function holds operands old new result
-      → IfOk result (λ term. (a : Assignment) → holds_in new term.held a ≡ holds a)
-  value_given (Ok term) gives = gives.term.value
-  value_given (Err error) gives = tt
+  keeps_left : (result : Result Term TableError) → Call holds old new result → result ≢ Err WriteFault → Keeps terms old new
+  keeps_left result call whole =
+      let kept = call.keeps whole in
+      let good : (held : HeldTerm) → Contains terms held → (held ≡ true_term) ⊎ Contains old.terms.out.items held =
+      λ held there. owned_good held terms old.terms.out.items owns there in
+      record {
+        formula = call.same.formula;
+        limits = call.same.limits;
+        sizes = call.same.sizes;
+        order = call.order;
+        origin = call.same.origin;
+        refuted = refuted_left old new result call.refutes (call.unrefuted whole);
+        stand = λ held there. out_stands new (call.goes_on whole) held (kept.good held (good held there));
+        values = λ held there a. kept.values held (good held there) a;
+      }
 
-  pub takes_of : (result : Result Term TableError) → Gives function holds operands old new result → Takes terms holds old new result
-  takes_of result gives = record {
-    goes_on = gives.goes_on;
-    stands = stands_given result gives;
-    value = value_given result gives;
-    owns = owns_left result gives;
-    refutes = gives.refutes;
-    unrefuted = gives.unrefuted;
-    keeps = keeps_given result gives;
-    leaves = gives.leaves;
+  pub takes_of : (result : Result Term TableError) → Call holds old new result → Takes terms holds old new result
+  takes_of result call = record {
+    goes_on = call.goes_on;
+    stands = stands_left result call;
+    value = call.value;
+    owns = owns_left result call;
+    refutes = call.refutes;
+    unrefuted = call.unrefuted;
+    keeps = keeps_left result call;
+    leaves = call.leaves;
   }
 
 -- a term is released
@@ -218,41 +203,8 @@ module _ {S : Type 0} (old new : Runner S) (runner : IsRunner old) (held : HeldT
     continues = releases.continues;
   }
 
--- a reclamation, or want of memory for it
+-- where nothing changed but what isn't asked for
 module _ {S : Type 0} (old new : Runner S) (runner : IsRunner old) (terms : List HeldTerm) (owns : Owns terms old.terms.out.items) where
-  pub reclaimed : LeavesReached old.terms.table.graph new.terms.table.graph (nodes_of old.terms.out.items) → IsRunner new
-      → new.terms.out ≡ old.terms.out → new.formula ≡ old.formula → new.limits ≡ old.limits → new.refuted ≡ old.refuted
-      → sizes new.terms.caches ≡ sizes old.terms.caches → new.terms.table.book.origin ≡ old.terms.table.book.origin
-      → Continues old.terms.table new.terms.table → Goes terms old new
-  reclaimed reached goes_on out formula limits refuted same_sizes origin continues = record {
-    runner = goes_on;
-    owns = subst (Owns terms) (sym (ap (λ v. v.items) out)) owns;
-    refuted = refuted;
-    keeps = record {
-      formula = formula;
-      limits = limits;
-      sizes = same_sizes;
-      order = reached.order;
-      origin = origin;
-      refuted = λ was. refuted ∙ was;
-      stand = stand;
-      values = λ held there a.
-          ap (λ (l : List ℕ). value_of new.terms.table.graph (by_level l a) held.node) reached.order
-          ∙ reached.value (by_level old.terms.table.graph.order a) held.node (stand held there);
-    };
-    continues = continues;
-  }
-    where
-      stands_by : (held : HeldTerm) → (held ≡ true_term) ⊎ Contains old.terms.out.items held
-          → IsTrue (is_node new.terms.table.graph held.node)
-      stands_by held (inl true_one) =
-          subst (λ (h : HeldTerm). IsTrue (is_node new.terms.table.graph h.node)) (sym true_one) refl
-      stands_by held (inr among) =
-          reached.stand held.node (node_there old.terms.out.items among.0 held among.1 among.2)
-
-      stand : (held : HeldTerm) → Contains terms held → IsTrue (is_node new.terms.table.graph held.node)
-      stand held there = stands_by held (owned_good held terms old.terms.out.items owns there)
-
   pub none_reclaimed : new.terms.table ≡ old.terms.table → IsRunner new → new.terms.out ≡ old.terms.out → new.formula ≡ old.formula
       → new.limits ≡ old.limits → new.refuted ≡ old.refuted → sizes new.terms.caches ≡ sizes old.terms.caches
       → Continues old.terms.table new.terms.table → Goes terms old new

@@ -1,27 +1,27 @@
 -- A term weakened to the sum of some variables, which it implies: first the sum's node, then its term.
-use Rattle.std.proofs.Common.{◌≡◌, ◌∙◌, ℕ, Bool, true, false, List, [], ◌∷◌, Contains, Some, Ok, Err, Result, refl, sym}
-use Rattle.std.proofs.Common.{ap, subst, inl, inr}
-use Rattle.std.specs.Prelude.{IsTrue}
+use Rattle.std.proofs.Common.{◌≡◌, ◌∙◌, ℕ, Bool, true, false, List, Some, Ok, Err, Result, refl, sym}
+use Rattle.std.proofs.Common.{subst, inl, inr}
+use Rattle.std.specs.Prelude.{IsErrAnd, IsTrue}
+use Rattle.std.specs.Option.{option_to_list}
+use Rattle.std.proofs.lemmas.List.Elements.{Contains-append_left}
 use Rattle.cnf_base.specs.Truth.{Assignment}
 use Rattle.node_table.specs.declared.error.TableError.{TableError}
 use Rattle.node_table.specs.declared.node.Node.{Node}
 use Rattle.node_table.specs.declared.node.Node.TheVariants.{False, True}
 use Rattle.node_table.specs.Diagram.{is_node}
 use Rattle.node_table.specs.HandedOn.{no_error}
-use Rattle.node_table.specs.Laws.{Cofactors, Growth, StepByStep}
-use Rattle.node_table.specs.Value.{Levels, value_of}
+use Rattle.node_table.specs.Laws.{Cofactors, StepByStep}
 use Rattle.parity_nodes.specs.Sums.{sum_is}
 use Rattle.clause_terms.specs.Term.{by_variable}
 use Rattle.imply.specs.Implication.{IsRefuted}
 use Rattle.term_runner.specs.declared.held.HeldTerm.{HeldTerm}
 use Rattle.term_runner.specs.declared.runner.Runner.{Runner}
 use Rattle.term_runner.specs.declared.term.Term.{Term}
-use Rattle.term_runner.specs.Parity.{GivesNone, IsNodeOf, Weakens, always, node_holds}
-use Rattle.term_runner.specs.Runner.{IsGood, IsRunner, holds_in}
+use Rattle.term_runner.specs.Parity.{TakesNode, TakesWeaker, always, node_holds}
+use Rattle.term_runner.specs.Runner.{IsGood, IsListed, holds_in, true_term}
 use Rattle.parity_terms.specs.Owned.{Owns}
 use Rattle.parity_terms.specs.Steps.{Goes, Takes}
 use Rattle.parity_terms.proofs.ByAssignment.{by_assignment}
-use Rattle.parity_terms.proofs.Owned.{owned_there}
 use Rattle.parity_terms.proofs.Taken.{takes_further, takes_of}
 
 -- the same function by other words
@@ -49,6 +49,14 @@ takes_same terms other holds old new (Err error) same takes = record {
   leaves = takes.leaves;
 }
 
+-- an error that is handed on
+pub takes_handed : {S : Type 0} (terms : List HeldTerm) (holds : Assignment → Bool) (old new : Runner S) (came : TableError)
+    (result : Result Term TableError) → IsErrAnd result (λ e. e ≡ came) → Takes terms holds old new (Err came)
+    → Takes terms holds old new result
+takes_handed terms holds old new came (Ok term) is takes = absurd is
+takes_handed terms holds old new came (Err e) is takes =
+    subst (λ (error : TableError). Takes terms holds old new (Err error)) (sym is) takes
+
 -- an error says nothing of the function
 takes_refused : {S : Type 0} (terms : List HeldTerm) (other holds : Assignment → Bool) (old new : Runner S) (error : TableError)
     → Takes terms other old new (Err error) → Takes terms holds old new (Err error)
@@ -63,24 +71,28 @@ takes_refused terms other holds old new error takes = record {
   leaves = takes.leaves;
 }
 
-module _ {S : Type 0} (growth : Growth) (cofactors : Cofactors) (steps : StepByStep S) (old mid : Runner S) (runner : IsRunner old)
-    (terms : List HeldTerm) (owns : Owns terms old.terms.out.items) (function : Levels → Bool) (variables : List ℕ) (bit : Bool) where
+-- True is not listed
+same_list : (before after : List HeldTerm) → IsListed before after true_term → after ≡ before
+same_list before after (inl same) = same.1
+same_list before after (inr one) = absurd (one.0 refl)
+
+module _ {S : Type 0} (cofactors : Cofactors) (steps : StepByStep S) (old mid : Runner S) (terms : List HeldTerm)
+    (owns : Owns terms old.terms.out.items) (variables : List ℕ) (bit : Bool) where
   -- the sum's node wasn't found
-  pub torn_node : (error : TableError) → GivesNone {T = Node} function [] old mid (Err error)
+  pub torn_node : (error : TableError) → TakesNode (sum_is bit variables) old mid (Err error)
       → Takes terms (sum_is bit variables) old mid (Err error)
   torn_node error none =
       takes_refused terms (λ a. true) (sum_is bit variables) old mid error
-      (takes_of growth old mid runner terms owns function (λ a. true) [] (Err error) none.gives)
+      (takes_of old mid terms owns (λ a. true) (Err error) none.takes)
 
-  module _ (node : Node) (none : GivesNone {T = Node} function [] old mid (Ok node))
-      (is : IsNodeOf mid.terms.table.graph (sum_is bit variables) node) (u : HeldTerm) (good : IsGood old u) where
+  module _ (node : Node) (found : TakesNode (sum_is bit variables) old mid (Ok node)) (u : HeldTerm) (good : IsGood old u) where
     same_out : mid.terms.out.items ≡ old.terms.out.items
-    same_out = none.out no_error
+    same_out = same_list old.terms.out.items mid.terms.out.items found.takes.listed
 
     first : Takes terms (λ a. true) old mid (Ok always)
-    first = takes_of growth old mid runner terms owns function (λ a. true) [] (Ok always) none.gives
+    first = takes_of old mid terms owns (λ a. true) (Ok always) found.takes
 
-    goes : Goes terms old mid
+    pub goes : Goes terms old mid
     goes = record {
       runner = first.goes_on no_error;
       owns = subst (Owns terms) (sym same_out) owns;
@@ -90,27 +102,22 @@ module _ {S : Type 0} (growth : Growth) (cofactors : Cofactors) (steps : StepByS
     }
 
     pub good_mid : IsGood mid u
-    good_mid = elim good [
-      | inl true_one ↦ inl true_one
-      | inr among ↦ inr (subst (λ (l : List HeldTerm). Contains l u) (sym same_out) among)
-    ]
+    good_mid = (found.takes.keeps no_error).good u good
 
     module _ (new : Runner S) where
       -- the term wasn't found
-      pub torn_weaker : (error : TableError) → Weakens u node mid new (Err error) → Takes terms (sum_is bit variables) old new (Err error)
+      pub torn_weaker : (error : TableError) → TakesWeaker u node mid new (Err error) → Takes terms (sum_is bit variables) old new (Err error)
       torn_weaker error weakens =
           takes_refused terms (node_holds mid.terms.table.graph node) (sum_is bit variables) old new error
           (takes_further steps terms old mid new (node_holds mid.terms.table.graph node) (Err error) goes
-          (takes_of growth mid new goes.runner terms goes.owns (λ a. value_of mid.terms.table.graph a node)
-          (node_holds mid.terms.table.graph node) (u ∷ []) (Err error) weakens.gives))
+          (takes_of mid new terms goes.owns (node_holds mid.terms.table.graph node) (Err error) weakens.takes))
 
       -- it was
-      pub takes_weaker : (term : Term) → Weakens u node mid new (Ok (Some term)) → Takes terms (sum_is bit variables) old new (Ok term)
+      pub takes_weaker : (term : Term) → TakesWeaker u node mid new (Ok (Some term)) → Takes terms (sum_is bit variables) old new (Ok term)
       takes_weaker term weakens =
-          takes_same terms (node_holds mid.terms.table.graph node) (sum_is bit variables) old new (Ok term) is.value
+          takes_same terms (node_holds mid.terms.table.graph node) (sum_is bit variables) old new (Ok term) found.node.value
           (takes_further steps terms old mid new (node_holds mid.terms.table.graph node) (Ok term) goes
-          (takes_of growth mid new goes.runner terms goes.owns (λ a. value_of mid.terms.table.graph a node)
-          (node_holds mid.terms.table.graph node) (u ∷ []) (Ok term) weakens.gives))
+          (takes_of mid new terms goes.owns (node_holds mid.terms.table.graph node) (Ok term) weakens.takes))
 
     -- what the term implies isn't refuted
     pub not_refuted : ((a : Assignment) → holds_in old u a ≡ true → sum_is bit variables a ≡ true)
@@ -123,19 +130,12 @@ module _ {S : Type 0} (growth : Growth) (cofactors : Cofactors) (steps : StepByS
         let holds : holds_in mid u a ≡ true =
         by_assignment cofactors graph reduced ordered refuted.values u.node stands ∙ refuted.holds in
         let fails : sum_is bit variables a ≡ false =
-        sym (is.value a) ∙ by_assignment cofactors graph reduced ordered refuted.values node is.stands ∙ refuted.fails in
-        let e : true ≡ false = sym (implies a (sym (same_value a) ∙ holds)) ∙ fails in
+        sym (found.node.value a) ∙ by_assignment cofactors graph reduced ordered refuted.values node found.node.stands ∙ refuted.fails in
+        let e : true ≡ false = sym (implies a (sym ((found.takes.keeps no_error).values u good a) ∙ holds)) ∙ fails in
         cc
       where
         stands : IsTrue (is_node mid.terms.table.graph u.node)
-        stands = elim good [
+        stands = elim good_mid [
           | inl true_one ↦ subst (λ (h : HeldTerm). IsTrue (is_node mid.terms.table.graph h.node)) (sym true_one) refl
-          | inr among ↦ goes.keeps.stand u (owned_there u terms old.terms.out.items owns among)
-        ]
-
-        same_value : (a : Assignment) → holds_in mid u a ≡ holds_in old u a
-        same_value a = elim good [
-          | inl true_one ↦
-              ap (λ (h : HeldTerm). holds_in mid h a) true_one ∙ sym (ap (λ (h : HeldTerm). holds_in old h a) true_one)
-          | inr among ↦ goes.keeps.values u (owned_there u terms old.terms.out.items owns among) a
+          | inr among ↦ (goes.runner.proved u (Contains-append_left mid.terms.out.items (option_to_list mid.kept) u among)).stands
         ]

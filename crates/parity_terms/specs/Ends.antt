@@ -7,7 +7,7 @@ use Rattle.node_table.specs.Table.{UnlessTorn}
 use Rattle.term_runner.specs.declared.runner.Runner.{Runner}
 use Rattle.term_runner.specs.Runner.{IsRunner}
 use Rattle.parity_equations.specs.Conflict.{AreInConflict}
-use Rattle.parity_terms.specs.Full.{IsFull}
+use Rattle.term_runner.specs.Full.{IsFull}
 use Rattle.parity_terms.specs.Steps.{Keeps}
 
 -- all terms that were out are released, and the nodes stay

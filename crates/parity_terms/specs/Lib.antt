@@ -1,5 +1,4 @@
 pub mod Owned
-pub mod Full
 pub mod Steps
 pub mod Order
 pub mod Clauses

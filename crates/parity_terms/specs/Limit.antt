@@ -1,14 +1,12 @@
 -- What an elimination has in hand where it meets the limit of nodes.
-use Rattle.std.specs.Prelude.{◌≡◌, ◌≤◌, ◌<◌, ◌+◌, ◌*◌, ◌++◌, ◌==◌, ◌-◌, ℕ, ℤ, Bool, not, List, [], ◌∷◌, Contains, Result, Err, Some, length}
+use Rattle.std.specs.Prelude.{◌≡◌, ◌≤◌, ◌<◌, ◌+◌, ◌*◌, ◌++◌, ◌==◌, ◌-◌, ℕ, ℤ, Bool, not, List, [], ◌∷◌, Contains, Result, Err, length}
 use Rattle.std.specs.Prelude.{nat_abs, slice_index_or}
 use Rattle.std.specs.Prelude.{nat_eq}
 use Rattle.std.specs.List.{filter, list_any, position_or_len}
 use Rattle.cnf_base.specs.Truth.{Assignment}
 use Rattle.node_table.specs.declared.error.TableError.{TableError}
 use Rattle.node_table.specs.declared.error.TableError.TheVariants.{NodeLimit}
-use Rattle.node_table.specs.Diagram.{Graph, KeepsNodes, levels}
-use Rattle.node_table.specs.Made.{LacksPart, MakesOnly}
-use Rattle.node_table.specs.Progress.{Leaves}
+use Rattle.node_table.specs.Diagram.{Graph, levels}
 use Rattle.node_table.specs.Value.{Levels}
 use Rattle.clause_terms.specs.Term.{by_variable}
 use Rattle.quantify.specs.SomeValues.{function_of}
@@ -84,13 +82,6 @@ CostsMoves moves least terms old new = (size width price : ℕ) → HaveSize old
     → ((function : Levels → Bool) → Contains (functions_of old.terms.table.graph terms) function → HasAtMost function width) → least ≤ width
     → new.terms.table.book.state.top ≤ old.terms.table.book.state.top + moves * price
 
--- A call for a function met the limit of nodes: those that it made are of parts of the function, one of which is the function of none.
-pub record MeetsLimit {S : Type 0} (function : Levels → Bool) (old new : Runner S) : Type 0 where
-  pub keeps : KeepsNodes old.terms.table.graph new.terms.table.graph
-  pub made : MakesOnly old.terms.table.graph new.terms.table.graph function
-  pub lacks : LacksPart new.terms.table.graph function
-  pub leaves : Leaves old.terms.table new.terms.table (Some NodeLimit)
-
 -- these variables are some of all
 abbrev pub AreOf : List ℕ → List ℕ → Type 0
 AreOf all variables = (variable : ℕ) → Contains variables variable → Contains all variable
@@ -104,15 +95,6 @@ pub record IsBounded {S : Type 0} (terms : List HeldTerm) (holds : Assignment �
     : Type 0 where
   pub short : IsShort (in_hand old holds terms) old result
   pub costs : CostsMove (in_hand old holds terms) old new
-
--- One try of it: it costs half of a move's price at most.
-pub record IsTriedOnce {S : Type 0} (function : Levels → Bool) (terms : List HeldTerm) (old new : Runner S)
-    (result : Result Term TableError) : Type 0 where
-  pub met : result ≡ Err NodeLimit → MeetsLimit function old new
-  pub half : (size width price : ℕ) → HaveSize old.terms.caches size → IsMovePrice (levels old.terms.table.graph) size width price
-      → HasAtMost function width
-      → ((other : Levels → Bool) → Contains (functions_of old.terms.table.graph terms) other → HasAtMost other width)
-      → 2 * new.terms.table.book.state.top ≤ 2 * old.terms.table.book.state.top + price
 
 -- Steps' bounds, with terms in hand: how many more parts there may be than theirs, and how many moves the steps cost for which width.
 pub record AreBounded {S T : Type 0} (more moves least : ℕ) (terms : List HeldTerm) (old new : Runner S) (result : Result T TableError)

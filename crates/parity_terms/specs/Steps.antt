@@ -1,4 +1,4 @@
--- Steps of an elimination: calls of a runner, tried again where they met the limit of nodes, behind a reclamation.
+-- Steps of an elimination: calls of a runner, by the terms that are owned.
 use Rattle.std.specs.Prelude.{◌≡◌, ◌≢◌, Bool, List, ◌∷◌, Contains, Result, Ok, Err, IfOk, IsTrue}
 use Rattle.cnf_base.specs.Truth.{Assignment}
 use Rattle.node_table.specs.declared.node.Node.TheVariants.{False}
@@ -49,8 +49,3 @@ pub record Goes {S : Type 0} (terms : List HeldTerm) (old new : Runner S) : Type
   pub refuted : new.refuted ≡ old.refuted
   pub keeps : Keeps terms old new
   pub continues : Continues old.terms.table new.terms.table
-
--- A reclamation, or what it failed for.
-pub record GivesBack {S : Type 0} (terms : List HeldTerm) (old new : Runner S) (result : Result (Unit {0}) TableError) : Type 0 where
-  pub goes : UnlessTorn result (Goes terms old new)
-  pub leaves : Leaves old.terms.table new.terms.table (error_of result)

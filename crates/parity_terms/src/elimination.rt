@@ -8,7 +8,7 @@ ghost use Rattle.parity_equations.specs.Equations.{equations as equations_of};
 ghost use Rattle.parity_equations.specs.Walk.{IsEquationOf, listed};
 ghost use Rattle.term_runner.specs.Runner.{IsRunner};
 ghost use Rattle.parity_terms.specs.Ends.{Ends, ReleasesAll};
-ghost use Rattle.parity_terms.specs.Full.{IsFull};
+ghost use Rattle.term_runner.specs.Full.{IsFull};
 ghost use Rattle.parity_terms.specs.Limit.{AreBounded, AreOf, AreRowsOf, CostsElimination, all_variables, nodes_needed, step_width};
 ghost use Rattle.parity_terms.specs.Order.{ArePlaces};
 ghost use Rattle.parity_terms.specs.Owned.{Owns};

@@ -6,12 +6,12 @@ ghost use Rattle.quantify.specs.SomeValues.{function_of};
 ghost use Rattle.term_runner.specs.declared.held.HeldTerm.{HeldTerm as HeldValue};
 ghost use Rattle.term_runner.specs.Runner.{IsRunner, holds_in};
 ghost use Rattle.parity_terms.specs.Clauses.{AreNumbers, Joins, TakesClauses};
-ghost use Rattle.parity_terms.specs.Full.{IsFull};
+ghost use Rattle.term_runner.specs.Full.{IsFull};
 ghost use Rattle.parity_terms.specs.Limit.{AreBounded, AreClausesAmong, IsClauseAmong};
 ghost use Rattle.parity_terms.specs.Numbered.{DependsOn};
 ghost use Rattle.parity_terms.specs.Owned.{AreOwned, IsOwned, Owns};
 
-use crate::steps::{both_into, term_of};
+use crate::steps::both_into;
 use host_io::Sink;
 use node_table::{TableError, growth_law, steps_law};
 use term_runner::{Runner, Term, counting_law};
@@ -36,7 +36,7 @@ pub(crate) fn term_of_clauses<S: Sink + Drop>(
     growth_law();
     steps_law::<S>();
     counting_law::<S>();
-    let mut term = term_of(runner, numbers[0])?;
+    let mut term = runner.term(numbers[0])?;
     let mut place = 1;
     'clauses: while place < numbers.len() && !runner.is_refuted() {
         term = with_clause(runner, term, numbers[place])?;
@@ -71,7 +71,7 @@ fn with_clause<S: Sink + Drop>(
     growth_law();
     steps_law::<S>();
     counting_law::<S>();
-    match term_of(runner, number) {
+    match runner.term(number) {
         Err(error) => {
             runner.release(term);
             Err(error)

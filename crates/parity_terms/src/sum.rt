@@ -3,7 +3,7 @@ ghost use Rattle.std.specs.Prelude.{◌≡◌, ◌∷◌, ◌*◌, ℕ, Err, Lis
 ghost use Rattle.node_table.specs.declared.error.TableError.TheVariants.{NodeLimit};
 ghost use Rattle.term_runner.specs.declared.held.HeldTerm.{HeldTerm as HeldValue};
 ghost use Rattle.term_runner.specs.Runner.{IsRunner};
-ghost use Rattle.parity_terms.specs.Full.{IsFull};
+ghost use Rattle.term_runner.specs.Full.{IsFull};
 ghost use Rattle.parity_terms.specs.Limit.{AreBounded, AreOf};
 ghost use Rattle.parity_terms.specs.Order.{ArePlaces, HaveSameFirst};
 ghost use Rattle.parity_terms.specs.Owned.{IsOwned, Owns};

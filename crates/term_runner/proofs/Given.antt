@@ -143,6 +143,7 @@ module _ {S : Type 0} (growth : Growth) (steps : StepByStep S) (function : Level
         sizes = ap (λ (r : Runner S). sizes r.terms.caches) same ∙ found.sizes;
         origin = ap (λ (t : TableState S). t.book.origin) same_table ∙ origin_left old.terms.table mid (Some came) found.steps.leaves;
       };
+      left = ap (λ (r : Runner S). r.terms.left) same;
       leaves = subst (λ (t : TableState S). Leaves old.terms.table t (Some came)) (sym same_table) found.steps.leaves;
       nodes = subst (λ (t : TableState S). KeepsNodes old.terms.table.graph t.graph) (sym same_table) found.steps.extends.nodes;
       adds = subst (λ (t : TableState S). AddsAtMost (most_additions (length old.terms.table.graph.order) + 1) old.terms.table t)
@@ -249,6 +250,7 @@ module _ {S : Type 0} (growth : Growth) (steps : StepByStep S) (function : Level
         sizes = ap (λ (r : Runner S). sizes r.terms.caches) same ∙ found.sizes;
         origin = ap (λ (t : TableState S). t.book.origin) here ∙ told_origin found.steps.leaves.told;
       };
+      left = ap (λ (r : Runner S). r.terms.left) same;
       leaves = subst (λ (t : TableState S). Continues old.terms.table t) (sym here) found.steps.leaves;
       nodes = subst (λ (t : TableState S). KeepsNodes old.terms.table.graph t.graph) (sym here) found.steps.extends.nodes;
       adds = subst (λ (t : TableState S). AddsAtMost (most_additions (length old.terms.table.graph.order) + 1) old.terms.table t)
@@ -355,6 +357,7 @@ module _ {S : Type 0} (function : Levels → Bool) (holds : Assignment → Bool)
           sizes = own.same.sizes;
           origin = origin_left old.terms.table new (Some WriteFault) leaves;
         };
+        left = own.left;
         leaves = leaves;
         nodes = subst (KeepsNodes old.terms.table.graph) (sym nodes) own.nodes;
         adds = adds_still;
@@ -424,6 +427,7 @@ module _ {S : Type 0} (function : Levels → Bool) (holds : Assignment → Bool)
         sizes = own.same.sizes;
         origin = origin_left old.terms.table new (error_of r) leaves;
       };
+      left = own.left;
       leaves = leaves;
       nodes = subst (KeepsNodes old.terms.table.graph) (sym nodes) own.nodes;
       adds = adds_still;

@@ -67,3 +67,11 @@ pub mod Weakened
 pub mod SumOver
 pub mod Counted
 pub mod Derived
+pub mod FunctionParts
+pub mod Rests
+pub mod CallCosts
+pub mod TidiedTerms
+pub mod NodeTaken
+pub mod Retried
+pub mod LeftNoted
+pub mod NodeRetried

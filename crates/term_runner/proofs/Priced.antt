@@ -40,6 +40,14 @@ half_price vars size width price is first last any room = elim is [
   | inr by_width ↦ let own = room by_width.0 in omega (arith, own, by_width.1, square width)
 ]
 
+-- where it makes no node, it leaves eight of these numbers for each part
+pub spare_price : (vars size width price : ℕ) → IsMovePrice vars size width price → (first last : ℕ) → last ≤ first + (most_additions vars + 1)
+    → (width * width ≤ size → last ≤ first + (2 * (width * width) + 1)) → last + 8 * width ≤ first + price
+spare_price vars size width price is first last any room = elim is [
+  | inl by_variables ↦ omega (arith, any, by_variables, most_is vars)
+  | inr by_width ↦ let own = room by_width.0 in omega (arith, own, by_width.1, square width)
+]
+
 -- however a call ends, the nodes are reduced
 reduced_left : {S : Type 0} (old new : TableState S) (error : Option TableError)
     → Leaves old new error → IsReduced new.graph

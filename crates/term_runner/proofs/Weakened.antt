@@ -61,6 +61,7 @@ any_holds function one other operands old new came gives = record {
   refutes = tt;
   unrefuted = gives.unrefuted;
   same = gives.same;
+  left = gives.left;
   leaves = gives.leaves;
   nodes = gives.nodes;
   adds = gives.adds;

@@ -22,3 +22,5 @@ pub mod Runner
 pub mod Parity
 pub mod Sets
 pub mod Derived
+pub mod Full
+pub mod Takes

@@ -1,10 +1,11 @@
 -- Calls of a runner that give a node for the sum of some variables, modulo 2, and that weaken a term to a node that it implies.
-use Rattle.std.specs.Prelude.{◌≡◌, ◌≢◌, ◌<◌, ◌≤◌, ℕ, Bool, true, List, [], ◌∷◌, Contains, Option, None, Some, Result, Ok, Err, IfOk, IfSome, IsTrue, ⊤}
+use Rattle.std.specs.Prelude.{◌≡◌, ◌≢◌, ◌<◌, ◌≤◌, ◌+◌, ◌*◌, ℕ, Bool, true, List, [], ◌∷◌, Contains, Option, None, Some, Result, Ok, Err, IfOk, IfSome, IsTrue, ⊤}
 use Rattle.cnf_base.specs.Truth.{Assignment}
 use Rattle.node_table.specs.declared.error.TableError.{TableError}
 use Rattle.node_table.specs.declared.error.TableError.TheVariants.{NodeLimit}
 use Rattle.node_table.specs.declared.node.Node.{Node}
-use Rattle.node_table.specs.Diagram.{Graph, is_node}
+use Rattle.node_table.specs.Diagram.{Graph, is_node, levels}
+use Rattle.node_table.specs.Progress.{error_of}
 use Rattle.node_table.specs.Table.{UnlessTorn}
 use Rattle.node_table.specs.Value.{Levels, by_level, value_of}
 use Rattle.parity_nodes.specs.Sums.{sum_is}
@@ -13,7 +14,10 @@ use Rattle.imply.specs.Implication.{IsRefuted}
 use Rattle.term_runner.specs.declared.held.HeldTerm.{HeldTerm}
 use Rattle.term_runner.specs.declared.runner.Runner.{Runner}
 use Rattle.term_runner.specs.declared.term.Term.{Term}
+use Rattle.term_runner.specs.Price.{IsMovePrice}
 use Rattle.term_runner.specs.Runner.{Gives, true_term}
+use Rattle.term_runner.specs.Takes.{Costs, IsTidied, Takes, asked_in, functions_out}
+use Rattle.term_runner.specs.Width.{HasAtMost}
 
 -- different variables of the numbers 1 to vars
 abbrev pub AreVariables : ℕ → List ℕ → Type 0
@@ -67,4 +71,30 @@ pub record Weakens {S : Type 0} (operand : HeldTerm) (node : Node) (old new : Ru
   pub node_is : IfOk result (λ found. IfSome found (λ term. term.held.node ≡ node))
   pub none : result ≡ Ok None → IsRefuted old.terms.table.graph operand.node node × (new.terms.out.items ≡ old.terms.out.items)
   pub nodes : new.terms.table.graph ≡ old.terms.table.graph
+  pub no_node_limit : result ≢ Err NodeLimit
+
+-- A node that holds where this does, tried twice at most. It is no term. Else the runner is left as by a call that gives True. No more numbers
+-- are given than the clauses that define its nodes have in two tries.
+pub record TakesNode {S : Type 0} (holds : Assignment → Bool) (old new : Runner S) (result : Result Node TableError) : Type 0 where
+  pub node : IfOk result (IsNodeOf new.terms.table.graph holds)
+  pub takes : Takes (λ a. true) old new (in_place always result)
+  pub costs : Costs (asked_in old holds ∷ functions_out old) old new (error_of result)
+  pub few : (width : ℕ) → HasAtMost (asked_in old holds) width
+      → new.terms.table.book.state.top ≤ old.terms.table.book.state.top + 8 * width
+
+-- The term of this node, which the operand implies, and few nodes beside those of the terms; or where some values make the operand true and
+-- the node false, none: then the runner is left as by a call that gives True. Of a move's price so many numbers are left as its node may
+-- have taken.
+pub record TakesWeaker {S : Type 0} (operand : HeldTerm) (node : Node) (old new : Runner S) (result : Result (Option Term) TableError)
+    : Type 0 where
+  pub takes : Takes (holds_or result (node_holds old.terms.table.graph node)) old new (some_or always result)
+  pub node_is : IfOk result (λ found. IfSome found (λ term. term.held.node ≡ node))
+  pub none : result ≡ Ok None → IsRefuted old.terms.table.graph operand.node node × (new.terms.out.items ≡ old.terms.out.items)
+  pub costs : Costs (asked_in old (node_holds old.terms.table.graph node) ∷ functions_out old) old new (error_of result)
+  pub spare : (width price : ℕ)
+      → ((function : Levels → Bool) → Contains (asked_in old (node_holds old.terms.table.graph node) ∷ functions_out old) function
+      → HasAtMost function width)
+      → IsMovePrice (levels old.terms.table.graph) old.limits.cache width price
+      → new.terms.table.book.state.top + 8 * width ≤ old.terms.table.book.state.top + price
+  pub tidied : IfOk result (λ found. IfSome found (IsTidied new))
   pub no_node_limit : result ≢ Err NodeLimit

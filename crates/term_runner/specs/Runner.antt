@@ -108,6 +108,7 @@ pub record Gives {S : Type 0} (function : Levels → Bool) (holds : Assignment �
   pub refutes : IfOk result (λ term. term.held.node ≡ False → IsTrue new.refuted)
   pub unrefuted : UnlessTorn result (IfOk result (λ term. term.held.node ≢ False) → new.refuted ≡ old.refuted)
   pub same : IsSameRun old new
+  pub left : new.terms.left ≡ old.terms.left
   pub leaves : Leaves old.terms.table new.terms.table (error_of result)
   pub nodes : KeepsNodes old.terms.table.graph new.terms.table.graph
   pub adds : AddsAtMost (most_additions (levels old.terms.table.graph) + 1) old.terms.table new.terms.table
@@ -132,7 +133,9 @@ pub record Releases {S : Type 0} (held : HeldTerm) (old new : Runner S) : Type 0
   pub caches : new.terms.caches ≡ old.terms.caches
   pub formula : new.formula ≡ old.formula
   pub limits : new.limits ≡ old.limits
+  pub left : new.terms.left ≡ old.terms.left
   pub refuted : new.refuted ≡ old.refuted
+  pub kept : held.node ≢ False → new.kept ≡ old.kept
   pub refusals : new.refusals ≡ old.refusals
   pub origin : new.terms.table.book.origin ≡ old.terms.table.book.origin
   pub continues : Continues old.terms.table new.terms.table

@@ -21,6 +21,7 @@ mod outcome;
 mod parity;
 mod progress;
 mod reclamation;
+mod retry;
 mod run;
 mod runner;
 mod sets;

@@ -8,15 +8,16 @@ ghost use Rattle.node_table.specs.Table.{AddsAtMost};
 ghost use Rattle.parity_nodes.specs.Sums.{sum_is};
 ghost use Rattle.term_runner.specs.declared.held.HeldTerm.{HeldTerm as HeldValue};
 ghost use Rattle.term_runner.specs.declared.runner.Runner.{Runner as RunnerValue};
-ghost use Rattle.term_runner.specs.Parity.{AreVariables, GivesNone, IsNodeOf, Weakens, sum_function};
+ghost use Rattle.term_runner.specs.Parity.{AreVariables, GivesNone, IsNodeOf, TakesNode, TakesWeaker, Weakens, sum_function};
 ghost use Rattle.term_runner.specs.Runner.{IsGood, IsRunner};
 
+use crate::retry::met_limit;
 use crate::runner::Runner;
 use crate::sets::levels_of;
 use crate::term::Term;
 use crate::weaker::own_weaker;
 use host_io::Sink;
-use node_table::{Node, TableError, growth_law, steps_law, subfunction_law};
+use node_table::{Node, TableError, canonical_law, growth_law, steps_law, subfunction_law};
 use operations::entry_law;
 use parity_nodes::parity_node;
 
@@ -24,6 +25,41 @@ impl<'a, S: Sink + Drop> Runner<'a, S> {
     /// The node that holds where the sum of these variables, modulo 2, is the bit; a constant where there is none. It is no term: what gives
     /// nodes back may take it away.
     pub fn parity(&mut self, variables: &[u32], bit: bool) -> Result<Node, TableError>
+        requires runner { IsRunner self.old }
+        requires variables { AreVariables self.old.formula.now.vars variables.now }
+        ensures { TakesNode (sum_is bit variables.now) self.old self.new result }
+    {
+        canonical_law();
+        subfunction_law();
+        growth_law();
+        steps_law::<S>();
+        let found = self.try_parity(variables, bit);
+        if !met_limit(&found) {
+            return found;
+        }
+        let _ = self.reclaim()?;
+        self.try_parity(variables, bit)
+    }
+
+    /// The term of a node that a term implies; none where it doesn't. The term stays.
+    pub fn weaken(&mut self, u: &Term, node: Node) -> Result<Option<Term>, TableError>
+        requires runner { IsRunner self.old }
+        requires good { IsGood self.old u.now.held }
+        requires stands { IsTrue (is_node self.old.terms.table.graph node) }
+        ensures { TakesWeaker u.now.held node self.old self.new result }
+    {
+        canonical_law();
+        subfunction_law();
+        growth_law();
+        let Some(term) = self.try_weaken(u, node)? else {
+            return Ok(None);
+        };
+        let given = self.tidy(term)?;
+        Ok(Some(given))
+    }
+
+    // One try of `parity`.
+    fn try_parity(&mut self, variables: &[u32], bit: bool) -> Result<Node, TableError>
         requires runner { IsRunner self.old }
         requires variables { AreVariables self.old.formula.now.vars variables.now }
         ensures node { IfOk result (IsNodeOf self.new.terms.table.graph (sum_is bit variables.now)) }
@@ -40,8 +76,8 @@ impl<'a, S: Sink + Drop> Runner<'a, S> {
         parity_node(&mut self.terms.table, set.as_slice(), bit)
     }
 
-    /// The term of a node that a term implies; none where it doesn't. The term stays.
-    pub fn weaken(&mut self, u: &Term, node: Node) -> Result<Option<Term>, TableError>
+    // As `weaken`, and no node is given back.
+    fn try_weaken(&mut self, u: &Term, node: Node) -> Result<Option<Term>, TableError>
         requires runner { IsRunner self.old }
         requires good { IsGood self.old u.now.held }
         requires stands { IsTrue (is_node self.old.terms.table.graph node) }

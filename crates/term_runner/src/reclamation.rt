@@ -146,8 +146,8 @@ pub(crate) fn roots_of(
     Ok(roots)
 }
 
-// Whether there are so few nodes that none are given back.
-fn is_tidy(live: u32, left: u32) -> bool
+/// Whether there are so few nodes that none are given back.
+pub(crate) fn is_tidy(live: u32, left: u32) -> bool
     ensures { IsTrue result ↔ IsTidy live left }
 {
     live < RECLAIM_FROM || live / 2 < left

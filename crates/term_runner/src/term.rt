@@ -1,6 +1,6 @@
 // Terms that a runner gives: of a clause, or of two terms together. Each has a unit of its own, which is retired when the term is
-// released; the first empty clause stays. Nodes that no term reaches are given back by a reclamation.
-ghost use Rattle.std.specs.Prelude.{◌≡◌, ◌≢◌, ◌⊎◌, ◌≤◌, ◌<◌, ◌+◌, ◌-◌, ◌&&◌, ◌∷◌, ◌↔◌, ℕ, Bool, List, [], Contains, Err, Ok, None, Some};
+// released; the first empty clause stays. Nodes that no term reaches are given back by a reclamation (`retry`).
+ghost use Rattle.std.specs.Prelude.{◌≡◌, ◌≢◌, ◌⊎◌, ◌≤◌, ◌<◌, ◌+◌, ◌-◌, ◌*◌, ◌&&◌, ◌∷◌, ◌↔◌, ℕ, Bool, List, [], Contains, Err, Ok, None, Some};
 ghost use Rattle.std.specs.Prelude.{IsTrue, IfErr, IfOk, OnErr, OnOk, MatchOption, get_or, length, true, false, vec_capacity, vec_len};
 ghost use Rattle.cnf_base.specs.Truth.{Assignment};
 ghost use Rattle.node_table.specs.declared.error.TableError.TheVariants.{NodeLimit, OutOfMemory, WriteFault};
@@ -16,8 +16,9 @@ ghost use Rattle.term_runner.specs.Parity.{always};
 ghost use Rattle.term_runner.specs.declared.held.HeldTerm.{HeldTerm as HeldValue};
 ghost use Rattle.term_runner.specs.declared.runner.Runner.{Runner as RunnerValue};
 ghost use Rattle.term_runner.specs.Runner.{Gives, IsGood, IsListed, IsRunner, Releases, holds_in, nodes_of, true_term};
+ghost use Rattle.term_runner.specs.Takes.{Costs, IsTidied, Takes, asked_in, functions_out};
 ghost use Rattle.term_runner.specs.Tidy.{LeavesReached};
-ghost use Rattle.term_runner.specs.Width.{term_function};
+ghost use Rattle.term_runner.specs.Width.{HasAtMost, term_function};
 
 use crate::found::{any_input, own_conjunction};
 use crate::held::HeldTerm;
@@ -61,12 +62,16 @@ impl<'a, S: Sink + Drop> Runner<'a, S> {
         requires runner { IsRunner self.old }
         requires from_one { 1 ≤ number }
         requires to_len { number ≤ length self.old.formula.now.clauses }
-        ensures gives { Gives (term_function self.old.formula.now self.old.terms.table.graph.order (input_term number))
-            (λ a. term_holds self.old.formula.now a (input_term number)) [] self.old self.new result }
-        ensures one { AddsAtMost 1 self.old.terms.table self.new.terms.table }
+        ensures takes { Takes (λ a. term_holds self.old.formula.now a (input_term number)) self.old self.new result }
+        ensures costs { Costs (asked_in self.old (λ a. term_holds self.old.formula.now a (input_term number)) ∷ functions_out self.old)
+            self.old self.new (error_of result) }
+        // The clauses that define its nodes in two tries, and one for each try.
+        ensures few { (width : ℕ) → HasAtMost (asked_in self.old (λ a. term_holds self.old.formula.now a (input_term number))) width
+            → self.new.terms.table.book.state.top ≤ self.old.terms.table.book.state.top + (8 * width + 2) }
+        ensures tidied { IfOk result (IsTidied self.new) }
     {
-        let found = self.find_input(number);
-        self.settle(found)
+        let term = self.term_twice(number)?;
+        self.tidy(term)
     }
 
     /// The term that holds where both do. Each of them stays.
@@ -74,12 +79,13 @@ impl<'a, S: Sink + Drop> Runner<'a, S> {
         requires runner { IsRunner self.old }
         requires first { IsGood self.old u.now.held }
         requires second { IsGood self.old v.now.held }
-        ensures gives { Gives (conjunction_of self.old.terms.table.graph u.now.held.node v.now.held.node)
-            (λ a. holds_in self.old u.now.held a && holds_in self.old v.now.held a) (v.now.held ∷ u.now.held ∷ []) self.old self.new
-            result }
+        ensures takes { Takes (λ a. holds_in self.old u.now.held a && holds_in self.old v.now.held a) self.old self.new result }
+        ensures costs { Costs (asked_in self.old (λ a. holds_in self.old u.now.held a && holds_in self.old v.now.held a)
+            ∷ functions_out self.old) self.old self.new (error_of result) }
+        ensures tidied { IfOk result (IsTidied self.new) }
     {
-        let found = self.find_conjunction(u, v);
-        self.settle(found)
+        let term = self.meet_twice(u, v)?;
+        self.tidy(term)
     }
 
     /// The term that always holds. It owns no clause, and takes no memory.
@@ -146,7 +152,7 @@ impl<'a, S: Sink + Drop> Runner<'a, S> {
 
     /// Gives back the nodes that no term reaches that is out, with their clauses, and answers how many. Want of memory changes
     /// nothing.
-    pub fn reclaim(&mut self) -> Result<u32, TableError>
+    pub(crate) fn give_back(&mut self) -> Result<u32, TableError>
         requires runner { IsRunner self.old }
         ensures goes_on { UnlessTorn result (IsRunner self.new) }
         ensures reached { OnOk result (LeavesReached self.old.terms.table.graph self.new.terms.table.graph
@@ -158,7 +164,7 @@ impl<'a, S: Sink + Drop> Runner<'a, S> {
         ensures top { self.new.terms.table.book.state.top ≡ self.old.terms.table.book.state.top }
         ensures same { (self.new.terms.out ≡ self.old.terms.out) × (self.new.formula ≡ self.old.formula)
             × (self.new.limits ≡ self.old.limits) × (self.new.refuted ≡ self.old.refuted) × (self.new.kept ≡ self.old.kept)
-            × (self.new.refusals ≡ self.old.refusals) }
+            × (self.new.refusals ≡ self.old.refusals) × (self.new.terms.left ≡ self.old.terms.left) }
         ensures sizes { sizes self.new.terms.caches ≡ sizes self.old.terms.caches }
         ensures origin { self.new.terms.table.book.origin ≡ self.old.terms.table.book.origin }
         ensures leaves { Leaves self.old.terms.table self.new.terms.table (error_of result) }
@@ -174,6 +180,32 @@ impl<'a, S: Sink + Drop> Runner<'a, S> {
             roots.as_slice(),
             &mut self.terms.caches,
         )
+    }
+
+    /// One try of `term`.
+    pub(crate) fn try_term(&mut self, number: u32) -> Result<Term, TableError>
+        requires runner { IsRunner self.old }
+        requires from_one { 1 ≤ number }
+        requires to_len { number ≤ length self.old.formula.now.clauses }
+        ensures gives { Gives (term_function self.old.formula.now self.old.terms.table.graph.order (input_term number))
+            (λ a. term_holds self.old.formula.now a (input_term number)) [] self.old self.new result }
+        ensures one { AddsAtMost 1 self.old.terms.table self.new.terms.table }
+    {
+        let found = self.find_input(number);
+        self.settle(found)
+    }
+
+    /// One try of `meet`.
+    pub(crate) fn try_meet(&mut self, u: &Term, v: &Term) -> Result<Term, TableError>
+        requires runner { IsRunner self.old }
+        requires first { IsGood self.old u.now.held }
+        requires second { IsGood self.old v.now.held }
+        ensures gives { Gives (conjunction_of self.old.terms.table.graph u.now.held.node v.now.held.node)
+            (λ a. holds_in self.old u.now.held a && holds_in self.old v.now.held a) (v.now.held ∷ u.now.held ∷ []) self.old self.new
+            result }
+    {
+        let found = self.find_conjunction(u, v);
+        self.settle(found)
     }
 
     // Finds the term of a clause, and puts it on the list.

@@ -11,6 +11,7 @@ use Rattle.cube_queries.specs.Steps.{formula_holds}
 use Rattle.cube_queries.proofs.Alone.{alone_good}
 use Rattle.cube_queries.proofs.Joined.{over_handed}
 use Rattle.cube_queries.proofs.Stays.{goes_further}
+use Rattle.cube_queries.proofs.Taken.{costs_of, taken}
 use Rattle.cube_queries.proofs.Totals.{empty_costs, first_costs, first_short, next_costs, next_short, plan_done, plan_handed, plan_none}
 use Rattle.cube_queries.proofs.Totals.{value_old, within_old}
 use Rattle.cube_queries.proofs.Whole.{alone_behind, empty_alone, error_behind, false_value, first_alone, first_value, goes_none, more_value}
@@ -31,32 +32,32 @@ pub returns-in-Some-clause-takes : goal.returns-in-Some-clause-takes
 returns-in-Some-clause-takes g c =
     let at = c.in-Some.ensures in
     empty_alone c.args.runner.now c.args.formula.now c.requires.formula c.requires.none_out c.in-Some.number at.from_one at.to_len at.empty
-    c.term_of.new.runner c.term_of.result c.term_of.ensures.takes
+    c.term.new.self c.term.result (taken _ c.args.runner.now c.term.new.self c.term.result c.term.ensures.takes)
 
 pub returns-in_err-term-clause-takes : goal.returns-in_err-term-clause-takes
 returns-in_err-term-clause-takes g c =
-    over_handed [] (formula_holds c.args.formula.now) c.args.runner.now c.term_of-2.new.runner c.in_err-term.field-0.0 _
+    over_handed [] (formula_holds c.args.formula.now) c.args.runner.now c.term-2.new.self c.in_err-term.field-0.0 _
     c.from_residual.ensures.1
-    (error_behind c.steps_law.ensures c.args.runner.now c.args.runner.now c.term_of-2.new.runner _ (formula_holds c.args.formula.now)
+    (error_behind c.steps_law.ensures c.args.runner.now c.args.runner.now c.term-2.new.self _ (formula_holds c.args.formula.now)
     c.in_err-term.field-0.0 (goes_none c.steps_law.ensures c.args.runner.now c.requires.runner)
-    (first_alone c.args.runner.now c.args.formula.now c.requires.formula c.requires.none_out c.term_of-2.new.runner _
-    c.in_err-term.ensures.takes))
+    (first_alone c.args.runner.now c.args.formula.now c.requires.formula c.requires.none_out c.term-2.new.self _
+    (taken _ c.args.runner.now c.term-2.new.self _ c.in_err-term.ensures.takes)))
 
 pub clauses-init : goal.clauses-init
 clauses-init g c =
-    let takes = c.in_ok-term.ensures.takes in
+    let takes = taken _ c.args.runner.now c.term-2.new.self _ c.in_ok-term.ensures.takes in
     let full : c.is_empty.result ≡ false = cc in
     let some = some_of c.args.formula.now.clauses c.is_empty.result c.is_empty.ensures full in
     record {
       runner = takes.goes_on no_error;
-      alone = subst (λ (l : List HeldTerm). IsListed l c.term_of-2.new.runner.terms.out.items c.in_ok-term.term.held) c.requires.none_out
+      alone = subst (λ (l : List HeldTerm). IsListed l c.term-2.new.self.terms.out.items c.in_ok-term.term.held) c.requires.none_out
           takes.listed;
       value = λ a. takes.value a ∙ first_value c.args.runner.now c.args.formula.now c.requires.formula
           some a;
       goes = takes.goes;
       some = omega arith;
-      paid = first_costs c.args.runner.now c.term_of-2.new.runner c.requires.none_out (within_old c.args.runner.now c.args.formula.now c.requires.formula 0 some) None
-          c.in_ok-term.ensures.costs;
+      paid = first_costs c.args.runner.now c.term-2.new.self c.requires.none_out (within_old c.args.runner.now c.args.formula.now c.requires.formula 0 some) None
+          (costs_of _ c.args.runner.now c.term-2.new.self _ c.in_ok-term.ensures.costs);
     }
 
 pub returns-then-is_false-clause-takes : goal.returns-then-is_false-clause-takes
@@ -114,17 +115,17 @@ returns-then-is_empty-clause-costs g c = plan_none c.args.runner.now
 pub returns-in-Some-clause-costs : goal.returns-in-Some-clause-costs
 returns-in-Some-clause-costs g c =
     let at = c.in-Some.ensures in
-    empty_costs c.args.runner.now c.term_of.new.runner c.requires.none_out c.in-Some.number
+    empty_costs c.args.runner.now c.term.new.self c.requires.none_out c.in-Some.number
     (within_old c.args.runner.now c.args.formula.now c.requires.formula 0 (omega (arith, at.from_one, at.to_len)))
-    (ap (λ (f : Formula). clause_of_number f c.in-Some.number) c.requires.formula ∙ at.empty) _ c.term_of.ensures.costs
+    (ap (λ (f : Formula). clause_of_number f c.in-Some.number) c.requires.formula ∙ at.empty) _ (costs_of _ c.args.runner.now c.term.new.self _ c.term.ensures.costs)
 
 pub returns-in_err-term-clause-costs : goal.returns-in_err-term-clause-costs
 returns-in_err-term-clause-costs g c =
     let full : c.is_empty.result ≡ false = cc in
     let some = some_of c.args.formula.now.clauses c.is_empty.result c.is_empty.ensures full in
-    plan_handed c.args.runner.now c.term_of-2.new.runner c.in_err-term.field-0.0 _ c.from_residual.ensures.1
-    (first_short c.args.runner.now c.term_of-2.new.runner c.requires.none_out
-    (within_old c.args.runner.now c.args.formula.now c.requires.formula 0 some) (Some c.in_err-term.field-0.0) c.in_err-term.ensures.costs)
+    plan_handed c.args.runner.now c.term-2.new.self c.in_err-term.field-0.0 _ c.from_residual.ensures.1
+    (first_short c.args.runner.now c.term-2.new.self c.requires.none_out
+    (within_old c.args.runner.now c.args.formula.now c.requires.formula 0 some) (Some c.in_err-term.field-0.0) (costs_of _ c.args.runner.now c.term-2.new.self _ c.in_err-term.ensures.costs))
 
 pub returns-then-is_false-clause-costs : goal.returns-then-is_false-clause-costs
 returns-then-is_false-clause-costs g c =

@@ -16,7 +16,7 @@ use Rattle.cube_queries.proofs.Asked.{AnswersIn, all_at, all_replied, answers_mo
 use Rattle.cube_queries.proofs.Asked.{stays_replied, value_yet, whole_answers}
 use Rattle.cube_queries.proofs.Stays.{stays_back, stays_further}
 use Rattle.cube_queries.proofs.Totals.{cube_costs, cube_short, cubes_back, cubes_done, cubes_handed, no_cubes}
-use Rattle.cube_queries.proofs.Tries.{error_is}
+use Rattle.cube_queries.proofs.Taken.{error_is, gives_back}
 use Rattle.cube_queries.proofs.session.reply_each.Goals as goal
 
 -- the cube of the number behind a place
@@ -24,36 +24,36 @@ at_place : (cubes : List (List ℤ)) (place : ℕ) (cube : List ℤ) → cube �
     → cube ≡ slice_index_or cubes place []
 at_place cubes place cube is = let back : place + 1 - 1 ≡ place = omega arith in is ∙ ap (λ (k : ℕ). slice_index_or cubes k []) back
 
-pub returns-in_err-give_back-clause-replies : goal.returns-in_err-give_back-clause-replies
-returns-in_err-give_back-clause-replies g c =
-    none_reclaimed c.steps_law.ensures c.args.cubes.now c.args.runner.now c.args.runner.now c.give_back.new.runner
-    (stays_none c.steps_law.ensures c.args.runner.now c.requires.runner) c.in_err-give_back.field-0.0 _ c.from_residual.ensures.1
-    c.in_err-give_back.ensures.back
+pub returns-in_err-reclaim-clause-replies : goal.returns-in_err-reclaim-clause-replies
+returns-in_err-reclaim-clause-replies g c =
+    none_reclaimed c.steps_law.ensures c.args.cubes.now c.args.runner.now c.args.runner.now c.reclaim.new.self
+    (stays_none c.steps_law.ensures c.args.runner.now c.requires.runner) c.in_err-reclaim.field-0.0 _ c.from_residual.ensures.1
+    (gives_back c.args.runner.now c.reclaim.new.self _ c.in_err-reclaim.ensures)
 
-pub returns-in_err-give_back-clause-out : goal.returns-in_err-give_back-clause-out
-returns-in_err-give_back-clause-out g c = c.in_err-give_back.ensures.back.out
+pub returns-in_err-reclaim-clause-out : goal.returns-in_err-reclaim-clause-out
+returns-in_err-reclaim-clause-out g c = ap (λ v. v.items) c.in_err-reclaim.ensures.out
 
-pub returns-in_err-give_back-clause-costs : goal.returns-in_err-give_back-clause-costs
-returns-in_err-give_back-clause-costs g c =
-    let came = c.in_err-give_back.field-0.0 in
-    cubes_handed c.args.cubes.now c.args.runner.now c.give_back.new.runner came _ c.from_residual.ensures.1
-    (cubes_done c.args.cubes.now 0 c.args.runner.now c.give_back.new.runner (Some came) (omega arith)
-    (λ is. c.in_err-give_back.ensures.back.no_limit (error_is (Err came) NodeLimit is))
-    (cubes_back c.args.cubes.now 0 c.args.runner.now c.args.runner.now c.give_back.new.runner (Err came)
-    (no_cubes c.args.cubes.now c.args.runner.now) c.in_err-give_back.ensures.back))
+pub returns-in_err-reclaim-clause-costs : goal.returns-in_err-reclaim-clause-costs
+returns-in_err-reclaim-clause-costs g c =
+    let came = c.in_err-reclaim.field-0.0 in
+    cubes_handed c.args.cubes.now c.args.runner.now c.reclaim.new.self came _ c.from_residual.ensures.1
+    (cubes_done c.args.cubes.now 0 c.args.runner.now c.reclaim.new.self (Some came) (omega arith)
+    (λ is. (gives_back c.args.runner.now c.reclaim.new.self _ c.in_err-reclaim.ensures).no_limit (error_is (Err came) NodeLimit is))
+    (cubes_back c.args.cubes.now 0 c.args.runner.now c.args.runner.now c.reclaim.new.self (Err came)
+    (no_cubes c.args.cubes.now c.args.runner.now) (gives_back c.args.runner.now c.reclaim.new.self _ c.in_err-reclaim.ensures)))
 
 pub cubes-init : goal.cubes-init
 cubes-init g c =
-    let back = c.in_ok-give_back.ensures.back in
+    let back = gives_back c.args.runner.now c.reclaim.new.self _ c.in_ok-reclaim.ensures in
     record {
       finder = c.new-finder.ensures;
-      stays = stays_back c.args.runner.now c.give_back.new.runner c.in_ok-give_back.field-0 back;
-      reached = λ key branch at. subst (λ (l : List HeldTerm). IsReached c.give_back.new.runner.terms.table.graph (nodes_of l) (inner key))
-          (sym back.out) (c.in_ok-give_back.ensures.reached.reached key branch at);
+      stays = stays_back c.args.runner.now c.reclaim.new.self _ back;
+      reached = λ key branch at. subst (λ (l : List HeldTerm). IsReached c.reclaim.new.self.terms.table.graph (nodes_of l) (inner key))
+          (sym back.out) (c.in_ok-reclaim.ensures.reached.reached key branch at);
       sums = inl c.new-sums.ensures.items;
-      paid = cubes_back c.args.cubes.now 0 c.args.runner.now c.args.runner.now c.give_back.new.runner (Ok c.in_ok-give_back.field-0)
+      paid = cubes_back c.args.cubes.now 0 c.args.runner.now c.args.runner.now c.reclaim.new.self (Ok _)
           (no_cubes c.args.cubes.now c.args.runner.now) back;
-      answers = subst (λ (l : List Answer). AnswersIn c.give_back.new.runner [] l) (sym c.new-answers.ensures) tt;
+      answers = subst (λ (l : List Answer). AnswersIn c.reclaim.new.self [] l) (sym c.new-answers.ensures) tt;
     }
 
 pub reply-requires-clause-runner : goal.reply-requires-clause-runner

@@ -8,35 +8,36 @@ use Rattle.parity_terms.proofs.Owned.{owned_good}
 use Rattle.parity_terms.proofs.Joined.{have_all, have_error, have_first, have_more, have_none, have_refuted, number_at}
 use Rattle.parity_terms.proofs.equation_term.term_of_clauses.Goals.{else-clauses-test, then-clauses-test+else-not-is_refuted}
 use Rattle.parity_terms.proofs.equation_term.term_of_clauses.Goals as goal
-use Rattle.parity_terms.proofs.Bounded.{released_top}
+use Rattle.parity_terms.proofs.Bounded.{bounded_of, released_top}
+use Rattle.parity_terms.proofs.Taken.{takes_of}
 use Rattle.parity_terms.proofs.ClauseLoop.{begun, ended, none_begun, none_more, one_more}
 use Rattle.node_table.specs.HandedOn.{no_error}
 
-pub term_of-requires-clause-from_one : goal.term_of-requires-clause-from_one
-term_of-requires-clause-from_one g c = (number_at _ c.args.numbers.now 0 0 c.requires.numbers c.requires.some).0
+pub term-requires-clause-from_one : goal.term-requires-clause-from_one
+term-requires-clause-from_one g c = (number_at _ c.args.numbers.now 0 0 c.requires.numbers c.requires.some).0
 
-pub term_of-requires-clause-to_len : goal.term_of-requires-clause-to_len
-term_of-requires-clause-to_len g c = (number_at _ c.args.numbers.now 0 0 c.requires.numbers c.requires.some).1
+pub term-requires-clause-to_len : goal.term-requires-clause-to_len
+term-requires-clause-to_len g c = (number_at _ c.args.numbers.now 0 0 c.requires.numbers c.requires.some).1
 
 pub clauses-init : goal.clauses-init
 clauses-init g c = record {
   from = omega arith;
   within = omega (arith, c.requires.some);
-  so_far = λ terms owns. have_first c.steps_law.ensures terms c.args.numbers.now c.args.runner.now c.term_of.new.runner
-      c.in_ok-term.term c.requires.some (c.in_ok-term.ensures.takes terms owns);
+  so_far = λ terms owns. have_first c.steps_law.ensures terms c.args.numbers.now c.args.runner.now c.term.new.self
+      c.in_ok-term.term c.requires.some (takes_of c.args.runner.now c.term.new.self terms owns _ _ c.in_ok-term.ensures.takes);
   costs = λ terms few owns eight within. begun c.counting_law.ensures c.growth_law.ensures terms few c.args.numbers.now c.args.runner.now
-      c.requires.runner owns eight within c.requires.some c.term_of.new.runner (Ok c.in_ok-term.term)
-      (c.in_ok-term.ensures.bounds terms owns);
+      c.requires.runner owns eight within c.requires.some c.term.new.self (Ok c.in_ok-term.term)
+      (bounded_of terms _ c.args.runner.now c.requires.runner owns c.term.new.self _ c.in_ok-term.ensures.costs);
 }
 
 pub returns-in_err-term-clause-takes : goal.returns-in_err-term-clause-takes
 returns-in_err-term-clause-takes g c terms owns =
-    have_none c.steps_law.ensures terms c.args.numbers.now c.args.runner.now _ c.term_of.new.runner c.in_err-term.field-0.0 _
-    c.from_residual.ensures.1 (c.in_err-term.ensures.takes terms owns)
+    have_none c.steps_law.ensures terms c.args.numbers.now c.args.runner.now _ c.term.new.self c.in_err-term.field-0.0 _
+    c.from_residual.ensures.1 (takes_of c.args.runner.now c.term.new.self terms owns _ _ c.in_err-term.ensures.takes)
 
 pub returns-in_err-term-clause-full : goal.returns-in_err-term-clause-full
 returns-in_err-term-clause-full g c is =
-    c.in_err-term.ensures.full (ap Err (came_from _ c.in_err-term.field-0.0 NodeLimit c.from_residual.ensures.1 is))
+    c.in_err-term.ensures.takes.full (ap Err (came_from _ c.in_err-term.field-0.0 NodeLimit c.from_residual.ensures.1 is))
 
 pub with_clause-requires-clause-runner : goal.with_clause-requires-clause-runner
 with_clause-requires-clause-runner g c = (c.clauses.invariant.so_far c.requires.owned.terms c.requires.owned.owns).runner
@@ -115,7 +116,7 @@ pub returns-in_err-term-clause-bounds : goal.returns-in_err-term-clause-bounds
 returns-in_err-term-clause-bounds g c terms few owns eight within =
     none_begun c.counting_law.ensures c.growth_law.ensures terms few c.args.numbers.now c.args.runner.now c.requires.runner owns eight
     within
-    c.requires.some c.term_of.new.runner (Err c.in_err-term.field-0.0) (c.in_err-term.ensures.bounds terms owns) _
+    c.requires.some c.term.new.self (Err c.in_err-term.field-0.0) (bounded_of terms _ c.args.runner.now c.requires.runner owns c.term.new.self _ c.in_err-term.ensures.costs) _
     (λ is. ap Err (came_from _ c.in_err-term.field-0.0 NodeLimit c.from_residual.ensures.1 is))
 
 pub returns-in_err-term-2-clause-bounds : goal.returns-in_err-term-2-clause-bounds

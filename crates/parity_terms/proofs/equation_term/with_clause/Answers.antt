@@ -6,85 +6,82 @@ use Rattle.schedule_plan.specs.Plan.{input as input_term, term_holds}
 use Rattle.term_runner.specs.declared.held.HeldTerm.{HeldTerm}
 use Rattle.term_runner.specs.Runner.{holds_in}
 use Rattle.parity_terms.specs.Steps.{with_given}
-use Rattle.parity_terms.proofs.Again.{step_behind}
+use Rattle.parity_terms.proofs.Stepped.{step_behind}
 use Rattle.parity_terms.proofs.Joined.{full_released, joins_both, joins_error}
 use Rattle.parity_terms.proofs.Owned.{owned_good}
 use Rattle.parity_terms.proofs.Stepped.{among_given, owns_behind, runner_behind, takes_released}
-use Rattle.parity_terms.proofs.Taken.{keeps_fewer}
+use Rattle.parity_terms.proofs.Taken.{keeps_fewer, takes_of}
 use Rattle.parity_terms.proofs.equation_term.with_clause.Goals as goal
 use Rattle.std.specs.Prelude.{◌-◌, [], slice_index_or}
-use Rattle.parity_terms.proofs.Bounded.{released_top}
+use Rattle.parity_terms.proofs.Bounded.{bounded_of, released_top}
 use Rattle.parity_terms.proofs.JoinBounds.{join_refused, joined}
-
-pub term_of-requires-clause-owned : goal.term_of-requires-clause-owned
-term_of-requires-clause-owned g c = record { terms = c.args.term.held ∷ c.requires.owned.rest; owns = c.requires.owned.owns }
 
 pub release-requires-clause-runner : goal.release-requires-clause-runner
 release-requires-clause-runner g c on =
     let terms : List HeldTerm = c.args.term.held ∷ c.requires.owned.rest in
-    runner_behind c.args.runner.now c.term_of.new.runner _ terms (Err c.in-Err.error) (c.in-Err.ensures.takes terms c.requires.owned.owns)
+    runner_behind c.args.runner.now c.term.new.self _ terms (Err c.in-Err.error) (takes_of c.args.runner.now c.term.new.self terms c.requires.owned.owns _ _ c.in-Err.ensures.takes)
     on
 
 pub release-requires-clause-good : goal.release-requires-clause-good
 release-requires-clause-good g c on =
     let terms : List HeldTerm = c.args.term.held ∷ c.requires.owned.rest in
-    owned_good c.args.term.held terms c.term_of.new.runner.terms.out.items
-    (owns_behind c.args.runner.now c.term_of.new.runner _ terms (Err c.in-Err.error) (c.in-Err.ensures.takes terms c.requires.owned.owns)
+    owned_good c.args.term.held terms c.term.new.self.terms.out.items
+    (owns_behind c.args.runner.now c.term.new.self _ terms (Err c.in-Err.error) (takes_of c.args.runner.now c.term.new.self terms c.requires.owned.owns _ _ c.in-Err.ensures.takes)
     on)
     (0, omega arith, refl)
 
 pub returns-in-Err-clause-joins : goal.returns-in-Err-clause-joins
 returns-in-Err-clause-joins g c terms owns =
     let one = λ (a : Assignment). term_holds c.args.runner.now.formula.now a (input_term c.args.number) in
-    joins_error c.steps_law.ensures terms c.args.runner.now c.term_of.new.runner c.release.new.self one one _ c.in-Err.error
-    (takes_released c.steps_law.ensures c.args.runner.now c.term_of.new.runner c.release.new.self c.args.term.held terms one
-    c.release.ensures.releases c.release.ensures.torn (Err c.in-Err.error) (c.in-Err.ensures.takes (c.args.term.held ∷ terms) owns))
+    joins_error c.steps_law.ensures terms c.args.runner.now c.term.new.self c.release.new.self one one _ c.in-Err.error
+    (takes_released c.steps_law.ensures c.args.runner.now c.term.new.self c.release.new.self c.args.term.held terms one
+    c.release.ensures.releases c.release.ensures.torn (Err c.in-Err.error) (takes_of c.args.runner.now c.term.new.self (c.args.term.held ∷ terms) owns _ _ c.in-Err.ensures.takes))
 
 pub returns-in-Err-clause-full : goal.returns-in-Err-clause-full
 returns-in-Err-clause-full g c is =
     let terms : List HeldTerm = c.args.term.held ∷ c.requires.owned.rest in
-    full_released c.args.term.held c.term_of.new.runner c.release.new.self
-    (c.release.ensures.releases (step_behind terms _ c.args.runner.now c.term_of.new.runner (Err c.in-Err.error)
-    (c.in-Err.ensures.takes terms c.requires.owned.owns) is))
-    (c.in-Err.ensures.full is)
+    full_released c.args.term.held c.term.new.self c.release.new.self
+    (c.release.ensures.releases (step_behind terms _ c.args.runner.now c.term.new.self (Err c.in-Err.error)
+    (takes_of c.args.runner.now c.term.new.self terms c.requires.owned.owns _ _ c.in-Err.ensures.takes) is))
+    (c.in-Err.ensures.takes.full is)
 
 pub both_into-both-requires-clause-runner : goal.both_into-both-requires-clause-runner
 both_into-both-requires-clause-runner g c =
-    (c.in-Ok.ensures.takes (c.args.term.held ∷ c.requires.owned.rest) c.requires.owned.owns).goes_on no_error
+    (takes_of c.args.runner.now c.term.new.self (c.args.term.held ∷ c.requires.owned.rest) c.requires.owned.owns _ _ c.in-Ok.ensures.takes).goes_on no_error
 
 pub both_into-both-requires-clause-first : goal.both_into-both-requires-clause-first
 both_into-both-requires-clause-first g c =
     let terms : List HeldTerm = c.args.term.held ∷ c.requires.owned.rest in
-    owned_good c.args.term.held (c.in-Ok.clause.held ∷ terms) c.term_of.new.runner.terms.out.items
-    ((c.in-Ok.ensures.takes terms c.requires.owned.owns).owns no_error) (1, omega arith, refl)
+    owned_good c.args.term.held (c.in-Ok.clause.held ∷ terms) c.term.new.self.terms.out.items
+    ((takes_of c.args.runner.now c.term.new.self terms c.requires.owned.owns _ _ c.in-Ok.ensures.takes).owns no_error) (1, omega arith, refl)
 
 pub both_into-both-requires-clause-second : goal.both_into-both-requires-clause-second
 both_into-both-requires-clause-second g c = record {
   rest = c.args.term.held ∷ c.requires.owned.rest;
-  owns = (c.in-Ok.ensures.takes (c.args.term.held ∷ c.requires.owned.rest) c.requires.owned.owns).owns no_error;
+  owns = (takes_of c.args.runner.now c.term.new.self (c.args.term.held ∷ c.requires.owned.rest) c.requires.owned.owns _ _ c.in-Ok.ensures.takes).owns no_error;
 }
 
 pub release-requires-in-Ok-clause-runner : goal.release-requires-in-Ok-clause-runner
 release-requires-in-Ok-clause-runner g c on =
     let terms : List HeldTerm = c.args.term.held ∷ c.requires.owned.rest in
-    runner_behind c.term_of.new.runner c.both_into-both.new.runner _ terms c.both_into-both.result
-    (c.both_into-both.ensures.takes terms ((c.in-Ok.ensures.takes terms c.requires.owned.owns).owns no_error)) on
+    runner_behind c.term.new.self c.both_into-both.new.runner _ terms c.both_into-both.result
+    (c.both_into-both.ensures.takes terms ((takes_of c.args.runner.now c.term.new.self terms c.requires.owned.owns _ _ c.in-Ok.ensures.takes).owns no_error)) on
 
 pub release-requires-in-Ok-clause-good : goal.release-requires-in-Ok-clause-good
 release-requires-in-Ok-clause-good g c on =
     let terms : List HeldTerm = c.args.term.held ∷ c.requires.owned.rest in
-    let takes = c.both_into-both.ensures.takes terms ((c.in-Ok.ensures.takes terms c.requires.owned.owns).owns no_error) in
+    let takes = c.both_into-both.ensures.takes terms ((takes_of c.args.runner.now c.term.new.self terms c.requires.owned.owns _ _ c.in-Ok.ensures.takes).owns no_error) in
     owned_good c.args.term.held (with_given terms c.both_into-both.result) c.both_into-both.new.runner.terms.out.items
-    (owns_behind c.term_of.new.runner c.both_into-both.new.runner _ terms c.both_into-both.result takes on)
-    (among_given c.term_of.new.runner c.both_into-both.new.runner
-    (λ a. holds_in c.term_of.new.runner c.args.term.held a && holds_in c.term_of.new.runner c.in-Ok.clause.held a) terms
+    (owns_behind c.term.new.self c.both_into-both.new.runner _ terms c.both_into-both.result takes on)
+    (among_given c.term.new.self c.both_into-both.new.runner
+    (λ a. holds_in c.term.new.self c.args.term.held a && holds_in c.term.new.self c.in-Ok.clause.held a) terms
     c.both_into-both.result c.args.term.held (0, omega arith, refl))
 
 pub returns-in-Ok-clause-joins : goal.returns-in-Ok-clause-joins
 returns-in-Ok-clause-joins g c terms owns =
     let old = c.args.runner.now in
-    let mid = c.term_of.new.runner in
-    let first = c.in-Ok.ensures.takes (c.args.term.held ∷ terms) owns in
+    let mid = c.term.new.self in
+    let first = (takes_of c.args.runner.now c.term.new.self (c.args.term.held ∷ terms) owns _ _ c.in-Ok.ensures.takes) in
     let keeps = first.keeps no_error in
     let both = λ (a : Assignment). holds_in mid c.args.term.held a && holds_in mid c.in-Ok.clause.held a in
     joins_both c.steps_law.ensures terms old mid c.release-in-Ok.new.self both both
@@ -99,24 +96,24 @@ pub returns-in-Ok-clause-full : goal.returns-in-Ok-clause-full
 returns-in-Ok-clause-full g c is =
     let terms : List HeldTerm = c.args.term.held ∷ c.requires.owned.rest in
     full_released c.args.term.held c.both_into-both.new.runner c.release-in-Ok.new.self
-    (c.release-in-Ok.ensures.releases (step_behind terms _ c.term_of.new.runner c.both_into-both.new.runner c.both_into-both.result
-    (c.both_into-both.ensures.takes terms ((c.in-Ok.ensures.takes terms c.requires.owned.owns).owns no_error)) is))
+    (c.release-in-Ok.ensures.releases (step_behind terms _ c.term.new.self c.both_into-both.new.runner c.both_into-both.result
+    (c.both_into-both.ensures.takes terms ((takes_of c.args.runner.now c.term.new.self terms c.requires.owned.owns _ _ c.in-Ok.ensures.takes).owns no_error)) is))
     (c.both_into-both.ensures.full is)
 
 pub returns-in-Err-clause-bounds : goal.returns-in-Err-clause-bounds
 returns-in-Err-clause-bounds g c terms few owns eight within depends =
-    join_refused c.counting_law.ensures c.growth_law.ensures c.args.runner.now c.term_of.new.runner c.requires.runner terms c.args.term.held
+    join_refused c.counting_law.ensures c.growth_law.ensures c.args.runner.now c.term.new.self c.requires.runner terms c.args.term.held
     owns few eight (slice_index_or c.args.runner.now.formula.now.clauses (c.args.number - 1) []) within depends (Err c.in-Err.error)
-    (c.in-Err.ensures.bounds (c.args.term.held ∷ terms) owns) c.release.new.self
-    (released_top c.args.term.held c.term_of.new.runner c.release.new.self c.release.ensures.releases c.release.ensures.torn)
+    (bounded_of (c.args.term.held ∷ terms) (λ a. term_holds c.args.runner.now.formula.now a (input_term c.args.number)) c.args.runner.now c.requires.runner owns c.term.new.self (Err c.in-Err.error) c.in-Err.ensures.costs) c.release.new.self
+    (released_top c.args.term.held c.term.new.self c.release.new.self c.release.ensures.releases c.release.ensures.torn)
     (Err c.in-Err.error) (λ is. is)
 
 pub returns-in-Ok-clause-bounds : goal.returns-in-Ok-clause-bounds
 returns-in-Ok-clause-bounds g c terms few owns eight within depends =
-    let takes = c.in-Ok.ensures.takes (c.args.term.held ∷ terms) owns in
-    joined c.counting_law.ensures c.growth_law.ensures c.args.runner.now c.term_of.new.runner c.requires.runner terms c.args.term.held
+    let takes = (takes_of c.args.runner.now c.term.new.self (c.args.term.held ∷ terms) owns _ _ c.in-Ok.ensures.takes) in
+    joined c.counting_law.ensures c.growth_law.ensures c.args.runner.now c.term.new.self c.requires.runner terms c.args.term.held
     owns few eight (slice_index_or c.args.runner.now.formula.now.clauses (c.args.number - 1) []) within depends (Ok c.in-Ok.clause)
-    (c.in-Ok.ensures.bounds (c.args.term.held ∷ terms) owns) (takes.goes_on no_error) (takes.keeps no_error) c.in-Ok.clause.held
+    (bounded_of (c.args.term.held ∷ terms) (λ a. term_holds c.args.runner.now.formula.now a (input_term c.args.number)) c.args.runner.now c.requires.runner owns c.term.new.self (Ok c.in-Ok.clause) c.in-Ok.ensures.costs) (takes.goes_on no_error) (takes.keeps no_error) c.in-Ok.clause.held
     takes.stands takes.value c.both_into-both.new.runner c.both_into-both.result
     (c.both_into-both.ensures.bounds (c.args.term.held ∷ terms) (takes.owns no_error)) c.release-in-Ok.new.self
     (released_top c.args.term.held c.both_into-both.new.runner c.release-in-Ok.new.self c.release-in-Ok.ensures.releases

@@ -2,7 +2,7 @@
 use Rattle.std.proofs.Common.{◌∷◌, List, arith, refl}
 use Rattle.term_runner.specs.declared.held.HeldTerm.{HeldTerm}
 use Rattle.parity_nodes.specs.Sums.{sum_is}
-use Rattle.parity_terms.proofs.Again.{step_behind}
+use Rattle.parity_terms.proofs.Stepped.{step_behind}
 use Rattle.parity_terms.proofs.Joined.{full_released}
 use Rattle.parity_terms.proofs.Owned.{owned_good}
 use Rattle.parity_terms.proofs.Stepped.{among_given, owns_behind, runner_behind, takes_released}

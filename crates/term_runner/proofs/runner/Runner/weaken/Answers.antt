@@ -1,36 +1,68 @@
--- The weakened term.
-use Rattle.std.proofs.Common.{Option, Ok, Result, refl, sym, subst}
-use Rattle.node_table.specs.declared.error.TableError.{TableError}
-use Rattle.node_table.specs.HandedOn.{handed_on}
-use Rattle.term_runner.specs.declared.term.Term.{Term}
-use Rattle.term_runner.specs.Parity.{Weakens}
-use Rattle.term_runner.proofs.Weakened.{whole_found}
+-- The weakened term, and a reclamation behind it.
+use Rattle.std.proofs.Common.{Some, Ok}
+use Rattle.node_table.specs.HandedOn.{no_error}
+use Rattle.term_runner.specs.Parity.{Weakens, node_holds}
+use Rattle.term_runner.proofs.Counted.{counting}
+use Rattle.term_runner.proofs.NodeTaken.{weaker_costs, weaker_none, weaker_refused, weaker_takes, weaker_tidied, weaker_untidied}
 use Rattle.term_runner.proofs.runner.Runner.weaken.Goals as goal
 
-pub returns-in_err-found : goal.returns-in_err-found
-returns-in_err-found g c =
-    let came = c.in_err-found.field-0.0 in
-    record {
-      weakens = subst (λ (r : Result (Option Term) TableError). Weakens c.args.u.now.held c.args.node c.args.self.now c.find_weaker.new.self r)
-          (sym (handed_on _ came came c.from_residual.ensures.1 refl)) c.in_err-found.ensures.weakens;
-    }
+pub returns-in_err-term : goal.returns-in_err-term
+returns-in_err-term g c =
+    weaker_refused (counting c.canonical_law.ensures c.growth_law.ensures c.subfunction_law.ensures) c.growth_law.ensures c.args.u.now.held
+    c.args.node c.args.self.now c.try_weaken.new.self c.requires.runner c.requires.good c.requires.stands c.in_err-term.field-0.0
+    c.in_err-term.ensures.weakens _ c.from_residual.ensures.1
 
-pub settle_none-requires : goal.settle_none-requires
-settle_none-requires g c = record { runner = c.in_ok-found.ensures.weakens.gives.goes_on (whole_found c.in_ok-found.found) }
+pub returns-in_default : goal.returns-in_default
+returns-in_default g c =
+    weaker_none (counting c.canonical_law.ensures c.growth_law.ensures c.subfunction_law.ensures) c.growth_law.ensures c.args.u.now.held
+    c.args.node c.args.self.now c.try_weaken.new.self c.requires.runner c.requires.good c.requires.stands
+    (rw c.in_default.is at c.in_ok-term.ensures.weakens)
 
-pub settle_some-requires : goal.settle_some-requires
-settle_some-requires g c = record { runner = c.in_ok-found.ensures.weakens.gives.goes_on (whole_found c.in_ok-found.found) }
+pub tidy-requires-clause-runner : goal.tidy-requires-clause-runner
+tidy-requires-clause-runner g c =
+    let own : Weakens c.args.u.now.held c.args.node c.args.self.now c.try_weaken.new.self (Ok (Some c.in-Some.term)) =
+    rw c.in-Some.is at c.in_ok-term.ensures.weakens in
+    own.gives.goes_on no_error
 
-pub returns-in-None : goal.returns-in-None
-returns-in-None g c = record {
-  weakens = c.settle_none.ensures c.args.u.now.held c.args.node c.args.self.now
-      (subst (λ (o : Option Term). Weakens c.args.u.now.held c.args.node c.args.self.now c.find_weaker.new.self (Ok o)) c.in-None.is
-      c.in_ok-found.ensures.weakens);
-}
+pub tidy-requires-clause-last : goal.tidy-requires-clause-last
+tidy-requires-clause-last g c =
+    let own : Weakens c.args.u.now.held c.args.node c.args.self.now c.try_weaken.new.self (Ok (Some c.in-Some.term)) =
+    rw c.in-Some.is at c.in_ok-term.ensures.weakens in
+    (c.args.self.now.terms.out.items, own.gives.listed)
 
-pub returns-in-Some : goal.returns-in-Some
-returns-in-Some g c = record {
-  weakens = c.settle_some.ensures c.args.u.now.held c.args.node c.args.self.now
-      (subst (λ (o : Option Term). Weakens c.args.u.now.held c.args.node c.args.self.now c.find_weaker.new.self (Ok o)) c.in-Some.is
-      c.in_ok-found.ensures.weakens);
-}
+pub returns-in_err-given : goal.returns-in_err-given
+returns-in_err-given g c =
+    let own : Weakens c.args.u.now.held c.args.node c.args.self.now c.try_weaken.new.self (Ok (Some c.in-Some.term)) =
+    rw c.in-Some.is at c.in_ok-term.ensures.weakens in
+    let law = counting c.canonical_law.ensures c.growth_law.ensures c.subfunction_law.ensures in
+    let old = c.args.self.now in
+    let mid = c.try_weaken.new.self in
+    let node = c.args.node in
+    let operand = c.args.u.now.held in
+    let takes = weaker_takes law c.growth_law.ensures operand node old mid c.requires.runner c.requires.good c.requires.stands
+    (Ok (Some c.in-Some.term)) own in
+    let costs = weaker_costs law c.growth_law.ensures operand node old mid c.requires.runner c.requires.good c.requires.stands
+    (Ok (Some c.in-Some.term)) own in
+    weaker_untidied law c.growth_law.ensures operand node old mid c.requires.runner c.requires.good c.requires.stands c.in-Some.term own
+    c.tidy.new.self c.tidy.ensures.top c.in_err-given.field-0.0 c.in_err-given.ensures.no_node_limit
+    (c.in_err-given.ensures.takes (node_holds old.terms.table.graph node) old takes)
+    (c.in_err-given.ensures.costs (node_holds old.terms.table.graph node) old c.requires.runner takes costs) _
+    c.from_residual-in_err-given.ensures.1
+
+pub returns : goal.returns
+returns g c =
+    let own : Weakens c.args.u.now.held c.args.node c.args.self.now c.try_weaken.new.self (Ok (Some c.in-Some.term)) =
+    rw c.in-Some.is at c.in_ok-term.ensures.weakens in
+    let law = counting c.canonical_law.ensures c.growth_law.ensures c.subfunction_law.ensures in
+    let old = c.args.self.now in
+    let mid = c.try_weaken.new.self in
+    let node = c.args.node in
+    let operand = c.args.u.now.held in
+    let takes = weaker_takes law c.growth_law.ensures operand node old mid c.requires.runner c.requires.good c.requires.stands
+    (Ok (Some c.in-Some.term)) own in
+    let costs = weaker_costs law c.growth_law.ensures operand node old mid c.requires.runner c.requires.good c.requires.stands
+    (Ok (Some c.in-Some.term)) own in
+    weaker_tidied law c.growth_law.ensures operand node old mid c.requires.runner c.requires.good c.requires.stands c.in-Some.term own
+    c.tidy.new.self c.tidy.ensures.top c.in_ok-given.given c.in_ok-given.ensures.given.0 c.in_ok-given.ensures.given.1
+    (c.in_ok-given.ensures.takes (node_holds old.terms.table.graph node) old takes)
+    (c.in_ok-given.ensures.costs (node_holds old.terms.table.graph node) old c.requires.runner takes costs)
