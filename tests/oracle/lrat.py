@@ -9,7 +9,9 @@ class Bad(Exception):
 
 class Proof:
     """The live clauses of a proof over a formula. A hint list is judged on the set of the literals that are false. A proof that has to be
-    strict has no idle hint: each forces a literal that wasn't decided, but for the last one, which is the conflict."""
+    strict has no idle hint: each forces a literal that wasn't decided and that a later hint has, but for the last one, which is the
+    conflict. A literal that a live unit clause decides is forced by a unit clause. An addition has hints of its own or groups, and these
+    name the candidates, all of them and in the order of their numbers."""
 
     def __init__(self, clauses, strict=False):
         self.top, self.has_empty, self.strict = len(clauses), False, strict
@@ -28,6 +30,8 @@ class Proof:
             self.holders[literal].discard(number)
 
     def conflicts(self, false, hints):
+        """Whether the hints come to a conflict. The literals that they force are added."""
+        needed = []
         for at, hint in enumerate(hints, 1):
             if hint not in self.live:
                 raise Bad(f"clause {hint} is not live")
@@ -35,14 +39,27 @@ class Proof:
             if self.strict and not rest and at < len(hints):
                 raise Bad(f"hints behind {hint}, which is the conflict")
             if not rest:
+                if self.strict:
+                    self.are_needed(needed, hints)
                 return True
             if len(rest) > 1:
                 raise Bad(f"clause {hint} is not unit")
             literal = rest.pop()
             if self.strict and -literal in false:
                 raise Bad(f"clause {hint} forces nothing new")
+            if self.strict and set(self.live[hint]) != {literal} and any(set(self.live[it]) == {literal} for it in self.holders[literal]):
+                raise Bad(f"clause {hint} forces {literal}, of which there is a unit clause")
             false.add(-literal)
+            needed.append((hint, -literal))
         return False
+
+    def are_needed(self, needed, hints):
+        """Each of these literals stands in the clause of a later hint."""
+        later = set()
+        for (hint, literal), follows in zip(reversed(needed), reversed(hints)):
+            later.update(self.live[follows])
+            if literal not in later:
+                raise Bad(f"clause {hint} forces {literal}, which no later hint needs")
 
     def add(self, number, clause, hints):
         if number <= self.top:
@@ -62,6 +79,8 @@ class Proof:
         """Each live clause with the negated pivot must be blocked, or have a group of hints that reach a conflict."""
         starts = [at for at, hint in enumerate(hints) if hint < 0] + [len(hints)]
         groups = [(-hints[start], hints[start + 1 : end]) for start, end in zip(starts, starts[1:])]
+        if self.strict and (starts[0] > 0 or [it for it, _ in groups] != sorted(self.holders[-pivot])):
+            raise Bad(f"groups {groups} behind hints or other than the candidates")
         is_blocked = {it: any(-literal in false for literal in self.live[it] if literal != -pivot) for it in self.holders[-pivot]}
         for candidate, own in groups:
             if candidate not in is_blocked:

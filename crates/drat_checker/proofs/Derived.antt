@@ -1,5 +1,5 @@
--- Literals that propagation puts behind others: which sets have them, and that they stay derived as clauses come, or go that force nothing.
-use Rattle.std.proofs.Common.{◌≡◌, ℕ, set, None, Some, true, false, cond, not, ℤ, neg_ℤ, List, [], ◌∷◌, ◌++◌, if◌then◌else◌, int_eq}
+-- Literals that propagation puts behind others: which sets have them, and that they stay derived as clauses come.
+use Rattle.std.proofs.Common.{◌≡◌, true, false, cond, not, ℤ, neg_ℤ, List, [], ◌∷◌, ◌++◌, if◌then◌else◌, int_eq}
 use Rattle.std.proofs.Common.{refl, sym, ap, ◌∙◌, subst, append_assoc}
 use Rattle.std.specs.List.{list_any, list_all}
 use Rattle.std.proofs.lemmas.Bool.{and_parts, and_from, or_left}
@@ -11,11 +11,10 @@ use Rattle.lrat_rules.specs.Chain.{FalseSet, literals_of, outside, effect_of_out
 use Rattle.lrat_rules.specs.Trail.{with_last}
 use Rattle.drat_rules.specs.Clauses.{is_among}
 use Rattle.drat_rules.specs.Quiet.{IsQuiet, Includes}
-use Rattle.drat_checker.specs.Places.{Places, place_at, standing}
 use Rattle.drat_checker.specs.Propagation.{Derives, Extends, SameQuiet, derived, makes_false}
 use Rattle.drat_checker.proofs.FalseSets.{int_eq-true, eq-int_eq, at_member, all-last, and_known}
 use Rattle.drat_checker.proofs.Propagated.{ForcedLaw}
-use Rattle.drat_checker.proofs.Standing.{some-clause, any-among, any-emptied}
+use Rattle.drat_checker.proofs.Standing.{some-clause, any-among}
 
 pub derives-none : (clauses : List (List ℤ)) (xs : List ℤ) → Derives clauses xs xs
 derives-none clauses xs = record { rest = []; parts = sym (append-nil xs); derived = refl }
@@ -148,28 +147,3 @@ not_copies q (x ∷ xs) h =
 pub not_unit-before : (n q : FalseSet) → Includes q n → (clause : List ℤ) → effect q clause ≡ NotUnit → effect n clause ≡ NotUnit
 not_unit-before n q i clause h =
     not_copies q (outside n clause) (ap effect_of_outside (outside_twice n q i clause) ∙ h)
-
-in-front : (xs ys : List ℤ) (x : ℤ) → literals_of xs x ≡ true → literals_of (xs ++ ys) x ≡ true
-in-front xs ys x m = list_any-append (int_eq x) xs ys ∙ or_left _ _ m
-
--- a clause that forces nothing goes
-module _ (places : Places) (number : ℕ) (own : List ℤ) (stands : place_at places number ≡ Some own) where
-  derived-emptied : (front rest : List ℤ) → effect (literals_of (front ++ rest)) own ≡ NotUnit → derived (standing places) front rest ≡ true
-      → derived (standing (set places number None)) front rest ≡ true
-  derived-emptied front [] e h = refl
-  derived-emptied front (x ∷ rest) e h =
-      let parts = and_parts (list_any (λ c. makes_false x (effect (literals_of front) c)) (standing places)) _ h in
-      let before : effect (literals_of front) own ≡ NotUnit =
-      not_unit-before (literals_of front) (literals_of (front ++ x ∷ rest)) (record { includes = in-front front (x ∷ rest) }) own e in
-      and_from _ _
-      (any-emptied (λ c. makes_false x (effect (literals_of front) c)) places number own stands (ap (makes_false x) before) parts.0)
-      (derived-emptied (front ++ x ∷ []) rest
-      (ap (λ (l : List ℤ). effect (literals_of l) own) (append_assoc front (x ∷ []) rest) ∙ e) parts.1)
-
-  pub derives-emptied : {a b : List ℤ} → effect (literals_of b) own ≡ NotUnit → Derives (standing places) a b
-      → Derives (standing (set places number None)) a b
-  derives-emptied {a} {b} e d = record {
-    rest = d.rest;
-    parts = d.parts;
-    derived = derived-emptied a d.rest (ap (λ (l : List ℤ). effect (literals_of l) own) (sym d.parts) ∙ e) d.derived;
-  }

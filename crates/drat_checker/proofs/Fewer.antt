@@ -1,16 +1,16 @@
 -- What is watched and what is known of the roots where a place is emptied.
-use Rattle.std.proofs.Common.{◌≡◌, ℕ, ℤ, List, [], length-set, set, None, Some, sym, ◌∙◌}
-use Rattle.lrat_rules.specs.declared.outcome.Effect.TheVariants.{NotUnit}
-use Rattle.lrat_rules.specs.Chain.{literals_of, effect}
+use Rattle.std.proofs.Common.{ℕ, ℤ, List, [], length-set, set, None, sym, ◌∙◌}
+use Rattle.lrat_rules.specs.Chain.{literals_of}
 use Rattle.drat_rules.specs.Quiet.{closed_under}
 use Rattle.drat_checker.specs.declared.watches.Watches.{Watches}
-use Rattle.drat_checker.specs.Places.{Places, place_at}
+use Rattle.drat_checker.specs.Places.{Places}
 use Rattle.drat_checker.specs.Watches.{AreWatched, IsSettled}
 use Rattle.drat_checker.specs.Trail.{Trail}
+use Rattle.drat_checker.specs.Reasons.{IsNoReason}
 use Rattle.drat_checker.specs.Roots.{AreRoots}
 use Rattle.drat_checker.proofs.Standing.{all-emptied, place-set}
-use Rattle.drat_checker.proofs.Derived.{derives-emptied}
-use Rattle.drat_checker.proofs.Reasoned.{reasons-emptied}
+use Rattle.drat_checker.proofs.Cited.{derives-reasons, reasons-emptied}
+use Rattle.drat_checker.proofs.Units.{units-emptied}
 
 module _ (places : Places) (number : ℕ) where
   pub watched-fewer : (kept : Watches) → AreWatched kept places → AreWatched kept (set places number None)
@@ -31,11 +31,14 @@ module _ (places : Places) (number : ℕ) where
     holds = record { holds = λ n c at short. s.holds.holds n c (place-set places number n c at) short };
   }
 
-  pub roots-fewer : (own : List ℤ) → place_at places number ≡ Some own → (kept : Watches) (trail : Trail)
-      → effect (literals_of trail.literals) own ≡ NotUnit → AreRoots places kept trail → AreRoots (set places number None) kept trail
-  roots-fewer own stands kept trail e roots = record {
-    derives = derives-emptied places number own stands e roots.derives;
-    closed = record { closed = all-emptied (closed_under (literals_of trail.literals)) places number roots.closed.closed };
-    settled = settled-fewer kept trail.literals roots.settled;
-    reasons = reasons-emptied places number own [] trail stands e roots.reasons;
-  }
+  pub roots-fewer : (kept : Watches) (trail : Trail) → IsNoReason trail number → AreRoots places kept trail
+      → AreRoots (set places number None) kept trail
+  roots-fewer kept trail none roots =
+      let reasons = reasons-emptied places number [] trail none roots.reasons in
+      record {
+        derives = derives-reasons (set places number None) trail reasons;
+        closed = record { closed = all-emptied (closed_under (literals_of trail.literals)) places number roots.closed.closed };
+        settled = settled-fewer kept trail.literals roots.settled;
+        reasons = reasons;
+        units = units-emptied places number trail none roots.units;
+      }

@@ -61,7 +61,7 @@ two-outside a b (x ∷ xs) one two apart =
       | false ↦ λ other. refl
     ] refl
 
-some-true : (literals clause : List ℤ) → is_true literals clause ≡ true
+pub some-true : (literals clause : List ℤ) → is_true literals clause ≡ true
     → (y : ℤ) × (literals_of clause y ≡ true) × (literals_of literals (neg_ℤ y) ≡ true)
 some-true literals [] h = cc
 some-true literals (x ∷ xs) h =

@@ -1,34 +1,39 @@
 -- Hints from a conflict back refute, and each is needed: each step back needs the literals of one clause more.
 use Rattle.std.proofs.Common.{◌≡◌, ℕ, zero, suc, ◌+◌, ◌<◌, ◌≤◌, Bool, true, false, cond, not, ◌||◌, ◌⊎◌, ℤ, pos, neg_ℤ, int_eq}
-use Rattle.std.proofs.Common.{List, [], ◌∷◌, ◌++◌, length, take, drop, reverse, IfSome, Option}
+use Rattle.std.proofs.Common.{List, [], ◌∷◌, ◌++◌, length, take, reverse, IfSome, Option}
 use Rattle.std.proofs.Common.{get_or, None, Some, if◌then◌else◌, inl, inr, refl, sym, ap, ◌∙◌, subst, arith}
 use Rattle.std.proofs.Common.{append_assoc}
 use Rattle.std.specs.List.{list_any, list_all, filter}
+use Rattle.std.specs.FinMap as map
 use Rattle.std.proofs.Math.IntN.{neg_ℤ-neg_ℤ}
 use Rattle.std.proofs.lemmas.Bool.{and_parts, and_from, or_cases, or_left, or_right, both_ways, false_from_ne_true}
 use Rattle.std.proofs.lemmas.List.Elements.{filter_more}
-use Rattle.std.proofs.lemmas.List.{append-nil, reverse-append, take_all, take_more, take-append-drop, take-take}
+use Rattle.std.proofs.lemmas.List.{append-nil, reverse-append, take_all, take_more, take-take}
 use Rattle.std.proofs.lemmas.List.Folds.{list_all-append, list_any-append}
 use Rattle.lrat_rules.specs.declared.outcome.Effect.{Effect}
 use Rattle.lrat_rules.specs.declared.outcome.Effect.TheVariants.{Conflict, Unit as Forced, NotUnit}
-use Rattle.cnf_base.specs.ProofText.{is_empty, is_id}
+use Rattle.cnf_base.specs.ProofText.{is_id}
 use Rattle.lrat_rules.specs.State.{Live, clause_at}
 use Rattle.lrat_rules.specs.Chain.{FalseSet, effect, effect_of_outside, literals_of, outside, with_literal}
-use Rattle.lrat_rules.specs.Strict.{is_strict, is_strict_effect, is_strict_hint}
+use Rattle.lrat_rules.specs.Addition.{if_live}
+use Rattle.drat_checker.specs.Exact.{forces_it, has_unit, is_direct, is_exact, is_exact_effect, is_exact_hint, is_held, is_unit_of}
+use Rattle.drat_checker.specs.Database.{is_short}
 use Rattle.lrat_rules.specs.Trail.{with_last}
 use Rattle.drat_checker.specs.declared.flags.Flags.{Flags}
 use Rattle.drat_checker.specs.Flags.{is_set}
 use Rattle.drat_checker.specs.Places.{Place, Places, place_at}
 use Rattle.drat_checker.specs.Propagation.{makes_false}
-use Rattle.drat_checker.specs.Trail.{AreOnce, IsApart, Trail}
+use Rattle.drat_checker.specs.Trail.{AreOnce, IsApart, IsAt, Trail}
 use Rattle.drat_checker.specs.declared.hints.FirstConflict.{FirstConflict}
-use Rattle.drat_checker.specs.Reasons.{AreFree, AreReasons, ClashesAt, IsFalsified, is_reason, place_forces}
+use Rattle.drat_checker.specs.Reasons.{AreByUnits, AreFree, AreReasons, ClashesAt, IsFalsified, is_by_unit, is_reason, is_short_place}
+use Rattle.drat_checker.specs.Reasons.{place_forces}
 use Rattle.drat_checker.specs.Hints.{AreLive, AreMarks, ClashesAssumed, HasSame, IsConflict, IsFirstClash, IsFirstConflict, IsForcedAt}
-use Rattle.drat_checker.specs.Hints.{IsStart, NoneClashes, Refute, RefuteSoFar, is_tautology, plain, untaken}
+use Rattle.drat_checker.specs.Hints.{IsHeldAt, IsStart, NoneClashes, Refute, RefuteSoFar, is_tautology, plain, untaken}
 use Rattle.drat_checker.proofs.FalseSets.{all_members, at_member, eq-int_eq, int_eq-true}
 use Rattle.drat_checker.proofs.Guarded.{forced-held, last-forced}
 use Rattle.drat_checker.proofs.Settled.{front-false}
-use Rattle.drat_checker.proofs.Trails.{literals_of-last}
+use Rattle.drat_checker.proofs.Standing.{same_inside}
+use Rattle.drat_checker.proofs.Trails.{at-any, at-front, literals_of-last, new-at}
 
 -- all literals of a clause but the one that it forces are false
 copies-of : (xs : List ℤ) (y : ℤ) → effect_of_outside xs ≡ Forced y → list_all (int_eq y) xs ≡ true
@@ -74,6 +79,9 @@ forced-by x Conflict h = cc
 forced-by x (Forced y) h = (y, refl, int_eq-true x (neg_ℤ y) h)
 forced-by x NotUnit h = cc
 
+false-not-true : false ≡ true → ⊥
+false-not-true e = cc
+
 pub record IsForced (places : Places) (front : List ℤ) (x : ℤ) (number : ℕ) : Type 0 where
   pub clause : List ℤ
   pub stands : place_at places number ≡ Some clause
@@ -81,7 +89,7 @@ pub record IsForced (places : Places) (front : List ℤ) (x : ℤ) (number : ℕ
   pub forces : effect (literals_of front) clause ≡ Forced literal
   pub negates : x ≡ neg_ℤ literal
 
-forced-place : (front : List ℤ) (x : ℤ) (place : Place) → place_forces front x place ≡ true
+pub forced-place : (front : List ℤ) (x : ℤ) (place : Place) → place_forces front x place ≡ true
     → (clause : List ℤ) × (place ≡ Some clause) × (makes_false x (effect (literals_of front) clause) ≡ true)
 forced-place front x None h = cc
 forced-place front x (Some clause) h = (clause, refl, h)
@@ -131,23 +139,6 @@ module _ (front : List ℤ) (apart : (x : ℤ) → literals_of front x ≡ true 
   pub no-tautology : is_tautology clause ≡ false
   no-tautology = false_from_ne_true _ (λ h. let some = some-both clause clause h in not-both some.0 some.1 some.2)
 
--- the literal at a place isn't one of those before it
-at-place : (literals : List ℤ) (k : ℕ) → k < length literals → literals_of (drop k literals) (get_or literals k (pos 0)) ≡ true
-at-place [] k within = absurd (omega (arith, within))
-at-place (x ∷ xs) zero within = or_left _ _ (eq-int_eq x x refl)
-at-place (x ∷ xs) (suc k) within = at-place xs k (omega (arith, within))
-
-at-any : (literals : List ℤ) (k : ℕ) → k < length literals → literals_of literals (get_or literals k (pos 0)) ≡ true
-at-any literals k within =
-    ap (λ (l : List ℤ). literals_of l (get_or literals k (pos 0))) (sym (take-append-drop k literals))
-    ∙ list_any-append (int_eq (get_or literals k (pos 0))) (take k literals) (drop k literals)
-    ∙ or_right (literals_of (take k literals) (get_or literals k (pos 0))) _ (at-place literals k within)
-
-pub new-at : (literals : List ℤ) → AreOnce literals → (k : ℕ) → k < length literals
-    → literals_of (take k literals) (get_or literals k (pos 0)) ≡ false
-new-at literals once k within =
-    false_from_ne_true _ (λ there. both_ways _ (once.once k (get_or literals k (pos 0)) there) (at-place literals k within))
-
 nonzero-at : (literals : List ℤ) → IsApart literals → (x y : ℤ) → literals_of literals x ≡ true → x ≡ neg_ℤ y → neg_ℤ y ≡ y → ⊥
 nonzero-at literals apart x y there negates same =
     let own : neg_ℤ x ≡ x = ap neg_ℤ (negates ∙ same) ∙ sym negates in
@@ -178,18 +169,20 @@ none-outside n (z ∷ zs) all =
 -- one hint
 module _ (live : Live) (n : FalseSet) (hint : ℕ) (hints : List ℕ) (clause : List ℤ) (at : clause_at live hint ≡ Some clause) where
   abbrev later : FalseSet → Bool
-  later m = is_strict live m hints
+  later m = is_exact live m hints
 
-  pub of-effect : (e : Effect) → effect n clause ≡ e → is_strict_effect n (is_empty hints) later e ≡ true
-      → is_strict live n (hint ∷ hints) ≡ true
-  of-effect e is h = ap (is_strict_hint n (is_empty hints) later) at ∙ ap (is_strict_effect n (is_empty hints) later) is ∙ h
+  pub of-effect : (e : Effect) → effect n clause ≡ e → is_exact_effect live clause hints n later e ≡ true
+      → is_exact live n (hint ∷ hints) ≡ true
+  of-effect e is h = ap (is_exact_hint live hints n later) at ∙ ap (is_exact_effect live clause hints n later) is ∙ h
 
   pub hint-forces : (y : ℤ) → list_all (λ z. int_eq z y || n z) clause ≡ true → literals_of clause y ≡ true → n y ≡ false
-      → n (neg_ℤ y) ≡ false → is_strict live (with_literal (neg_ℤ y) n) hints ≡ true → is_strict live n (hint ∷ hints) ≡ true
-  hint-forces y all held own new h = of-effect (Forced y) (last-forced n y clause all held own) (and_from _ _ (ap not new) h)
+      → n (neg_ℤ y) ≡ false → is_held live hints (neg_ℤ y) ≡ true → is_direct live clause y ≡ true
+      → is_exact live (with_literal (neg_ℤ y) n) hints ≡ true → is_exact live n (hint ∷ hints) ≡ true
+  hint-forces y all own unfalse new used direct h =
+      of-effect (Forced y) (last-forced n y clause all own unfalse) (and_from _ _ (ap not new) (and_from _ _ used (and_from _ _ direct h)))
 
 pub hint-false : (live : Live) (n : FalseSet) (hint : ℕ) (clause : List ℤ) → clause_at live hint ≡ Some clause → list_all n clause ≡ true
-    → is_strict live n (hint ∷ []) ≡ true
+    → is_exact live n (hint ∷ []) ≡ true
 hint-false live n hint clause at all =
     of-effect live n hint [] clause at Conflict (ap effect_of_outside (none-outside n clause all)) refl
 
@@ -203,15 +196,36 @@ all-turned p (x ∷ xs) all =
     let parts = and_parts (p x) (list_all p xs) all in
     ap (list_all p) (reverse-append (x ∷ []) xs) ∙ all-last-number p (reverse xs) x (all-turned p xs parts.1) parts.0
 
+-- a literal that a clause of one of the hints has
+held-by : (live : Live) (hint : ℕ) (clause : List ℤ) (x : ℤ) → clause_at live hint ≡ Some clause → literals_of clause x ≡ true
+    → if_live (λ c. literals_of c x) (clause_at live hint) ≡ true
+held-by live hint clause x at own = ap (if_live (λ c. literals_of c x)) at ∙ own
+
+-- what is needed where nothing was
+pub own-marked : (places : Places) (number : ℕ) (none marked : List ℤ) → none ≡ []
+    → ((x : ℤ) → literals_of marked x ≡ true → (literals_of none x ≡ true) ⊎ IsHeldAt places number x)
+    → (clause : List ℤ) → place_at places number ≡ Some clause → (x : ℤ) → literals_of marked x ≡ true → literals_of clause x ≡ true
+own-marked places number none marked is own clause stands x m =
+    elim (own x m) [
+      | inl before ↦ absurd (false-not-true (ap (λ (l : List ℤ). literals_of l x) (sym is) ∙ before))
+      | inr now ↦ ap (λ (c : List ℤ). literals_of c x) (same_inside clause now.clause (sym stands ∙ now.stands)) ∙ now.own
+    ]
+
 -- the conflict alone
 pub refute-start : (places : Places) (trail : Trail) (given : List ℤ) (first : FirstConflict) (left needed : FalseSet) (found : List ℕ)
     → ((x : ℤ) → literals_of (take first.count trail.literals) x ≡ true → left x ≡ true)
     → ((clause : List ℤ) → place_at places first.number ≡ Some clause → (x : ℤ) → literals_of clause x ≡ true → needed x ≡ true)
+    → ((clause : List ℤ) → place_at places first.number ≡ Some clause → (x : ℤ) → needed x ≡ true → literals_of clause x ≡ true)
     → is_id (first.number + 1) ≡ true → found ≡ (first.number + 1) ∷ [] → RefuteSoFar places trail given first left needed found
-refute-start places trail given first left needed found whole has id is =
+refute-start places trail given first left needed found whole has no_more id is =
     subst (RefuteSoFar places trail given first left needed) (sym is) (record {
       ids = and_from _ _ id refl;
-      strict = λ live assumed n are start all front bounded.
+      held = λ live assumed are start x need.
+          let conflict = start.conflict.conflict in
+          or_left _ _ (held-by live (first.number + 1) conflict.clause x
+          (live-at live places are first.number conflict.clause conflict.stands conflict.plain)
+          (no_more conflict.clause conflict.stands x need));
+      exact = λ live assumed n are start all front bounded.
           let conflict = start.conflict.conflict in
           let clause = conflict.clause in
           hint-false live n (first.number + 1) clause (live-at live places are first.number clause conflict.stands conflict.plain)
@@ -223,19 +237,59 @@ refute-start places trail given first left needed found whole has id is =
           ]));
     })
 
--- a literal of a front
-pub at-front : (literals : List ℤ) (k count : ℕ) → k < count → k < length literals
-    → literals_of (take count literals) (get_or literals k (pos 0)) ≡ true
-at-front [] k count before within = absurd (omega (arith, within))
-at-front (x ∷ xs) k zero before within = absurd (omega (arith, before))
-at-front (x ∷ xs) zero (suc count) before within = or_left _ _ (eq-int_eq x x refl)
-at-front (x ∷ xs) (suc k) (suc count) before within =
-    or_right (int_eq (get_or xs k (pos 0)) x) _ (at-front xs k count (omega (arith, before)) (omega (arith, within)))
-
 pub front-front : (literals : List ℤ) (k count : ℕ) → k ≤ count → (x : ℤ) → literals_of (take k literals) x ≡ true
     → literals_of (take count literals) x ≡ true
 front-front literals k count within x m =
     front-false (take count literals) k x (ap (λ (l : List ℤ). literals_of l x) (take-take k count literals within) ∙ m)
+
+-- the reason of a literal whose negation a live clause states alone is such a clause
+unit-live : (live : Live) (y : ℤ) (ids : List ℕ) → list_any (λ id. if_live (is_unit_of y) (clause_at live id)) ids ≡ true
+    → (id : ℕ) × (if_live (is_unit_of y) (clause_at live id) ≡ true)
+unit-live live y [] h = cc
+unit-live live y (id ∷ ids) h =
+    elim (or_cases (if_live (is_unit_of y) (clause_at live id)) _ h) [
+      | inl here ↦ (id, here)
+      | inr later ↦ unit-live live y ids later
+    ]
+
+unit-of : (y : ℤ) (e : Effect) → forces_it y e ≡ true → e ≡ Forced y
+unit-of y Conflict h = cc
+unit-of y (Forced z) h = ap Forced (int_eq-true z y h)
+unit-of y NotUnit h = cc
+
+plain-place : (place : Place) (y : ℤ) → if_live (is_unit_of y) (plain place) ≡ true
+    → (clause : List ℤ) × (place ≡ Some clause) × (effect (literals_of []) clause ≡ Forced y)
+plain-place None y h = cc
+plain-place (Some clause) y h =
+    elim (is_tautology clause) as (λ b. if_live (is_unit_of y) (if b then None else Some clause) ≡ true
+    → (own : List ℤ) × (Some clause ≡ Some own) × (effect (literals_of []) own ≡ Forced y)) [
+      | true ↦ λ h'. cc
+      | false ↦ λ h'. (clause, refl, unit-of y (effect (literals_of []) clause) h')
+    ] h
+
+unit-at : (live : Live) (places : Places) → AreLive live places → (y : ℤ) (id : ℕ) → if_live (is_unit_of y) (clause_at live id) ≡ true
+    → (number : ℕ) × (clause : List ℤ) × (place_at places number ≡ Some clause) × (effect (literals_of []) clause ≡ Forced y)
+unit-at live places are y zero h =
+    let none : if_live (is_unit_of y) None ≡ true = ap (if_live (is_unit_of y)) (sym are.none_at_zero) ∙ h in
+    absurd (false-not-true none)
+unit-at live places are y (suc number) h =
+    let next : suc number ≡ number + 1 = omega arith in
+    let own = plain-place (place_at places number) y
+    (ap (if_live (is_unit_of y)) (sym (ap (clause_at live) next ∙ are.same number)) ∙ h) in
+    (number, own.0, own.1, own.2)
+
+direct-reason : (live : Live) (places : Places) → AreLive live places → (trail : Trail) → AreByUnits places places trail
+    → (place : ℕ) (y : ℤ) → IsAt trail.literals (neg_ℤ y) place → (reason : ℕ) → get_or trail.reasons place None ≡ Some reason
+    → (clause : List ℤ) → place_at places reason ≡ Some clause → is_direct live clause y ≡ true
+direct-reason live places are trail units place y at reason is clause stands =
+    elim (has_unit live y) as (λ b. has_unit live y ≡ b → (not b || is_short clause) ≡ true) [
+      | true ↦ λ some.
+          let id = unit-live live y (map.keys live) some in
+          let unit = unit-at live places are y id.0 id.1 in
+          ap is_short_place (sym stands) ∙ ap (is_by_unit places) (sym is)
+          ∙ units.unit place unit.0 unit.1 y at unit.2 unit.3
+      | false ↦ λ none. refl
+    ] refl
 
 -- One place back: its literal is assumed or isn't needed, or a clause forced it.
 or-last : (b : Bool) → (b || false) ≡ true → b ≡ true
@@ -261,13 +315,19 @@ module _ (places : Places) (trail : Trail) (given : List ℤ) (first : FirstConf
           | inr l ↦ or_right (literals_of assumed x) _ (more x l)
         ]
 
-    pub step-idle : (found : List ℕ)
+    forced-here : (assumed : List ℤ) (reason : ℕ) → IsForcedAt trail given place reason → IsStart places trail given assumed first
+        → IsForced places front own reason
+    forced-here assumed reason why start =
+        forced-at places front own reason (ap (is_reason places assumed front own) (sym why.reason) ∙ start.reasons.reason place within)
+
+    pub step-idle : (found : List ℕ) → ((z : ℤ) → needed' z ≡ true → needed z ≡ true)
         → ((assumed : List ℤ) → IsStart places trail given assumed first → needed own ≡ true → literals_of assumed own ≡ true)
         → RefuteSoFar places trail given first left needed found → RefuteSoFar places trail given first left' needed' found
-    step-idle found idle so_far = record {
+    step-idle found no_more idle so_far = record {
       ids = so_far.ids;
-      strict = λ live assumed n are start all has bounded.
-          so_far.strict live assumed n are start all (λ z there need.
+      held = λ live assumed are start x need. so_far.held live assumed are start x (no_more x need);
+      exact = λ live assumed n are start all has bounded.
+          so_far.exact live assumed n are start all (λ z there need.
           elim (split z there) [
             | inl is ↦ at_member n assumed z all (ap (literals_of assumed) is ∙ idle assumed start (ap needed (sym is) ∙ need))
             | inr still ↦ has z still (kept z need)
@@ -276,16 +336,27 @@ module _ (places : Places) (trail : Trail) (given : List ℤ) (first : FirstConf
 
     pub step-forced : IsApart trail.literals → AreOnce trail.literals → left own ≡ true → left' own ≡ false
         → ((z : ℤ) → left' z ≡ true → literals_of trail.literals z ≡ true) → (found found' : List ℕ) (reason : ℕ)
-        → IsForcedAt trail given place reason → found' ≡ found ++ (reason + 1) ∷ [] → is_id (reason + 1) ≡ true
+        → IsForcedAt trail given place reason → needed own ≡ true → found' ≡ found ++ (reason + 1) ∷ [] → is_id (reason + 1) ≡ true
+        → ((z : ℤ) → needed' z ≡ true → (needed z ≡ true) ⊎ IsHeldAt places reason z)
         → ((clause : List ℤ) → place_at places reason ≡ Some clause → (z : ℤ) → literals_of clause z ≡ true → needed' z ≡ true)
         → ((clause : List ℤ) → place_at places reason ≡ Some clause → (z : ℤ) → literals_of clause z ≡ true → literals_of front z ≡ true
         → left' z ≡ true)
         → RefuteSoFar places trail given first left needed found → RefuteSoFar places trail given first left' needed' found'
-    step-forced apart once here gone inside found found' reason why is id has_all still so_far = record {
+    step-forced apart once here gone inside found found' reason why need is id no_more has_all still so_far = record {
       ids = ap (list_all is_id) is ∙ all-last-number is_id found (reason + 1) so_far.ids id;
-      strict = λ live assumed n are start all has bounded.
-          let forced : IsForced places front own reason =
-          forced-at places front own reason (ap (is_reason places assumed front own) (sym why.reason) ∙ start.reasons.reason place within) in
+      held = λ live assumed are start x need'.
+          let forced : IsForced places front own reason = forced-here assumed reason why start in
+          let turned : reverse found' ≡ (reason + 1) ∷ reverse found = ap reverse is ∙ reverse-append found ((reason + 1) ∷ []) in
+          ap (λ (l : List ℕ). is_held live l x) turned
+          ∙ elim (no_more x need') [
+            | inl before' ↦ or_right (if_live (λ c. literals_of c x) (clause_at live (reason + 1))) _ (so_far.held live assumed are start x before')
+            | inr now ↦ or_left _ _ (held-by live (reason + 1) forced.clause x
+                (live-at live places are reason forced.clause forced.stands
+                (plain-reason trail.literals apart once place within forced.clause forced.literal forced.negates forced.forces))
+                (ap (λ (c : List ℤ). literals_of c x) (same_inside forced.clause now.clause (sym forced.stands ∙ now.stands)) ∙ now.own))
+          ];
+      exact = λ live assumed n are start all has bounded.
+          let forced : IsForced places front own reason = forced-here assumed reason why start in
           let y = forced.literal in
           let is_own : neg_ℤ y ≡ own = sym forced.negates in
           let fails : is_tautology forced.clause ≡ false =
@@ -316,11 +387,14 @@ module _ (places : Places) (trail : Trail) (given : List ℤ) (first : FirstConf
             | inr l ↦ both_ways (left' own) gone l
           ]) in
           let m : FalseSet = with_literal (neg_ℤ y) n in
-          ap (is_strict live n) (ap reverse is ∙ reverse-append found ((reason + 1) ∷ []))
+          ap (is_exact live n) (ap reverse is ∙ reverse-append found ((reason + 1) ∷ []))
           ∙ hint-forces live n (reason + 1) (reverse found) forced.clause
           (live-at live places are reason forced.clause forced.stands fails) y has_others
           (forced-held (literals_of front) forced.clause y forced.forces) new_literal (ap n is_own ∙ new_own)
-          (so_far.strict live assumed m are start
+          (ap (is_held live (reverse found)) is_own ∙ so_far.held live assumed are start own need)
+          (direct-reason live places are trail start.units place y (record { within = within; own = forced.negates }) reason why.reason
+          forced.clause forced.stands)
+          (so_far.exact live assumed m are start
           (all_members m assumed (λ z a. or_right (int_eq z (neg_ℤ y)) _ (at_member n assumed z all a)))
           (λ z there need.
           elim (split z there) [
@@ -340,8 +414,8 @@ pub refute-end : (places : Places) (trail : Trail) (given : List ℤ) (first : F
     → RefuteSoFar places trail given first left needed found → Refute places trail given first (reverse found)
 refute-end places trail given first left needed found none so_far = record {
   ids = all-turned is_id found so_far.ids;
-  strict = λ live assumed n are start same.
-      so_far.strict live assumed n are start (all_members n assumed (λ x m. same x ∙ m))
+  exact = λ live assumed n are start same.
+      so_far.exact live assumed n are start (all_members n assumed (λ x m. same x ∙ m))
       (λ x there need. same x ∙ sym (start.same.same x) ∙ none x there need) (λ x m. or_left _ _ (sym (same x) ∙ m));
 }
 

@@ -11,11 +11,11 @@ use Rattle.drat_checker.specs.Places.{Place, Places, IsAtMost, IsFirst, IsNone, 
 use Rattle.drat_checker.specs.Numbers.{has_number}
 
 -- one more number is at most as great as before, and at most as great as it
-lesser-old : (least : Option ℕ) (k n : ℕ) → IsAtMost least n → IsAtMost (lesser least k) n
+pub lesser-old : (least : Option ℕ) (k n : ℕ) → IsAtMost least n → IsAtMost (lesser least k) n
 lesser-old None k n h = absurd h
 lesser-old (Some m) k n h = let le : m ≤ n = h in omega arith
 
-lesser-new : (least : Option ℕ) (k : ℕ) → IsAtMost (lesser least k) k
+pub lesser-new : (least : Option ℕ) (k : ℕ) → IsAtMost (lesser least k) k
 lesser-new None k = omega arith
 lesser-new (Some m) k = omega arith
 

@@ -14,6 +14,10 @@ pub mod Visited
 pub mod Settled
 pub mod Reasoned
 pub mod Hinted
+pub mod Opposed
+pub mod Cited
+pub mod Units
+pub mod Rising
 pub mod Lined
 pub mod Looks
 pub mod Picked

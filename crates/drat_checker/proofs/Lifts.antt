@@ -1,5 +1,5 @@
 -- What follows from a clause on an answer, for the same answer.
-use Rattle.std.proofs.Common.{◌≡◌, false, refl, subst, is_some, Option, None, Some, Result, Ok, Err, OnOk, IfOk, IfNone, IfSome}
+use Rattle.std.proofs.Common.{◌≡◌, false, refl, subst, is_some, Option, None, Some, Result, Ok, Err, OnErr, OnOk, IfOk, IfNone, IfSome}
 
 pub if-ok : {T E : Type 0} {P Q : T → Type 0} (r : Result T E) → ((x : T) → P x → Q x) → IfOk r P → IfOk r Q
 if-ok (Ok x) f h = f x h
@@ -28,3 +28,7 @@ none-of (Some x) e = cc
 pub if-none-each : {T : Type 0} {P Q : Type 0} (o : Option T) → (P → Q) → IfNone o P → IfNone o Q
 if-none-each None f h = f h
 if-none-each (Some x) f h = tt
+
+pub by-result : {T E : Type 0} {P Q R : Type 0} (r : Result T E) → (P → R) → (Q → R) → OnOk r P → OnErr r Q → R
+by-result (Ok x) f g h k = f h
+by-result (Err e) f g h k = g k

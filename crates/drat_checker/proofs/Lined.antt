@@ -1,6 +1,6 @@
 -- Lines are good: by hints that close, and by groups.
 use Rattle.std.proofs.Common.{◌≡◌, ℕ, zero, suc, ◌+◌, ◌<◌, ◌≤◌, Bool, true, false, not, ◌||◌, ◌&&◌, ℤ, neg_ℤ, int_eq, List, [], ◌∷◌}
-use Rattle.std.proofs.Common.{◌++◌}
+use Rattle.std.proofs.Common.{◌++◌, cond}
 use Rattle.std.proofs.Common.{Option, None, Some, if◌then◌else◌, inl, inr, refl, sym, ap, ◌∙◌, subst, arith, take, length, get_or, nat_eq}
 use Rattle.std.proofs.Common.{eq-eqb, ◌==◌, ◌⊎◌}
 use Rattle.std.specs.List.{list_any, list_all, filter}
@@ -8,7 +8,8 @@ use Rattle.std.specs.Prelude.{slice_index}
 use Rattle.std.specs.FinMap as map
 use Rattle.std.proofs.lemmas.Bool.{and_from, and_parts, lt-leb, or_cases, or_left, or_right, both_ways, false_from_ne_true}
 use Rattle.std.proofs.Math.IntN.{neg_ℤ-neg_ℤ}
-use Rattle.std.proofs.lemmas.List.{get_or_default, take_more}
+use Rattle.std.proofs.lemmas.List.{append-nil, get_or_default, map-append, take_more}
+use Rattle.std.proofs.lemmas.List.Elements.{filter-append}
 use Rattle.std.proofs.lemmas.Map.Views.{exact_unsigned_eq}
 use Rattle.std.proofs.lemmas.List.Folds.{list_any-append, list_all-append}
 use Rattle.cnf_base.specs.declared.list.Group.{Group}
@@ -26,14 +27,16 @@ use Rattle.lrat_rules.specs.Addition.{holds_negated, if_live, is_blocked, is_blo
 use Rattle.lrat_rules.specs.Addition.{resolvents_fault}
 use Rattle.lrat_rules.specs.Addition.{with_candidate}
 use Rattle.drat_rules.specs.Addition.{others_of}
-use Rattle.drat_checker.specs.Places.{Place, Places, place_at}
-use Rattle.drat_checker.specs.Numbers.{has_number}
+use Rattle.drat_rules.specs.Quiet.{has_quiet}
+use Rattle.drat_checker.specs.Places.{Place, Places, place_at, standing}
+use Rattle.drat_checker.specs.Numbers.{IsRising, has_number}
 use Rattle.drat_checker.specs.Hints.{AreLive, is_tautology, plain}
-use Rattle.drat_checker.specs.Strict.{are_strict_groups, is_strict_candidate, is_strict_front, is_strict_group, is_strict_group_at}
-use Rattle.drat_checker.specs.Strict.{is_strict_line}
-use Rattle.drat_checker.specs.Lines.{AreBlocked, CloseFrom, FitGroups, FitOneMore, IsGoodLine, IsPlaceBlocked}
+use Rattle.drat_checker.specs.Exact.{are_exact_groups, is_direct, is_exact, is_exact_candidate, is_exact_effect, is_exact_group}
+use Rattle.drat_checker.specs.Exact.{is_exact_group_at, is_exact_hint, is_exact_line, is_held}
+use Rattle.drat_checker.specs.Lines.{CloseFrom, FitGroups, FitOneMore, IsGoodLine, candidates_of, ids_from, ids_of, is_candidate_at}
 use Rattle.drat_checker.proofs.FalseSets.{int_eq-true, of-filter}
 use Rattle.drat_checker.proofs.Hinted.{live-at, some-both, some-pair}
+use Rattle.drat_checker.proofs.Rising.{all-candidates}
 
 -- the number is above the greatest so far
 above : (state : State) (id : ℕ) (clause : List ℤ) (hints : List ℕ) (groups : List Group) → state.top < id
@@ -44,40 +47,53 @@ above state id clause hints groups greater good =
     (lt-leb id state.top greater)
     ∙ good
 
--- a strict refutation has no idle hint
-strict_effect-more : (n : FalseSet) (last : Bool) (more more' : FalseSet → Bool) → ((m : FalseSet) → more m ≡ true → more' m ≡ true)
-    → (e : Effect) → is_strict_effect n last more e ≡ true → is_strict_effect n last more' e ≡ true
-strict_effect-more n last more more' f Conflict h = h
-strict_effect-more n last more more' f (Forced y) h =
-    let parts = and_parts (not (n (neg_ℤ y))) _ h in
-    and_from _ _ parts.0 (f (with_literal (neg_ℤ y) n) parts.1)
-strict_effect-more n last more more' f NotUnit h = h
+-- an exact refutation closes
+module _ (live : Live) (n : FalseSet) (hints : List ℕ) (more more' : FalseSet → Bool)
+    (f : (m : FalseSet) → more m ≡ true → more' m ≡ true) where
+  strict_effect : (clause : List ℤ) (e : Effect) → is_exact_effect live clause hints n more e ≡ true
+      → is_strict_effect n (is_empty hints) more' e ≡ true
+  strict_effect clause Conflict h = h
+  strict_effect clause (Forced y) h =
+      let parts = and_parts (not (n (neg_ℤ y))) _ h in
+      let rest = and_parts (is_held live hints (neg_ℤ y)) _ parts.1 in
+      and_from _ _ parts.0 (f (with_literal (neg_ℤ y) n) (and_parts (is_direct live clause y) _ rest.1).1)
+  strict_effect clause NotUnit h = h
 
-strict_hint-more : (n : FalseSet) (last : Bool) (more more' : FalseSet → Bool) → ((m : FalseSet) → more m ≡ true → more' m ≡ true)
-    → (o : Option (List ℤ)) → is_strict_hint n last more o ≡ true → is_strict_hint n last more' o ≡ true
-strict_hint-more n last more more' f None h = h
-strict_hint-more n last more more' f (Some clause) h = strict_effect-more n last more more' f (effect n clause) h
+  strict_hint : (o : Option (List ℤ)) → is_exact_hint live hints n more o ≡ true → is_strict_hint n (is_empty hints) more' o ≡ true
+  strict_hint None h = h
+  strict_hint (Some clause) h = strict_effect clause (effect n clause) h
 
-strict-front : (live : Live) (n : FalseSet) (hints : List ℕ) → is_strict live n hints ≡ true → is_strict_front live n hints ≡ true
-strict-front live n [] h = refl
-strict-front live n (hint ∷ hints) h =
-    strict_hint-more n (is_empty hints) (λ m. is_strict live m hints) (λ m. is_strict_front live m hints)
-    (λ m s. strict-front live m hints s) (clause_at live hint) h
+exact-strict : (live : Live) (n : FalseSet) (hints : List ℕ) → is_exact live n hints ≡ true → is_strict live n hints ≡ true
+exact-strict live n [] h = h
+exact-strict live n (hint ∷ hints) h =
+    strict_hint live n hints (λ m. is_exact live m hints) (λ m. is_strict live m hints) (λ m e. exact-strict live m hints e)
+    (clause_at live hint) h
+
+exact-closed : (live : Live) (n : FalseSet) (hints : List ℕ) → is_exact live n hints ≡ true → chain live n hints ≡ Closed
+exact-closed live n hints h = chain-strict live n hints (exact-strict live n hints h)
+
+exact-hints : (live : Live) (clause : List ℤ) (hints : List ℕ) (groups : List Group) → groups ≡ []
+    → is_exact live (literals_of clause) hints ≡ true → is_exact_line live clause hints groups ≡ true
+exact-hints live clause [] groups none h = cc
+exact-hints live clause (hint ∷ hints) groups none h = and_from _ _ h (ap is_empty none)
+
+exact-some : (live : Live) (n : FalseSet) (hints : List ℕ) → is_exact live n hints ≡ true → is_empty hints ≡ false
+exact-some live n [] h = cc
+exact-some live n (hint ∷ hints) h = refl
 
 -- hints refute the clause
 pub good-hints : (places : Places) (clause : List ℤ) (hints : List ℕ) (groups : List Group) → groups ≡ []
-    → CloseFrom places clause hints → IsGoodLine places clause hints groups
-good-hints places clause hints groups none close = record {
+    → has_quiet (standing places) clause ≡ false → CloseFrom places clause hints → IsGoodLine places clause hints groups
+good-hints places clause hints groups none clashes close = record {
   ids = close.ids;
   named = ap (list_all is_group) none;
   good = λ state id are greater.
       above state id clause hints groups greater
       (ap (fault_after_hints state.live clause groups)
-      (chain-strict state.live (literals_of clause) hints (close.strict state.live (literals_of clause) are (λ x. refl))));
-  strict = λ live are.
-      let strict = close.strict live (literals_of clause) are (λ x. refl) in
-      and_from _ _ (strict-front live (literals_of clause) hints strict)
-      (ap (are_strict_groups live clause groups) (chain-strict live (literals_of clause) hints strict) ∙ ap is_empty none);
+      (exact-closed state.live (literals_of clause) hints (close.exact state.live (literals_of clause) are (λ x. refl))));
+  exact = λ live are. exact-hints live clause hints groups none (close.exact live (literals_of clause) are (λ x. refl));
+  named_ids = ap ids_of none ∙ sym (ap (λ b. if b then ids_from (candidates_of places clause) else []) clashes);
+  by_hints = λ live are. exact-some live (literals_of clause) hints (close.exact live (literals_of clause) are (λ x. refl)) ∙ sym clashes;
 }
 
 both-none : (a b : Option Reason) → first_of_faults a b ≡ None → (a ≡ None) × (b ≡ None)
@@ -135,22 +151,45 @@ or-false true h = refl
 or-false false h = h
 
 -- what is said of the numbers seen, and of one more
-one-of : (number k : ℕ) (seen : List ℕ) → has_number number (k ∷ seen) ≡ true → (number ≡ k) ⊎ (has_number number seen ≡ true)
+one-of : (number k : ℕ) (seen : List ℕ) → has_number number (seen ++ k ∷ []) ≡ true → (number ≡ k) ⊎ (has_number number seen ≡ true)
 one-of number k seen h =
-    elim (or_cases (nat_eq number k) _ h) [
-      | inl here ↦ inl (exact_unsigned_eq number k here)
-      | inr later ↦ inr later
+    elim (or_cases (has_number number seen) _ (sym (list_any-append (nat_eq number) seen (k ∷ [])) ∙ h)) [
+      | inl earlier ↦ inr earlier
+      | inr last ↦ inl (exact_unsigned_eq number k (or-false (nat_eq number k) last))
     ]
+
+-- the numbers of the candidates among them
+module _ (places : Places) (pivot : ℤ) (number : ℕ) (seen : List ℕ) where
+  abbrev test : ℕ → Bool
+  test n = is_candidate_at pivot (place_at places n)
+
+  filter-last : filter test (seen ++ number ∷ []) ≡ filter test seen ++ cond (test number) (number ∷ []) []
+  filter-last = filter-append test seen (number ∷ [])
+
+  ids-free : (groups : List Group) → test number ≡ false → ids_of groups ≡ ids_from (filter test seen)
+      → ids_of groups ≡ ids_from (filter test (seen ++ number ∷ []))
+  ids-free groups fails is =
+      is ∙ sym (ap ids_from (filter-last ∙ ap (λ b. filter test seen ++ cond b (number ∷ []) []) fails ∙ append-nil (filter test seen)))
+
+  ids-group : (groups : List Group) (hints : List ℕ) → test number ≡ true → ids_of groups ≡ ids_from (filter test seen)
+      → ids_of (groups ++ record { id = number + 1; hints = hints } ∷ []) ≡ ids_from (filter test (seen ++ number ∷ []))
+  ids-group groups hints passes is =
+      map-append (λ (g : Group). g.id) groups (record { id = number + 1; hints = hints } ∷ [])
+      ∙ ap (λ (l : List ℕ). l ++ (number + 1) ∷ []) is
+      ∙ sym (map-append (λ n. n + 1) (filter test seen) (number ∷ []))
+      ∙ sym (ap ids_from (filter-last ∙ ap (λ b. filter test seen ++ cond b (number ∷ []) []) passes))
 
 -- no candidate stands under the number
 module _ (places : Places) (clause : List ℤ) (pivot : ℤ) (number : ℕ) (groups : List Group) where
-  fits-free : ((live : Live) → AreLive live places → is_candidate live pivot (number + 1) ≡ false)
+  fits-free : is_candidate_at pivot (place_at places number) ≡ false
+      → ((live : Live) → AreLive live places → is_candidate live pivot (number + 1) ≡ false)
       → FitOneMore places clause pivot number groups groups
-  fits-free free = record {
+  fits-free none free = record {
     fits = λ seen f. record {
       named = f.named;
       good = f.good;
-      strict = f.strict;
+      exact = f.exact;
+      ids = ids-free places pivot number seen groups none f.ids;
       settled = λ live are k has. elim (one-of k number seen has) [
         | inl here ↦ subst (λ (m : ℕ). is_settled live (literals_of clause) pivot groups (m + 1) ≡ true) (sym here)
             (settled-free (is_candidate live pivot (number + 1)) _ _ (free live are))
@@ -165,20 +204,23 @@ module _ (places : Places) (clause : List ℤ) (pivot : ℤ) (number : ℕ) (gro
   not-live false other fails = fails
 
   -- no clause, one that doesn't hold the pivot's negation, and a tautology
+  fits-place : (place : Place) → place_at places number ≡ place → is_candidate_at pivot place ≡ false
+      → FitOneMore places clause pivot number groups groups
+  fits-place place at fails =
+      fits-free (ap (is_candidate_at pivot) at ∙ fails)
+      (λ live are. ap (if_live (holds_negated pivot)) (are.same number ∙ ap plain at) ∙ fails)
+
   pub fits-none : place_at places number ≡ None → FitOneMore places clause pivot number groups groups
-  fits-none none = fits-free (λ live are. ap (if_live (holds_negated pivot)) (are.same number ∙ ap plain none))
+  fits-none none = fits-place None none refl
 
   pub fits-other : (other : List ℤ) → place_at places number ≡ Some other → holds_negated pivot other ≡ false
       → FitOneMore places clause pivot number groups groups
-  fits-other other at fails =
-      fits-free (λ live are.
-      ap (if_live (holds_negated pivot)) (are.same number ∙ ap plain at) ∙ not-live (is_tautology other) other fails)
+  fits-other other at fails = fits-place (Some other) at (not-live (is_tautology other) other fails)
 
   pub fits-tautology : (other : List ℤ) → place_at places number ≡ Some other → is_tautology other ≡ true
       → FitOneMore places clause pivot number groups groups
   fits-tautology other at taut =
-      fits-free (λ live are.
-      ap (if_live (holds_negated pivot)) (are.same number ∙ ap plain at ∙ ap (λ b. if b then None else Some other) taut))
+      fits-place (Some other) at (ap (λ b. if_live (holds_negated pivot) (if b then None else Some other)) taut)
 
 -- a candidate with its group
 module _ (places : Places) (clause : List ℤ) (pivot : ℤ) (number : ℕ) (other : List ℤ) (at : place_at places number ≡ Some other)
@@ -188,20 +230,22 @@ module _ (places : Places) (clause : List ℤ) (pivot : ℤ) (number : ℕ) (oth
 
   fits-group : is_group own ≡ true
       → ((live : Live) → AreLive live places → candidate_fault live (literals_of clause) pivot other hints ≡ None)
-      → ((live : Live) → AreLive live places → is_strict_candidate live (literals_of clause) pivot other hints ≡ true)
+      → ((live : Live) → AreLive live places → is_exact_candidate live (literals_of clause) pivot other hints ≡ true)
       → FitOneMore places clause pivot number groups (groups ++ own ∷ [])
-  fits-group ranged good strict = record {
+  fits-group ranged good exact = record {
     fits = λ seen f. record {
       named = list_all-append is_group groups (own ∷ []) ∙ and_from _ _ f.named (and_from _ _ ranged refl);
       good = λ live are.
           groups-last live (literals_of clause) pivot groups own (f.good live are)
           (ap (group_fault_at live (literals_of clause) pivot hints) (live-at live places are number other at plain)
           ∙ ap (λ b. if b then candidate_fault live (literals_of clause) pivot other hints else Some GroupStray) holds ∙ good live are);
-      strict = λ live are.
-          list_all-append (is_strict_group live (literals_of clause) pivot) groups (own ∷ [])
-          ∙ and_from _ _ (f.strict live are)
-          (and_from _ _ (ap (is_strict_group_at live (literals_of clause) pivot hints) (live-at live places are number other at plain)
-          ∙ strict live are) refl);
+      exact = λ live are.
+          list_all-append (is_exact_group live (literals_of clause) pivot) groups (own ∷ [])
+          ∙ and_from _ _ (f.exact live are)
+          (and_from _ _ (ap (is_exact_group_at live (literals_of clause) pivot hints) (live-at live places are number other at plain)
+          ∙ exact live are) refl);
+      ids = ids-group places pivot number seen groups hints
+          (ap (is_candidate_at pivot) at ∙ ap (λ b. if_live (holds_negated pivot) (if b then None else Some other)) plain ∙ holds) f.ids;
       settled = λ live are k has. elim (one-of k number seen has) [
         | inl here ↦ subst (λ (m : ℕ). is_settled live (literals_of clause) pivot (groups ++ own ∷ []) (m + 1) ≡ true) (sym here)
             (ap (λ b. not (is_candidate live pivot (number + 1)) || is_blocked live (literals_of clause) pivot (number + 1) || b)
@@ -220,7 +264,7 @@ module _ (places : Places) (clause : List ℤ) (pivot : ℤ) (number : ℕ) (oth
       (λ live are.
       ap (λ b. if b then None else outcome_fault (chain live (with_candidate (literals_of clause) pivot other) hints)) blocked)
       (λ live are.
-      ap (λ b. if b then is_empty hints else is_strict live (with_candidate (literals_of clause) pivot other) hints) blocked
+      ap (λ b. if b then is_empty hints else is_exact live (with_candidate (literals_of clause) pivot other) hints) blocked
       ∙ ap is_empty bare)
 
   -- the set of the chain has the clause's literals, and the candidate's others
@@ -238,8 +282,8 @@ module _ (places : Places) (clause : List ℤ) (pivot : ℤ) (number : ℕ) (oth
       fits-group (and_from _ _ id close.ids)
       (λ live are.
       either-none (is_blocked_by (literals_of clause) pivot other) (chain live n hints)
-      (chain-strict live n hints (close.strict live n are has-both)))
-      (λ live are. ap (λ b. if b then is_empty hints else is_strict live n hints) free ∙ close.strict live n are has-both)
+      (exact-closed live n hints (close.exact live n are has-both)))
+      (λ live are. ap (λ b. if b then is_empty hints else is_exact live n hints) free ∙ close.exact live n are has-both)
 
 in-filter : (p : ℤ → Bool) (xs : List ℤ) (x : ℤ) → literals_of (filter p xs) x ≡ true → (literals_of xs x ≡ true) × (p x ≡ true)
 in-filter p xs x m = let parts = and_parts (p x) (literals_of xs x) (sym (of-filter p xs x) ∙ m) in (parts.1, parts.0)
@@ -302,7 +346,7 @@ list-each p (x ∷ xs) each = and_from _ _ (each x) (list-each p xs each)
 module _ (places : Places) (clause others : List ℤ) (pivot : ℤ) (numbers : List ℕ) (groups : List Group)
     (fit : FitGroups places clause pivot numbers groups)
     (all : (number : ℕ) (other : List ℤ) → place_at places number ≡ Some other → holds_negated pivot other ≡ true
-    → has_number number numbers ≡ true) where
+    → has_number number numbers ≡ true) (rising : IsRising numbers) where
   settled-at : (live : Live) → AreLive live places → (id : ℕ) → is_settled live (literals_of clause) pivot groups id ≡ true
   settled-at live are zero =
       settled-free (is_candidate live pivot 0) _ _ (ap (if_live (holds_negated pivot)) are.none_at_zero)
@@ -324,19 +368,26 @@ module _ (places : Places) (clause others : List ℤ) (pivot : ℤ) (numbers : L
       ∙ ap (λ b. if b then None else Some CandidateOpen)
       (list-each (is_settled live (literals_of clause) pivot groups) (map.keys live) (settled-at live are))
 
-  strict-groups : clause ≡ pivot ∷ others → (live : Live) → AreLive live places → is_strict_line live clause [] groups ≡ true
-  strict-groups is live are =
-      subst (λ (c : List ℤ). are_strict_groups live c groups (Open (literals_of clause)) ≡ true) (sym is) (fit.strict live are)
+  exact-groups : clause ≡ pivot ∷ others → (live : Live) → AreLive live places → is_exact_line live clause [] groups ≡ true
+  exact-groups is live are =
+      ap (λ (c : List ℤ). are_exact_groups live c groups) is
+      ∙ ap (λ (c : List ℤ). list_all (is_exact_group live (literals_of c) pivot) groups) (sym is) ∙ fit.exact live are
 
-  pub good-groups : clause ≡ pivot ∷ others → IsGoodLine places clause [] groups
-  good-groups is = record {
+  pub good-groups : has_quiet (standing places) clause ≡ true → clause ≡ pivot ∷ others → IsGoodLine places clause [] groups
+  good-groups some is = record {
     ids = refl;
     named = fit.named;
     good = λ state id are greater.
         above state id clause [] groups greater
         (subst (λ (c : List ℤ). fault_after_hints state.live c groups (Open (literals_of clause)) ≡ None) (sym is)
         (no-resolvents state.live are));
-    strict = strict-groups is;
+    exact = exact-groups is;
+    named_ids = fit.ids
+        ∙ ap ids_from (all-candidates pivot places numbers rising
+        (λ k e. let of = candidate-of pivot (place_at places k) e in all k of.0 of.1 of.2)
+        ∙ sym (ap (candidates_of places) is))
+        ∙ sym (ap (λ b. if b then ids_from (candidates_of places clause) else []) some);
+    by_hints = λ live are. sym some;
   }
 
 -- nothing is seen yet
@@ -344,71 +395,24 @@ pub fits-start : (places : Places) (clause : List ℤ) (pivot : ℤ) → FitGrou
 fits-start places clause pivot = record {
   named = refl;
   good = λ live are. refl;
-  strict = λ live are. refl;
+  exact = λ live are. refl;
+  ids = refl;
   settled = λ live are number has. cc;
 }
 
 -- the numbers up to a place, and the one there
 pub fits-next : (places : Places) (clause : List ℤ) (pivot : ℤ) (numbers : List ℕ) (i k : ℕ) (groups : List Group) → i < length numbers
-    → k ≡ get_or numbers i k → FitGroups places clause pivot (k ∷ take i numbers) groups
+    → k ≡ get_or numbers i k → FitGroups places clause pivot (take i numbers ++ k ∷ []) groups
     → FitGroups places clause pivot (take (i + 1) numbers) groups
-fits-next places clause pivot numbers i k groups within at f = record {
-  named = f.named;
-  good = f.good;
-  strict = f.strict;
-  settled = λ live are number has.
-      let parts : (has_number number (take i numbers) || (nat_eq number (get_or numbers i k) || false)) ≡ true =
-      sym (list_any-append (nat_eq number) (take i numbers) (get_or numbers i k ∷ []))
-      ∙ ap (has_number number) (sym (take_more numbers i k within)) ∙ has in
-      f.settled live are number (elim (or_cases (has_number number (take i numbers)) _ parts) [
-        | inl earlier ↦ or_right (nat_eq number k) _ earlier
-        | inr here ↦ or_left _ _ (ap (nat_eq number) at ∙ or-false (nat_eq number (get_or numbers i k)) here)
-      ]);
-}
+fits-next places clause pivot numbers i k groups within at f =
+    subst (λ (l : List ℕ). FitGroups places clause pivot l groups)
+    (ap (λ n. take i numbers ++ n ∷ []) at ∙ sym (take_more numbers i k within)) f
 
 -- the number at a place, whatever stands for those that aren't there
 pub get_or-slice : (numbers : List ℕ) (i : ℕ) → i < length numbers → slice_index numbers i ≡ get_or numbers i (slice_index numbers i)
 get_or-slice numbers i within = get_or_default numbers i 0 (slice_index numbers i) within
 
--- what holds of the numbers up to a place, and of the one there
-pub each-next : (P : ℕ → Type 0) (numbers : List ℕ) (i k : ℕ) → i < length numbers → k ≡ get_or numbers i k
-    → ((n : ℕ) → has_number n (take i numbers) ≡ true → P n) → P k → (n : ℕ) → has_number n (take (i + 1) numbers) ≡ true → P n
-each-next P numbers i k within at before here n has =
-    let parts : (has_number n (take i numbers) || (nat_eq n (get_or numbers i k) || false)) ≡ true =
-    sym (list_any-append (nat_eq n) (take i numbers) (get_or numbers i k ∷ []))
-    ∙ ap (has_number n) (sym (take_more numbers i k within)) ∙ has in
-    elim (or_cases (has_number n (take i numbers)) _ parts) [
-      | inl earlier ↦ before n earlier
-      | inr last ↦ subst P (at ∙ sym (exact_unsigned_eq n (get_or numbers i k) (or-false (nat_eq n (get_or numbers i k)) last))) here
-    ]
-
--- each candidate has one of the numbers
-pub all-blocked : (places : Places) (clause : List ℤ) (pivot : ℤ) (numbers : List ℕ)
-    → ((number : ℕ) (other : List ℤ) → place_at places number ≡ Some other → holds_negated pivot other ≡ true
-    → has_number number numbers ≡ true)
-    → ((n : ℕ) → has_number n numbers ≡ true → IsPlaceBlocked clause pivot (place_at places n))
-    → (n : ℕ) → IsPlaceBlocked clause pivot (place_at places n)
-all-blocked places clause pivot numbers all each n =
-    elim (place_at places n) as (λ p. place_at places n ≡ p → IsPlaceBlocked clause pivot p) [
-      | None ↦ λ e. tt
-      | Some other ↦ λ e holds. subst (IsPlaceBlocked clause pivot) e (each n (all n other e holds)) holds
-    ] refl
-
 -- the first literal of a clause
 pub first-of : (clause : List ℤ) (x : ℤ) → 1 ≤ length clause → x ≡ get_or clause 0 x → (others : List ℤ) × (clause ≡ x ∷ others)
 first-of [] x some at = absurd (omega (arith, some))
 first-of (y ∷ ys) x some at = (ys, ap (λ z. z ∷ ys) (sym at))
-
-pub blocked-first : (places : Places) (clause : List ℤ) (pivot : ℤ) → 1 ≤ length clause → pivot ≡ get_or clause 0 pivot
-    → ((n : ℕ) → IsPlaceBlocked clause pivot (place_at places n)) → AreBlocked places clause
-blocked-first places [] pivot some at each = absurd (omega (arith, some))
-blocked-first places (y ∷ ys) pivot some at each = λ n. subst (λ (z : ℤ). IsPlaceBlocked (y ∷ ys) z (place_at places n)) at (each n)
-
-pub blocked-all : (places : Places) (clause : List ℤ) (pivot : ℤ) → 1 ≤ length clause → pivot ≡ get_or clause 0 pivot
-    → AreBlocked places clause → (n : ℕ) → IsPlaceBlocked clause pivot (place_at places n)
-blocked-all places [] pivot some at are = absurd are
-blocked-all places (y ∷ ys) pivot some at are = λ n. subst (λ (z : ℤ). IsPlaceBlocked (y ∷ ys) z (place_at places n)) (sym at) (are n)
-
-pub blocked-some : (places : Places) (clause : List ℤ) → length clause < 1 → AreBlocked places clause → ⊥
-blocked-some places [] none are = are
-blocked-some places (y ∷ ys) none are = absurd (omega (arith, none))

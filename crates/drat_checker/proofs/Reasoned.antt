@@ -1,13 +1,12 @@
--- The reasons of false literals stay as literals are put behind them and taken back, as clauses come, and as one goes that forces nothing.
+-- The reasons of false literals stay as literals are put behind them and taken back, and as clauses come.
 use Rattle.std.proofs.Common.{◌≡◌, ℕ, ◌+◌, Bool, true, false, cond, ℤ, pos, neg_ℤ, List, [], ◌∷◌, ◌++◌, length, take}
 use Rattle.std.proofs.Common.{get_or, set, Option, None, Some, inl, inr, refl, sym, ap, ◌∙◌, subst, arith, append_assoc, length-append}
 use Rattle.std.specs.List.{list_all}
 use Rattle.std.proofs.Math.ListN.{get_or-append}
-use Rattle.std.proofs.Math.Seq.{get_or-append_seam, get_or-set_other, take-append_seam}
+use Rattle.std.proofs.Math.Seq.{get_or-append_seam, take-append_seam}
 use Rattle.std.proofs.lemmas.Bool.{cases_lt}
 use Rattle.std.proofs.lemmas.List.{append-nil, take-append-le}
-use Rattle.lrat_rules.specs.declared.outcome.Effect.{Effect}
-use Rattle.lrat_rules.specs.declared.outcome.Effect.TheVariants.{Unit as Forced, NotUnit}
+use Rattle.lrat_rules.specs.declared.outcome.Effect.TheVariants.{Unit as Forced}
 use Rattle.lrat_rules.specs.Chain.{literals_of, effect}
 use Rattle.drat_checker.specs.declared.addition.Refutation.{Refutation}
 use Rattle.drat_checker.specs.declared.addition.Refutation.TheVariants.{Clash, Conflict}
@@ -16,8 +15,6 @@ use Rattle.drat_checker.specs.Propagation.{Extends, makes_false}
 use Rattle.drat_checker.specs.Trail.{Trail, cut, no_literals, with_reason}
 use Rattle.drat_checker.specs.Reasons.{AreFree, AreReasons, ClashesAt, IsFalsified, KeepsReasons, Refutes, is_reason, place_forces}
 use Rattle.drat_checker.proofs.FalseSets.{at_member, eq-int_eq}
-use Rattle.drat_checker.proofs.Derived.{not_unit-before}
-use Rattle.drat_checker.proofs.Settled.{front-false}
 use Rattle.drat_checker.proofs.Standing.{place-within}
 
 pub no-reasons : (places : Places) → AreReasons places [] no_literals
@@ -202,33 +199,4 @@ falsified-more places place literals number f = record {
   clause = f.clause;
   stands = get_or-append places (place ∷ []) None number (place-within places number f.clause f.stands) ∙ f.stands;
   falsified = f.falsified;
-}
-
--- a clause goes that forces nothing
-place-other : (places : Places) (gone number : ℕ) → (number ≡ gone → ⊥) → place_at (set places gone None) number ≡ place_at places number
-place-other places gone number apart = get_or-set_other places gone number None None apart
-
-forces-not : (x : ℤ) (e : Effect) → e ≡ NotUnit → makes_false x e ≡ true → ⊥
-forces-not x e is h = let f : makes_false x NotUnit ≡ true = ap (makes_false x) (sym is) ∙ h in cc
-
-reason-emptied : (places : Places) (gone : ℕ) (own assumed front : List ℤ) (x : ℤ) (reason : Option ℕ) → place_at places gone ≡ Some own
-    → effect (literals_of front) own ≡ NotUnit → is_reason places assumed front x reason ≡ true
-    → is_reason (set places gone None) assumed front x reason ≡ true
-reason-emptied places gone own assumed front x None at e is = is
-reason-emptied places gone own assumed front x (Some number) at e is =
-    ap (place_forces front x) (place-other places gone number (λ same.
-    forces-not x (effect (literals_of front) own) e
-    (ap (place_forces front x) (sym (ap (place_at places) same ∙ at)) ∙ is)))
-    ∙ is
-
-pub reasons-emptied : (places : Places) (gone : ℕ) (own assumed : List ℤ) (trail : Trail) → place_at places gone ≡ Some own
-    → effect (literals_of trail.literals) own ≡ NotUnit → AreReasons places assumed trail
-    → AreReasons (set places gone None) assumed trail
-reasons-emptied places gone own assumed trail at e r = record {
-  many = r.many;
-  reason = λ k within. reason-emptied places gone own assumed (take k trail.literals) (get_or trail.literals k (pos 0))
-      (get_or trail.reasons k None) at
-      (not_unit-before (literals_of (take k trail.literals)) (literals_of trail.literals)
-      (record { includes = λ x m. front-false trail.literals k x m }) own e)
-      (r.reason k within);
 }

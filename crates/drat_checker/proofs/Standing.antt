@@ -2,7 +2,7 @@
 use Rattle.std.proofs.Common.{◌≡◌, ℕ, zero, suc, ◌<◌, ◌≤◌, true, false, ℤ, List, [], ◌∷◌, ◌++◌, length, map, set, None, Some, if◌then◌else◌}
 use Rattle.std.proofs.Common.{Bool, ◌⊎◌, inl, inr, refl, sym, ap, ◌∙◌, subst, arith}
 use Rattle.std.specs.List.{list_all, list_any}
-use Rattle.std.proofs.lemmas.Bool.{and_from, and_parts, or_cases, or_left, or_right, both_ways}
+use Rattle.std.proofs.lemmas.Bool.{and_from, and_parts, or_cases, or_left, or_right}
 use Rattle.std.proofs.lemmas.Bool.Decides.{Decides-int_eq}
 use Rattle.std.proofs.lemmas.Slice.Eq.{slice_eq-Decides}
 use Rattle.drat_rules.specs.Clauses.{Equality, same_list, is_among, without_first_by}
@@ -111,23 +111,7 @@ without-none same (Some d ∷ ps) c none =
     ap (λ b. if b then standing ps else d ∷ without_first_by same c (standing ps)) (none zero d refl)
     ∙ ap (λ l. d ∷ l) (without-none same ps c (λ m e is. none (suc m) e is))
 
--- a place is emptied: what another clause passes is passed still, and what each passes each does
-pub any-emptied : (p : List ℤ → Bool) (ps : Places) (n : ℕ) (own : List ℤ) → place_at ps n ≡ Some own → p own ≡ false
-    → list_any p (standing ps) ≡ true → list_any p (standing (set ps n None)) ≡ true
-any-emptied p [] n own at fails any = cc
-any-emptied p (None ∷ ps) zero own at fails any = cc
-any-emptied p (None ∷ ps) (suc n) own at fails any = any-emptied p ps n own at fails any
-any-emptied p (Some d ∷ ps) zero own at fails any =
-    elim (or_cases (p d) _ any) [
-      | inl here ↦ absurd (both_ways (p d) (ap p (same_inside d own at) ∙ fails) here)
-      | inr later ↦ later
-    ]
-any-emptied p (Some d ∷ ps) (suc n) own at fails any =
-    elim (or_cases (p d) _ any) [
-      | inl here ↦ or_left _ _ here
-      | inr later ↦ or_right (p d) _ (any-emptied p ps n own at fails later)
-    ]
-
+-- a place is emptied: what each passes each does
 pub all-emptied : (p : List ℤ → Bool) (ps : Places) (n : ℕ) → list_all p (standing ps) ≡ true
     → list_all p (standing (set ps n None)) ≡ true
 all-emptied p [] n all = all

@@ -1,11 +1,12 @@
 -- What a trail holds as literals are put at its end and taken back.
-use Rattle.std.proofs.Common.{◌≡◌, ℕ, ◌+◌, ◌-◌, Bool, true, false, not, ◌||◌, ◌&&◌, ℤ, List, [], ◌∷◌, ◌++◌, length, take}
-use Rattle.std.proofs.Common.{drop, int_eq, inl, inr, refl, sym, ap, ◌∙◌, arith, length-append}
-use Rattle.std.proofs.lemmas.Bool.{cases_lt}
+use Rattle.std.proofs.Common.{◌≡◌, ℕ, zero, suc, ◌+◌, ◌-◌, ◌<◌, Bool, true, false, not, ◌||◌, ◌&&◌, ℤ, pos, List, [], ◌∷◌, ◌++◌, length}
+use Rattle.std.proofs.Common.{take, drop, get_or, int_eq, inl, inr, refl, sym, ap, ◌∙◌, subst, arith, length-append}
+use Rattle.std.proofs.lemmas.Bool.{both_ways, cases_eq, cases_lt, false_from_ne_true, or_cases, or_left, or_right}
 use Rattle.std.proofs.lemmas.List.{take-take, take-append-drop, take-append-le, drop-append-le, drop-take, drop_all, length-take}
 use Rattle.std.proofs.lemmas.List.Folds.{list_any-append}
 use Rattle.lrat_rules.specs.Chain.{literals_of}
-use Rattle.drat_checker.proofs.FalseSets.{int_eq-true}
+use Rattle.drat_checker.specs.Trail.{AreOnce, IsAt}
+use Rattle.drat_checker.proofs.FalseSets.{eq-int_eq, int_eq-true}
 
 or_turn : (a b : Bool) → (a || (b || false)) ≡ (b || a)
 or_turn true true = refl
@@ -96,3 +97,60 @@ pub front_left_over : (literals : List ℤ) (count : ℕ) → ((place : ℕ) (x 
 front_left_over literals count once x =
     ap (λ b. not (literals_of (drop count literals) x) && b) (parts literals count x)
     ∙ left (literals_of (take count literals) x) (literals_of (drop count literals) x) (once count x)
+
+-- the literal at a place isn't one of those before it
+at-place : (literals : List ℤ) (k : ℕ) → k < length literals → literals_of (drop k literals) (get_or literals k (pos 0)) ≡ true
+at-place [] k within = absurd (omega (arith, within))
+at-place (x ∷ xs) zero within = or_left _ _ (eq-int_eq x x refl)
+at-place (x ∷ xs) (suc k) within = at-place xs k (omega (arith, within))
+
+pub at-any : (literals : List ℤ) (k : ℕ) → k < length literals → literals_of literals (get_or literals k (pos 0)) ≡ true
+at-any literals k within =
+    ap (λ (l : List ℤ). literals_of l (get_or literals k (pos 0))) (sym (take-append-drop k literals))
+    ∙ list_any-append (int_eq (get_or literals k (pos 0))) (take k literals) (drop k literals)
+    ∙ or_right (literals_of (take k literals) (get_or literals k (pos 0))) _ (at-place literals k within)
+
+pub new-at : (literals : List ℤ) → AreOnce literals → (k : ℕ) → k < length literals
+    → literals_of (take k literals) (get_or literals k (pos 0)) ≡ false
+new-at literals once k within =
+    false_from_ne_true _ (λ there. both_ways _ (once.once k (get_or literals k (pos 0)) there) (at-place literals k within))
+
+-- a literal of a front
+pub at-front : (literals : List ℤ) (k count : ℕ) → k < count → k < length literals
+    → literals_of (take count literals) (get_or literals k (pos 0)) ≡ true
+at-front [] k count before within = absurd (omega (arith, within))
+at-front (x ∷ xs) k zero before within = absurd (omega (arith, before))
+at-front (x ∷ xs) zero (suc count) before within = or_left _ _ (eq-int_eq x x refl)
+at-front (x ∷ xs) (suc k) (suc count) before within =
+    or_right (int_eq (get_or xs k (pos 0)) x) _ (at-front xs k count (omega (arith, before)) (omega (arith, within)))
+
+-- each literal stands at a place, and at no other
+pub found-at : (literals : List ℤ) (x : ℤ) → literals_of literals x ≡ true → (k : ℕ) × IsAt literals x k
+found-at [] x m = cc
+found-at (y ∷ ys) x m =
+    elim (or_cases (int_eq x y) _ m) [
+      | inl here ↦ (0, record { within = omega arith; own = sym (int_eq-true x y here) })
+      | inr later ↦
+          let rest : (k : ℕ) × IsAt ys x k = found-at ys x later in
+          let within : rest.0 < length ys = rest.1.within in
+          (suc rest.0, record { within = omega (arith, within); own = rest.1.own })
+    ]
+
+not-before : (literals : List ℤ) → AreOnce literals → (x : ℤ) (j k : ℕ) → IsAt literals x j → IsAt literals x k → j < k → ⊥
+not-before literals once x j k first later lt =
+    both_ways (literals_of (take k literals) x)
+    (subst (λ (y : ℤ). literals_of (take k literals) y ≡ false) later.own (new-at literals once k later.within))
+    (subst (λ (y : ℤ). literals_of (take k literals) y ≡ true) first.own (at-front literals j k lt first.within))
+
+pub once-at : (literals : List ℤ) → AreOnce literals → (x : ℤ) (j k : ℕ) → IsAt literals x j → IsAt literals x k → j ≡ k
+once-at literals once x j k first later =
+    elim (cases_eq j k) [
+      | inl same ↦ same
+      | inr apart ↦ elim (cases_lt j k) [
+        | inl lt ↦ absurd (not-before literals once x j k first later lt)
+        | inr le ↦ elim (cases_eq k j) [
+          | inl same ↦ sym same
+          | inr other ↦ let lt : k < j = omega (arith, le, other) in absurd (not-before literals once x k j later first lt)
+        ]
+      ]
+    ]

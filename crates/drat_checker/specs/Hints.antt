@@ -7,13 +7,13 @@ use Rattle.std.specs.List.{list_any, list_all}
 use Rattle.cnf_base.specs.ProofText.{is_id}
 use Rattle.lrat_rules.specs.State.{Live, clause_at}
 use Rattle.lrat_rules.specs.Chain.{FalseSet, literals_of}
-use Rattle.lrat_rules.specs.Strict.{is_strict}
 use Rattle.drat_checker.specs.declared.flags.Flags.{Flags}
 use Rattle.drat_checker.specs.declared.hints.FirstConflict.{FirstConflict}
 use Rattle.drat_checker.specs.Flags.{is_set}
 use Rattle.drat_checker.specs.Places.{Place, Places, place_at}
 use Rattle.drat_checker.specs.Trail.{Trail}
-use Rattle.drat_checker.specs.Reasons.{AreFree, AreReasons}
+use Rattle.drat_checker.specs.Reasons.{AreByUnits, AreFree, AreReasons}
+use Rattle.drat_checker.specs.Exact.{is_exact, is_held}
 
 -- a literal of the clause stands beside its negation
 abbrev pub is_tautology : List ℤ → Bool
@@ -49,6 +49,12 @@ pub record IsFirstConflict (places : Places) (literals assumed : List ℤ) (firs
   pub conflict : IsConflict places (take first.count literals) assumed first.number
   pub free : AreFree (take first.count literals) assumed
 
+-- the literal at a place is the negation of one that is given, and none before it is
+pub record IsFirstOpposed (literals given : List ℤ) (place : ℕ) : Type 0 where
+  pub within : place < length literals
+  pub negation : literals_of given (neg_ℤ (slice_index_or literals place (pos 0))) ≡ true
+  pub free : AreFree (take place literals) given
+
 -- no literal is the negation of one that is given
 pub record NoneClashes (trail : Trail) (given : List ℤ) : Type 0 where
   pub none : AreFree trail.literals given
@@ -67,6 +73,12 @@ pub record IsFirstClash (trail : Trail) (given : List ℤ) (first : FirstConflic
   pub reason : slice_index_or trail.reasons first.count None ≡ Some first.number
   pub free : AreFree (take first.count trail.literals) given
 
+-- the clause of this number has the literal
+pub record IsHeldAt (places : Places) (number : ℕ) (x : ℤ) : Type 0 where
+  pub clause : List ℤ
+  pub stands : place_at places number ≡ Some clause
+  pub own : literals_of clause x ≡ true
+
 -- the literal at a place isn't given, and was forced by the clause of this number
 pub record IsForcedAt (trail : Trail) (given : List ℤ) (place number : ℕ) : Type 0 where
   pub new : literals_of given (slice_index_or trail.literals place (pos 0)) ≡ false
@@ -80,19 +92,22 @@ untaken first trail taken x = literals_of (take first.count trail.literals) x &&
 pub record IsStart (places : Places) (trail : Trail) (given assumed : List ℤ) (first : FirstConflict) : Type 0 where
   pub same : HasSame given assumed
   pub reasons : AreReasons places assumed trail
+  pub units : AreByUnits places places trail
   pub conflict : IsFirstConflict places trail.literals assumed first
 
--- The hints are numbers in their range, and a strict refutation of what is assumed.
+-- The hints are numbers in their range, and an exact refutation of what is assumed.
 pub record Refute (places : Places) (trail : Trail) (given : List ℤ) (first : FirstConflict) (hints : List ℕ) : Type 0 where
   pub ids : list_all is_id hints ≡ true
-  pub strict : (live : Live) (assumed : List ℤ) (n : FalseSet) → AreLive live places → IsStart places trail given assumed first
-      → ((x : ℤ) → n x ≡ literals_of assumed x) → is_strict live n hints ≡ true
+  pub exact : (live : Live) (assumed : List ℤ) (n : FalseSet) → AreLive live places → IsStart places trail given assumed first
+      → ((x : ℤ) → n x ≡ literals_of assumed x) → is_exact live n hints ≡ true
 
 -- So are these, found from the conflict back, from each set that has besides no literals but those that are left, and of these all that are
--- needed.
+-- needed. What is needed stands in one of their clauses.
 pub record RefuteSoFar (places : Places) (trail : Trail) (given : List ℤ) (first : FirstConflict) (left needed : FalseSet)
     (found : List ℕ) : Type 0 where
   pub ids : list_all is_id found ≡ true
-  pub strict : (live : Live) (assumed : List ℤ) (n : FalseSet) → AreLive live places → IsStart places trail given assumed first
+  pub held : (live : Live) (assumed : List ℤ) → AreLive live places → IsStart places trail given assumed first → (x : ℤ)
+      → needed x ≡ true → is_held live (reverse found) x ≡ true
+  pub exact : (live : Live) (assumed : List ℤ) (n : FalseSet) → AreLive live places → IsStart places trail given assumed first
       → list_all n assumed ≡ true → ((x : ℤ) → left x ≡ true → needed x ≡ true → n x ≡ true)
-      → ((x : ℤ) → n x ≡ true → (literals_of assumed x || left x) ≡ true) → is_strict live n (reverse found) ≡ true
+      → ((x : ℤ) → n x ≡ true → (literals_of assumed x || left x) ≡ true) → is_exact live n (reverse found) ≡ true

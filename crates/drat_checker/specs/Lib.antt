@@ -6,7 +6,7 @@ pub mod Trail
 pub mod Propagation
 pub mod Reasons
 pub mod Hints
-pub mod Strict
+pub mod Exact
 pub mod Lines
 pub mod Database
 pub mod Watches

@@ -52,3 +52,7 @@ pub record IsNone (same : Equality) (clause : List ℤ) (places : Places) : Type
 abbrev pub lesser : Option ℕ → ℕ → Option ℕ
 lesser None number = Some number
 lesser (Some least) number = Some (min least number)
+
+abbrev pub lesser_of : Option ℕ → Option ℕ → Option ℕ
+lesser_of least None = least
+lesser_of least (Some number) = lesser least number

@@ -1,7 +1,10 @@
 -- False literals in the order in which they became false, each once, none beside its negation, and the flags that tell which they are; and
 -- for each of them why it is false.
-use Rattle.std.specs.Prelude.{◌≡◌, ℕ, true, false, ℤ, neg_ℤ, List, [], ◌∷◌, ◌++◌, Option, length, take, drop, if◌then◌else◌}
+use Rattle.std.specs.Prelude.{◌≡◌, ℕ, ◌<◌, true, false, ℤ, pos, neg_ℤ, List, [], ◌∷◌, ◌++◌, Option, Some, length, take, drop, set}
+use Rattle.std.specs.Prelude.{if◌then◌else◌, slice_index_or}
 use Rattle.drat_checker.specs.declared.flags.Flags.{Flags}
+use Rattle.lrat_rules.specs.declared.by_literal.ByLiteral.{ByLiteral}
+use Rattle.lrat_rules.specs.ByLiteral.{entry}
 use Rattle.lrat_rules.specs.Chain.{literals_of}
 use Rattle.drat_checker.specs.Flags.{is_set}
 
@@ -22,6 +25,15 @@ with_reason literal reason trail =
       reasons = trail.reasons ++ reason ∷ [];
     }
 
+-- the literal at a place is false by the clause of this number
+abbrev pub with_other_reason : ℕ → ℕ → Trail → Trail
+with_other_reason place number trail = record { literals = trail.literals; reasons = set trail.reasons place (Some number) }
+
+-- the literal stands at this place
+pub record IsAt (literals : List ℤ) (literal : ℤ) (place : ℕ) : Type 0 where
+  pub within : place < length literals
+  pub own : slice_index_or literals place (pos 0) ≡ literal
+
 -- the first ones
 abbrev pub cut : ℕ → Trail → Trail
 cut count trail = record { literals = take count trail.literals; reasons = take count trail.reasons }
@@ -34,10 +46,15 @@ pub record IsApart (literals : List ℤ) : Type 0 where
 pub record AreOnce (literals : List ℤ) : Type 0 where
   pub once : (place : ℕ) (x : ℤ) → literals_of (take place literals) x ≡ true → literals_of (drop place literals) x ≡ false
 
+-- each literal has its place at hand
+pub record ArePlaced (at : ByLiteral ℕ) (literals : List ℤ) : Type 0 where
+  pub placed : (place : ℕ) → place < length literals → entry at (slice_index_or literals place (pos 0)) ≡ Some place
+
 -- The flags that are set are those of the literals, none stands beside its negation, and none that stands before a place stands behind it.
--- Each has its reason.
-pub record IsFalseList (flags : Flags) (literals : List ℤ) (reasons : List (Option ℕ)) : Type 0 where
+-- Each has its reason, and its place at hand.
+pub record IsFalseList (flags : Flags) (at : ByLiteral ℕ) (literals : List ℤ) (reasons : List (Option ℕ)) : Type 0 where
   pub apart : IsApart literals
   pub flagged : (x : ℤ) → is_set flags x ≡ literals_of literals x
   pub once : (place : ℕ) (x : ℤ) → literals_of (take place literals) x ≡ true → literals_of (drop place literals) x ≡ false
   pub many : length reasons ≡ length literals
+  pub placed : ArePlaced at literals

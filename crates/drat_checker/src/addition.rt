@@ -1,5 +1,5 @@
 // Whether an addition is good, by what propagation finds from its clause, and together with each candidate. The roots are false before.
-ghost use Rattle.std.specs.Prelude.{◌≡◌, ◌∷◌, ◌++◌, [], ℤ, List, not, false, None, Some, IsTrue, is_some, OnOk, IfOk, IfSome, IsSome};
+ghost use Rattle.std.specs.Prelude.{◌≡◌, ◌∷◌, ◌++◌, [], ℤ, List, not, false, true, None, Some, IsTrue, is_some, OnOk, IfOk, IfSome, IsSome};
 ghost use Rattle.std.specs.List.{list_all};
 ghost use Rattle.std.specs.Option.{option_map};
 ghost use Rattle.lrat_rules.specs.Chain.{literals_of};
@@ -9,7 +9,7 @@ ghost use Rattle.drat_rules.specs.Addition.{others_of, passes_candidate, drat_fa
 ghost use Rattle.drat_checker.specs.declared.addition.Refutation.TheVariants.{Conflict};
 ghost use Rattle.drat_checker.specs.Places.{Places, place_at, standing};
 ghost use Rattle.drat_checker.specs.Propagation.{Clashes, Extends, HasAlso, SameQuiet, candidates_fault, fault_under, place_passes};
-ghost use Rattle.drat_checker.specs.Reasons.{AreAssumed, AreReasons, ClashesAt, IsFalsified, KeepsReasons, Refutes};
+ghost use Rattle.drat_checker.specs.Reasons.{AreAssumed, AreByUnits, AreReasons, ClashesAt, IsFalsified, KeepsReasons, Refutes};
 ghost use Rattle.drat_checker.specs.Hints.{is_tautology};
 ghost use Rattle.drat_checker.specs.Lines.{FitOneMore, IsGoodLine};
 ghost use Rattle.drat_checker.specs.Watches.{AreWatched, IsSettled, MovesWatches};
@@ -57,6 +57,7 @@ pub fn addition_fault(
     propagation_law();
     let roots = trail.len();
     let refutation = refute(db, kept, trail, clause)?;
+    trail.once_law();
     if let Some(found) = refutation {
         line.note_refutation(db, trail, clause, found)?;
         trail.truncate(roots);
@@ -83,7 +84,7 @@ fn fault_under(
     ensures fault { IfOk result (λ fault. fault ≡ fault_under (standing db.now) trail.old.literals clause.now) }
     ensures wanted { line.new.is_wanted ≡ line.old.is_wanted }
     ensures line { IfOk result (λ fault. fault ≡ None → IsTrue line.old.is_wanted → is_tautology clause.now ≡ false
-        → IsGoodLine db.now clause.now line.new.hints line.new.groups) }
+        → has_quiet (standing db.now) clause.now ≡ true → IsGoodLine db.now clause.now line.new.hints line.new.groups) }
     ensures same { OnOk result (trail.new ≡ trail.old) }
     ensures watched { OnOk result (AreWatched kept.new db.now) }
     ensures moves { OnOk result (MovesWatches kept.old.pairs.items kept.new.pairs.items trail.old.literals) }
@@ -110,6 +111,7 @@ fn candidates_fault(
     ensures wanted { line.new.is_wanted ≡ line.old.is_wanted }
     ensures hints { line.new.hints ≡ line.old.hints }
     ensures line { IfOk result (λ fault. fault ≡ None → IsTrue line.old.is_wanted → is_tautology clause.now ≡ false
+        → has_quiet (standing db.now) clause.now ≡ true
         → (others : List ℤ) → clause.now ≡ pivot ∷ others → IsGoodLine db.now clause.now [] line.new.groups) }
     ensures same { OnOk result (trail.new ≡ trail.old) }
     ensures watched { OnOk result (AreWatched kept.new db.now) }
@@ -193,6 +195,7 @@ fn all_pass(
     ensures wanted { line.new.is_wanted ≡ line.old.is_wanted }
     ensures hints { line.new.hints ≡ line.old.hints }
     ensures line { IfOk result (λ pass. IsTrue pass → IsTrue line.old.is_wanted → is_tautology clause.now ≡ false
+        → has_quiet (standing db.now) clause.now ≡ true
         → (others : List ℤ) → clause.now ≡ pivot ∷ others → IsGoodLine db.now clause.now [] line.new.groups) }
     ensures same { OnOk result (trail.new ≡ trail.old) }
     ensures watched { OnOk result (AreWatched kept.new db.now) }
@@ -267,6 +270,7 @@ fn passes(
     let count = trail.len();
     let refutation = refute_candidate(db, kept, trail, pivot, other)?;
     trail.apart_law();
+    trail.once_law();
     note_candidate(db, trail, line, clause, pivot, number, other, refutation)?;
     trail.truncate(count);
     Ok(refutation.is_some())
@@ -288,7 +292,7 @@ fn note_candidate(
     ensures wanted { line.new.is_wanted ≡ line.old.is_wanted }
     ensures hints { line.new.hints ≡ line.old.hints }
     ensures fits { OnOk result (IsSome refutation → IsTrue line.old.is_wanted → is_tautology clause.now ≡ false
-        → AreReasons db.now (clause.now ++ others_of pivot other.now) trail.now
+        → AreReasons db.now (clause.now ++ others_of pivot other.now) trail.now → AreByUnits db.now db.now trail.now
         → IfSome refutation (Refutes db.now trail.now (clause.now ++ others_of pivot other.now))
         → FitOneMore db.now clause.now pivot number line.old.groups line.new.groups) }
 {

@@ -1,14 +1,13 @@
-// Additions that need no propagation: each candidate has a literal besides the pivot's negation whose negation is in the added clause.
-// (Such a clause is blocked: Järvisalo, Biere, Heule: Blocked Clause Elimination, TACAS 2010.) Definitions of extension variables are of
-// this kind.
-ghost use Rattle.std.specs.Prelude.{◌≡◌, ◌++◌, ℕ, ℤ, List, None, Some, IsTrue};
+// Additions that need no propagation where no hints are wanted: each candidate has a literal besides the pivot's negation whose negation is
+// in the added clause. (Such a clause is blocked: Järvisalo, Biere, Heule: Blocked Clause Elimination, TACAS 2010.) Definitions of extension
+// variables are of this kind.
+ghost use Rattle.std.specs.Prelude.{◌≡◌, ◌++◌, ℤ, List, None, IsTrue};
 ghost use Rattle.std.specs.List.{list_all};
 ghost use Rattle.lrat_rules.specs.Chain.{literals_of};
 ghost use Rattle.lrat_rules.specs.Addition.{is_blocked_by};
 ghost use Rattle.drat_rules.specs.Addition.{drat_fault, others_of, passes_candidate};
 ghost use Rattle.drat_checker.specs.Places.{place_at, standing};
 ghost use Rattle.drat_checker.specs.Propagation.{Clashes, place_passes};
-ghost use Rattle.drat_checker.specs.Lines.{AreBlocked, IsPlaceBlocked};
 
 use crate::addition::holds_negated;
 use crate::database::Database;
@@ -21,8 +20,7 @@ const MOST_NUMBERS: usize = 8;
 
 /// Whether the addition of a clause is good by the literals of its few candidates alone.
 pub fn is_blocked(db: &Database, clause: &[Lit]) -> bool
-    ensures good { IsTrue result → drat_fault (standing db.now) clause.now ≡ None }
-    ensures blocked { IsTrue result → AreBlocked db.now clause.now }
+    ensures { IsTrue result → drat_fault (standing db.now) clause.now ≡ None }
 {
     match clause {
         [] => false,
@@ -31,8 +29,7 @@ pub fn is_blocked(db: &Database, clause: &[Lit]) -> bool
 }
 
 fn all_blocked(db: &Database, pivot: Lit, clause: &[Lit]) -> bool
-    ensures good { IsTrue result → IsTrue (list_all (passes_candidate (standing db.now) pivot clause.now) (standing db.now)) }
-    ensures blocked { IsTrue result → (number : ℕ) → IsPlaceBlocked clause.now pivot (place_at db.now number) }
+    ensures { IsTrue result → IsTrue (list_all (passes_candidate (standing db.now) pivot clause.now) (standing db.now)) }
 {
     let numbers = db.numbers(pivot.negated());
     if numbers.len() > MOST_NUMBERS {
@@ -49,8 +46,7 @@ fn all_blocked(db: &Database, pivot: Lit, clause: &[Lit]) -> bool
 
 // Whether the clause of a number is blocked, where it stands.
 fn is_number_blocked(db: &Database, pivot: Lit, clause: &[Lit], number: u32) -> bool
-    ensures good { IsTrue result → (clauses : List (List ℤ)) → IsTrue (place_passes clauses pivot clause.now (place_at db.now number)) }
-    ensures blocked { IsTrue result → IsPlaceBlocked clause.now pivot (place_at db.now number) }
+    ensures { IsTrue result → (clauses : List (List ℤ)) → IsTrue (place_passes clauses pivot clause.now (place_at db.now number)) }
 {
     match db.clause(number) {
         None => true,
@@ -60,8 +56,7 @@ fn is_number_blocked(db: &Database, pivot: Lit, clause: &[Lit], number: u32) -> 
 
 // Whether the clause is no candidate, or clashes with the added one.
 fn is_blocked_by(pivot: Lit, clause: &[Lit], other: &[Lit]) -> bool
-    ensures good { IsTrue result → (clauses : List (List ℤ)) → IsTrue (passes_candidate clauses pivot clause.now other.now) }
-    ensures blocked { IsTrue result → IsPlaceBlocked clause.now pivot (Some other.now) }
+    ensures { IsTrue result → (clauses : List (List ℤ)) → IsTrue (passes_candidate clauses pivot clause.now other.now) }
 {
     quiet_law();
     let holds = holds_negated(other, pivot);

@@ -6,7 +6,7 @@ ghost use Rattle.lrat_rules.specs.ByLiteral.{place_of};
 ghost use Rattle.lrat_rules.specs.Chain.{literals_of};
 ghost use Rattle.drat_rules.specs.Clauses.{equality_of};
 ghost use Rattle.drat_checker.specs.Places.{IsFirst, IsNone, place_at};
-ghost use Rattle.drat_checker.specs.Numbers.{KeepsNumbers, KeepsStanding, KeepsLists, KeepsStandingLists, has_number};
+ghost use Rattle.drat_checker.specs.Numbers.{IsRising, KeepsLists, KeepsNumbers, KeepsRising, KeepsStanding, KeepsStandingLists, has_number};
 ghost use Rattle.drat_checker.specs.Database.{IsHeld, greatest, hash_of, is_short, joined};
 
 use crate::number_lists::NumberLists;
@@ -83,10 +83,11 @@ impl Database {
         self.store.next()
     }
 
-    /// Numbers, among them those of all clauses that hold a literal.
+    /// Numbers that rise, among them those of all clauses that hold a literal.
     pub fn numbers(&self, literal: Lit) -> &[u32]
-        ensures { (number : ℕ) (clause : List ℤ) → place_at self.now number ≡ Some clause → IsTrue (literals_of clause literal)
+        ensures all { (number : ℕ) (clause : List ℤ) → place_at self.now number ≡ Some clause → IsTrue (literals_of clause literal)
             → IsTrue (has_number number result.now) }
+        ensures rising { IsRising result.now }
     {
         self.by_literal.numbers(key_of(literal))
     }
@@ -99,8 +100,9 @@ impl Database {
         self.short.as_slice()
     }
 
-    /// Puts a clause behind the others. A refusal changes nothing.
-    pub fn push(&mut self, clause: &[Lit]) -> Result<(), OutOfMemory>
+    /// Puts a clause behind the others. The answer is its number. A refusal changes nothing.
+    pub fn push(&mut self, clause: &[Lit]) -> Result<u32, OutOfMemory>
+        ensures number { IfOk result (λ number. number ≡ length self.old) }
         ensures ok { OnOk result (self.new ≡ self.old ++ Some clause.now ∷ []) }
         ensures err { OnErr result (self.new ≡ self.old) }
     {
@@ -109,7 +111,7 @@ impl Database {
         self.by_hash.enter(self.alloc, hash_of(clause), number)?;
         enter_short(&mut self.short, number, clause)?;
         self.store.push(clause)?;
-        Ok(())
+        Ok(number)
     }
 
     /// The number of the first clause that is told to be this one, where there is one.
@@ -192,6 +194,7 @@ fn enter_literals(
 ) -> Result<(), OutOfMemory>
     ensures kept { KeepsLists by_literal.old by_literal.new }
     ensures held { OnOk result (IsHeld by_literal.new number clause.now) }
+    ensures rising { KeepsRising number by_literal.old by_literal.new }
 {
     for literal in clause {
         by_literal.enter(alloc, key_of(*literal), number)?;
@@ -200,15 +203,16 @@ fn enter_literals(
 }
 
 fn leave_literals(by_literal: &mut NumberLists, store: &Store, clause: &[Lit])
-    ensures { KeepsStandingLists store.now by_literal.old by_literal.new }
+    ensures kept { KeepsStandingLists store.now by_literal.old by_literal.new }
+    ensures rising { (most : ℕ) → KeepsRising most by_literal.old by_literal.new }
 {
     for literal in clause {
         by_literal.leave(store, key_of(*literal));
     }
 }
 
-// Whether propagation finds something on the clause where no literal is false.
-fn is_short(clause: &[Lit]) -> bool
+/// Whether propagation finds something on the clause where no literal is false.
+pub fn is_short(clause: &[Lit]) -> bool
     ensures { result ≡ is_short clause.now }
 {
     match effect_on(&[], clause) {

@@ -1,16 +1,19 @@
 // The literals that are false while an addition is judged, in the order in which they became false, each once: the roots, those of the
 // clause, those of a candidate, and the negations of what is forced, these with the number of the clause that forced them. None stands
-// beside its negation. A flag tells of each literal whether it is one of them.
-ghost use Rattle.std.specs.Prelude.{◌≡◌, ◌<◌, ◌&&◌, ℤ, neg_ℤ, not, None, OnErr, IfOk, length, if◌then◌else◌, slice_index_or};
+// beside its negation. A flag tells of each literal whether it is one of them, and each has its place at hand.
+ghost use Rattle.std.specs.Prelude.{◌≡◌, ◌<◌, ◌&&◌, ℕ, ℤ, pos, neg_ℤ, not, false, None, Some, OnErr, OnOk, IfOk, IfSome, length};
+ghost use Rattle.std.specs.Prelude.{if◌then◌else◌, slice_index_or};
+ghost use Rattle.std.specs.Ordering.{int_eq};
+ghost use Rattle.lrat_rules.specs.ByLiteral.{entry};
 ghost use Rattle.lrat_rules.specs.Chain.{literals_of, effect};
 ghost use Rattle.lrat_rules.specs.Pass.{effect_of_forced, forced_with, agrees};
 ghost use Rattle.drat_checker.specs.Flags.{is_set, has_flag};
 ghost use Rattle.lrat_rules.specs.Trail.{with_last};
-ghost use Rattle.drat_checker.specs.Trail.{AreOnce, IsApart, cut, no_literals, with_reason};
+ghost use Rattle.drat_checker.specs.Trail.{AreOnce, IsApart, IsAt, cut, no_literals, with_other_reason, with_reason};
 
 use crate::flags::Flags;
 use cnf_base::{Lit, OutOfMemory};
-use lrat_rules::Effect;
+use lrat_rules::{ByLiteral, Effect};
 use std::alloc::Global;
 use std::marker::Model;
 
@@ -20,6 +23,7 @@ pub struct FalseList {
     literals: Vec<Lit>,
     reasons: Vec<Option<u32>>,
     flags: Flags,
+    at: ByLiteral<u32>,
 }
 
 impl Model for FalseList {
@@ -29,7 +33,7 @@ impl Model for FalseList {
 
     ghost view = { λ f. record { literals = f.literals.items; reasons = f.reasons.items } };
 
-    ghost invariant = { λ f. IsFalseList f.flags f.literals.items f.reasons.items };
+    ghost invariant = { λ f. IsFalseList f.flags f.at f.literals.items f.reasons.items };
 }
 
 impl FalseList {
@@ -40,6 +44,7 @@ impl FalseList {
             literals: Vec::new(alloc),
             reasons: Vec::new(alloc),
             flags: Flags::new(alloc),
+            at: ByLiteral::new(alloc),
         }
     }
 
@@ -74,6 +79,28 @@ impl FalseList {
         self.reasons[place]
     }
 
+    /// The place of a literal, where it is false.
+    pub fn place(&self, literal: Lit) -> Option<usize>
+        ensures found { IfSome result (IsAt self.now.literals literal) }
+        ensures none { result ≡ None → literals_of self.now.literals literal ≡ false }
+    {
+        if !self.flags.is_set(literal) {
+            return None;
+        }
+        match self.at.get(literal) {
+            None => None,
+            Some(place) => Some(place as usize),
+        }
+    }
+
+    /// The literal at a place is false by the clause of this number from now on.
+    pub fn set_reason(&mut self, place: usize, number: u32)
+        requires { place < length self.old.literals }
+        ensures { self.new ≡ with_other_reason place number self.old }
+    {
+        self.reasons[place] = Some(number);
+    }
+
     /// Makes a literal false, unless its negation is: then the answer is true, and nothing changes.
     #[inline(always)]
     pub fn falsify(&mut self, literal: Lit, reason: Option<u32>) -> Result<bool, OutOfMemory>
@@ -90,10 +117,13 @@ impl FalseList {
         if self.flags.is_set(literal) {
             return Ok(false);
         }
+        let place = place_behind(self.literals.as_slice())?;
         self.flags.reserve(literal)?;
         self.literals.reserve(1)?;
-        self.reasons.push(reason)?;
+        self.reasons.reserve(1)?;
+        put(&mut self.at, literal, place)?;
         self.literals.push_reserved(literal);
+        self.reasons.push_reserved(reason);
         self.flags.set(literal);
         Ok(false)
     }
@@ -139,6 +169,31 @@ impl FalseList {
     {
         let _len = self.literals.len();
     }
+}
+
+// The place behind these literals, while there are places.
+#[inline(always)]
+fn place_behind(literals: &[Lit]) -> Result<u32, OutOfMemory>
+    ensures { IfOk result (λ place. place ≡ length literals.now) }
+{
+    let len = literals.len();
+    if len > u32::MAX as usize {
+        return Err(OutOfMemory);
+    }
+    Ok(len as u32)
+}
+
+// The literal has this place from now on.
+#[inline(always)]
+fn put(at: &mut ByLiteral<u32>, literal: Lit, place: u32) -> Result<(), OutOfMemory>
+    ensures others { (x : ℤ) (k : ℕ) → int_eq x literal ≡ false → entry at.old x ≡ Some k → entry at.new x ≡ Some k }
+    ensures own { OnOk result (entry at.new literal ≡ Some place) }
+{
+    at.reserve(literal, 0)?;
+    if let Some(last) = at.get_mut(literal) {
+        *last = place;
+    }
+    Ok(())
 }
 
 /// Clears the flags of literals.

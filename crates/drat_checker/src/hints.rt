@@ -1,13 +1,13 @@
 // The hints that refute a clause in an LRAT proof: from the first conflict back over the literals that are false, the clauses that forced
-// those that are needed and aren't assumed.
+// those that are needed and aren't assumed, and no others.
 ghost use Rattle.std.specs.Prelude.{◌≡◌, ◌<◌, ◌≤◌, ◌+◌, ◌∷◌, ◌++◌, ◌⊎◌, [], ℤ, pos, List, None, Some, true, length, reverse, take, OnOk};
 ghost use Rattle.std.specs.Prelude.{IfOk, IfSome, IsTrue, IsFalse, false, not, ◌&&◌, ◌||◌, slice_index_or};
 ghost use Rattle.cnf_base.specs.ProofText.{is_id};
 ghost use Rattle.lrat_rules.specs.Chain.{literals_of};
-ghost use Rattle.drat_checker.specs.Places.{Places, place_at};
-ghost use Rattle.drat_checker.specs.Reasons.{AreReasons, Refutes};
+ghost use Rattle.drat_checker.specs.Places.{Places, lesser_of, place_at};
+ghost use Rattle.drat_checker.specs.Reasons.{AreFree, AreReasons, Refutes};
 ghost use Rattle.drat_checker.specs.Hints.{HasSame, IsFirstConflict, Refute, RefuteSoFar, is_tautology, untaken};
-ghost use Rattle.drat_checker.specs.Hints.{ClashesAssumed, IsFirstClash, IsForcedAt, NoneClashes};
+ghost use Rattle.drat_checker.specs.Hints.{ClashesAssumed, IsFirstClash, IsFirstOpposed, IsForcedAt, IsHeldAt, NoneClashes};
 
 use crate::addition::Refutation;
 use crate::database::Database;
@@ -51,14 +51,36 @@ fn first_clash(trail: &FalseList, given: &Marks) -> Option<FirstConflict>
     ensures clash { IfSome result (IsFirstClash trail.now given.now) }
     ensures none { result ≡ None → NoneClashes trail.now given.now ⊎ ClashesAssumed trail.now given.now }
 {
-    let count = trail.len();
-    for place in 0..count {
-        let clash = given.contains(trail.literal(place).negated());
-        if clash {
-            return by_reason(trail.reason(place), place);
-        }
+    match first_opposed(trail, given.as_slice()) {
+        None => None,
+        Some(place) => by_reason(trail.reason(place), place),
     }
-    None
+}
+
+// The place of the first literal whose negation is one of these.
+fn first_opposed(trail: &FalseList, given: &[Lit]) -> Option<usize>
+    ensures found { IfSome result (IsFirstOpposed trail.now.literals given.now) }
+    ensures none { result ≡ None → AreFree trail.now.literals given.now }
+{
+    trail.once_law();
+    let mut first = None;
+    for literal in given {
+        first = earlier(first, trail.place(literal.negated()));
+    }
+    first
+}
+
+// The lesser of two places, or the only one.
+fn earlier(first: Option<usize>, other: Option<usize>) -> Option<usize>
+    ensures { result ≡ lesser_of first other }
+{
+    match other {
+        None => first,
+        Some(place) => match first {
+            None => Some(place),
+            Some(least) => Some(least.min(place)),
+        },
+    }
 }
 
 fn by_reason(reason: Option<u32>, count: usize) -> Option<FirstConflict>
@@ -132,7 +154,7 @@ fn explain_by(
     Ok(whole)
 }
 
-// Takes one place, unless its clause needs a literal that was taken before.
+// Takes one place, unless its clause needs a literal that was taken before. A literal that isn't needed has no hint.
 fn take_at(
     db: &Database,
     trail: &FalseList,
@@ -155,6 +177,10 @@ fn take_at(
         return Ok(true);
     }
     taken.mark(literal)?;
+    let is_needed = needed.contains(literal);
+    if !is_needed {
+        return Ok(true);
+    }
     match forced_by(trail, given, place) {
         None => Ok(true),
         Some(number) => {
@@ -288,6 +314,7 @@ fn note(
     ensures kept { (x : ℤ) → literals_of needed.old x ≡ true → literals_of needed.new x ≡ true }
     ensures marked { OnOk result ((clause : List ℤ) → place_at db.now number ≡ Some clause → (x : ℤ) → literals_of clause x ≡ true
         → literals_of needed.new x ≡ true) }
+    ensures own { OnOk result ((x : ℤ) → literals_of needed.new x ≡ true → (literals_of needed.old x ≡ true) ⊎ IsHeldAt db.now number x) }
     ensures found { OnOk result (found.new ≡ found.old ++ (number + 1) ∷ []) }
     ensures id { IsTrue (is_id (number + 1)) }
 {
@@ -309,6 +336,7 @@ fn mark_number(db: &Database, needed: &mut Marks, number: u32) -> Result<(), Out
     ensures kept { (x : ℤ) → literals_of needed.old x ≡ true → literals_of needed.new x ≡ true }
     ensures marked { OnOk result ((clause : List ℤ) → place_at db.now number ≡ Some clause → (x : ℤ) → literals_of clause x ≡ true
         → literals_of needed.new x ≡ true) }
+    ensures own { OnOk result ((x : ℤ) → literals_of needed.new x ≡ true → (literals_of needed.old x ≡ true) ⊎ IsHeldAt db.now number x) }
 {
     match db.clause(number) {
         None => Ok(()),

@@ -8,11 +8,11 @@ ghost use Rattle.lrat_rules.specs.Addition.{holds_negated, is_blocked_by};
 ghost use Rattle.lrat_rules.specs.Chain.{literals_of};
 ghost use Rattle.drat_rules.specs.Addition.{others_of};
 ghost use Rattle.drat_checker.specs.Places.{Places, place_at};
-ghost use Rattle.drat_checker.specs.Reasons.{AreReasons, Refutes};
+ghost use Rattle.drat_checker.specs.Reasons.{AreByUnits, AreReasons, Refutes};
 ghost use Rattle.drat_checker.specs.Hints.{HasSame, is_tautology};
-ghost use Rattle.drat_checker.specs.Lines.{AreBlocked, Explain, FitOneMore, IsGoodLine, IsPlaceBlocked};
+ghost use Rattle.drat_checker.specs.Lines.{Explain, FitOneMore};
 
-use crate::addition::{Refutation, holds_negated};
+use crate::addition::Refutation;
 use crate::blocked::clashes;
 use crate::database::Database;
 use crate::false_list::FalseList;
@@ -53,6 +53,13 @@ impl LineHints {
             found: IdList::new(alloc),
             order: Order::new(alloc),
         }
+    }
+
+    /// Whether hints and groups are found.
+    pub fn is_wanted(&self) -> bool
+        ensures { result ≡ self.now.is_wanted }
+    {
+        self.is_wanted
     }
 
     /// The same for the next line.
@@ -137,7 +144,7 @@ impl LineHints {
         ensures wanted { self.new.is_wanted ≡ self.old.is_wanted }
         ensures hints { self.new.hints ≡ self.old.hints }
         ensures fits { OnOk result (IsTrue self.old.is_wanted → is_tautology clause.now ≡ false
-            → AreReasons db.now (clause.now ++ others_of pivot other.now) trail.now
+            → AreReasons db.now (clause.now ++ others_of pivot other.now) trail.now → AreByUnits db.now db.now trail.now
             → Refutes db.now trail.now (clause.now ++ others_of pivot other.now) refutation
             → FitOneMore db.now clause.now pivot number self.old.groups self.new.groups) }
     {
@@ -156,63 +163,6 @@ impl LineHints {
         let id = id_of(number);
         self.groups.push(Group { id, hints })?;
         Ok(())
-    }
-
-    /// The groups of a clause's candidates where all are blocked. They have no hints.
-    pub fn add_blocked(&mut self, db: &Database, clause: &[Lit]) -> Result<(), OutOfMemory>
-        requires blocked { AreBlocked db.now clause.now }
-        requires hints { self.old.hints ≡ [] }
-        requires groups { self.old.groups ≡ [] }
-        ensures wanted { self.new.is_wanted ≡ self.old.is_wanted }
-        ensures line { OnOk result (IsTrue self.old.is_wanted → IsGoodLine db.now clause.now self.new.hints self.new.groups) }
-    {
-        match clause {
-            [] => Ok(()),
-            [pivot, ..] => self.add_all(db, clause, *pivot),
-        }
-    }
-
-    fn add_all(&mut self, db: &Database, clause: &[Lit], pivot: Lit) -> Result<(), OutOfMemory>
-        requires blocked { (number : ℕ) → IsPlaceBlocked clause.now pivot (place_at db.now number) }
-        requires groups { self.old.groups ≡ [] }
-        ensures wanted { self.new.is_wanted ≡ self.old.is_wanted }
-        ensures hints { self.new.hints ≡ self.old.hints }
-        ensures line { OnOk result (IsTrue self.old.is_wanted → (others : List ℤ) → clause.now ≡ pivot ∷ others
-            → IsGoodLine db.now clause.now [] self.new.groups) }
-    {
-        if !self.is_wanted {
-            return Ok(());
-        }
-        let numbers = db.numbers(pivot.negated());
-        for number in numbers {
-            self.add_number(db, clause, pivot, *number)?;
-        }
-        Ok(())
-    }
-
-    // The group of a number's clause, where it is a candidate.
-    fn add_number(
-        &mut self,
-        db: &Database,
-        clause: &[Lit],
-        pivot: Lit,
-        number: u32,
-    ) -> Result<(), OutOfMemory>
-        requires blocked { IsPlaceBlocked clause.now pivot (place_at db.now number) }
-        ensures wanted { self.new.is_wanted ≡ self.old.is_wanted }
-        ensures hints { self.new.hints ≡ self.old.hints }
-        ensures fits { OnOk result (FitOneMore db.now clause.now pivot number self.old.groups self.new.groups) }
-    {
-        match db.clause(number) {
-            None => Ok(()),
-            Some(other) => {
-                let holds = holds_negated(other, pivot);
-                if !holds {
-                    return Ok(());
-                }
-                self.add_bare(number, other)
-            }
-        }
     }
 
     // The group of a blocked candidate.

@@ -1,7 +1,7 @@
 // Lists of clause numbers by keys, as literals and hashes. A list without numbers is given up, so the lists take memory in
 // proportion to the clauses that stand.
 ghost use Rattle.std.specs.Prelude.{◌≡◌, ℕ, [], false, nat_eq, OnOk, IsTrue};
-ghost use Rattle.drat_checker.specs.Numbers.{KeepsLists, KeepsStandingLists, numbers_of, has_number};
+ghost use Rattle.drat_checker.specs.Numbers.{KeepsLists, KeepsRising, KeepsStandingLists, has_number, numbers_of};
 
 use crate::numbers::Numbers;
 use crate::store::Store;
@@ -38,6 +38,7 @@ impl NumberLists {
     pub fn enter(&mut self, alloc: Global, key: u64, number: u32) -> Result<(), OutOfMemory>
         ensures kept { KeepsLists self.old self.new }
         ensures entered { OnOk result (IsTrue (has_number number (numbers_of self.new key))) }
+        ensures rising { KeepsRising number self.old self.new }
     {
         let numbers = self.lists.entry(key)?.or_insert(Numbers::new(alloc));
         numbers.push_once(number)
@@ -65,7 +66,8 @@ impl NumberLists {
 
     /// A clause with this key stands no more. The lists keep the numbers of those that stand.
     pub fn leave(&mut self, store: &Store, key: u64)
-        ensures { KeepsStandingLists store.now self.old self.new }
+        ensures kept { KeepsStandingLists store.now self.old self.new }
+        ensures rising { (most : ℕ) → KeepsRising most self.old self.new }
     {
         if self.leave_list(store, key) {
             self.lists.remove(&key);
@@ -76,6 +78,7 @@ impl NumberLists {
     fn leave_list(&mut self, store: &Store, key: u64) -> bool
         ensures kept { KeepsStandingLists store.now self.old self.new }
         ensures emptied { IsTrue result → numbers_of self.new key ≡ [] }
+        ensures rising { (most : ℕ) → KeepsRising most self.old self.new }
     {
         match self.lists.get_mut(&key) {
             None => false,

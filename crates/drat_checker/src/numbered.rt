@@ -93,8 +93,7 @@ impl NumberedJudge {
     {
         quiet_law();
         line.clear();
-        if is_blocked(&self.db, clause) {
-            line.add_blocked(&self.db, clause)?;
+        if is_plainly_good(&self.db, line, clause) {
             return Ok(None);
         }
         let roots = self.roots;
@@ -115,12 +114,13 @@ impl NumberedJudge {
         ensures ok { OnOk result (self.new ≡ self.old ++ Some clause.now ∷ []) }
         ensures err { OnErr result (self.new ≡ self.old) }
     {
-        self.db.push(clause)?;
+        let number = self.db.push(clause)?;
         self.roots = raised(
             &self.db,
             &mut self.kept,
             &mut self.trail,
             self.roots,
+            number,
             clause,
         );
         Ok(())
@@ -156,4 +156,15 @@ impl NumberedJudge {
         self.roots = lowered(&self.db, &self.trail, self.roots, number);
         self.db.clear(number);
     }
+}
+
+// Whether the addition of a clause is good without propagation. Hints come from propagation, so that none are to be wanted.
+fn is_plainly_good(db: &Database, line: &LineHints, clause: &[Lit]) -> bool
+    ensures good { IsTrue result → drat_fault (standing db.now) clause.now ≡ None }
+    ensures unwanted { IsTrue result → line.now.is_wanted ≡ false }
+{
+    if line.is_wanted() {
+        return false;
+    }
+    is_blocked(db, clause)
 }

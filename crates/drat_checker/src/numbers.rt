@@ -1,7 +1,7 @@
 // Numbers of clauses that have something in common. Those whose clause stands no more stay until they are more than half, so that
 // a number that goes is not searched for.
-ghost use Rattle.std.specs.Prelude.{◌≡◌, ◌<◌, ◌+◌, ℕ, [], false, OnOk, IsTrue, length, take, nat_eq, slice_index};
-ghost use Rattle.drat_checker.specs.Numbers.{KeepsNumbers, KeepsStanding, has_number, stands};
+ghost use Rattle.std.specs.Prelude.{◌≡◌, ◌<◌, ◌+◌, ◌++◌, ◌∷◌, ℕ, [], false, OnErr, OnOk, IsTrue, length, take, nat_eq, slice_index};
+ghost use Rattle.drat_checker.specs.Numbers.{AreRising, KeepsNumbers, KeepsStanding, ends_with, has_number, stands};
 
 use crate::store::Store;
 use cnf_base::OutOfMemory;
@@ -71,6 +71,8 @@ impl Numbers {
     pub fn push(&mut self, number: u32) -> Result<(), OutOfMemory>
         ensures kept { KeepsNumbers self.old self.new }
         ensures entered { OnOk result (IsTrue (has_number number self.new)) }
+        ensures ok { OnOk result (self.new ≡ self.old ++ number ∷ []) }
+        ensures err { OnErr result (self.new ≡ self.old) }
     {
         self.numbers.push(number)?;
         Ok(())
@@ -80,6 +82,7 @@ impl Numbers {
     pub fn push_once(&mut self, number: u32) -> Result<(), OutOfMemory>
         ensures kept { KeepsNumbers self.old self.new }
         ensures entered { OnOk result (IsTrue (has_number number self.new)) }
+        ensures rising { AreRising number self.old → AreRising number self.new }
     {
         if ends_with(self.numbers.as_slice(), number) {
             return Ok(());
@@ -91,6 +94,7 @@ impl Numbers {
     pub fn leave(&mut self, store: &Store) -> bool
         ensures kept { KeepsStanding store.now self.old self.new }
         ensures emptied { IsTrue result → self.new ≡ [] }
+        ensures rising { (most : ℕ) → AreRising most self.old → AreRising most self.new }
     {
         self.gone = self.gone.saturating_add(1);
         if self.gone > self.numbers.len() / 2 {
@@ -104,7 +108,8 @@ impl Numbers {
 // Whether a number is the last one.
 #[inline(always)]
 fn ends_with(numbers: &[u32], number: u32) -> bool
-    ensures { IsTrue result → IsTrue (has_number number numbers.now) }
+    ensures has { IsTrue result → IsTrue (has_number number numbers.now) }
+    ensures last { result ≡ ends_with number numbers.now }
 {
     match numbers {
         [] => false,
@@ -114,7 +119,8 @@ fn ends_with(numbers: &[u32], number: u32) -> bool
 
 // Drops the numbers under which no clause stands.
 fn keep_standing(numbers: &mut Vec<u32>, store: &Store)
-    ensures { KeepsStanding store.now numbers.old.items numbers.new.items }
+    ensures kept { KeepsStanding store.now numbers.old.items numbers.new.items }
+    ensures rising { (most : ℕ) → AreRising most numbers.old.items → AreRising most numbers.new.items }
 {
     numbers.retain(|number| stands(store, *number));
     shrink(numbers);

@@ -7,10 +7,11 @@ ghost use Rattle.drat_rules.specs.Clauses.{is_among};
 ghost use Rattle.drat_rules.specs.Quiet.{has_quiet};
 ghost use Rattle.drat_checker.specs.Places.{Places, place_at, standing};
 ghost use Rattle.drat_checker.specs.Propagation.{Derives, IsClosed};
-ghost use Rattle.drat_checker.specs.Reasons.{IsFalsified, KeepsReasons};
+ghost use Rattle.drat_checker.specs.Database.{is_short};
+ghost use Rattle.drat_checker.specs.Reasons.{AllByUnits, IsFalsified, KeepsReasons};
 ghost use Rattle.drat_checker.specs.Watches.{AreTrue, AreWatched, IsGuarded, IsSettled, MovesWatches, is_true};
 
-use crate::database::Database;
+use crate::database::{Database, is_short};
 use crate::false_list::FalseList;
 use crate::watches::Watches;
 use cnf_base::{Lit, OutOfMemory};
@@ -59,6 +60,7 @@ pub fn take_short(db: &Database, trail: &mut FalseList) -> Result<Option<u32>, O
     ensures holds { IfOk result (λ conflict. conflict ≡ None → AreTrue db.now trail.new.literals) }
     ensures derives { OnOk result (Derives (standing db.now) trail.old.literals trail.new.literals) }
     ensures reasons { OnOk result (KeepsReasons db.now [] trail.old trail.new) }
+    ensures units { OnOk result (AllByUnits db.now trail.old → AllByUnits db.now trail.new) }
 {
     quiet_law();
     propagation_law();
@@ -73,7 +75,7 @@ pub fn take_short(db: &Database, trail: &mut FalseList) -> Result<Option<u32>, O
     Ok(None)
 }
 
-// The same of one number.
+// The same of one number, where its clause is short.
 fn take_number(
     db: &Database,
     trail: &mut FalseList,
@@ -82,13 +84,39 @@ fn take_number(
     ensures conflict { IfOk result (λ conflict. IsSome conflict → has_quiet (standing db.now) trail.old.literals ≡ false) }
     ensures falsified { IfOk result (λ conflict. IfSome conflict (IsFalsified db.now trail.new.literals)) }
     ensures taken { IfOk result (λ conflict. conflict ≡ None → (clause : List ℤ) → place_at db.now number ≡ Some clause
-        → (effect (literals_of trail.old.literals) clause ≡ NotUnit) ⊎ (is_true trail.new.literals clause ≡ true)) }
+        → is_short clause ≡ true → is_true trail.new.literals clause ≡ true) }
     ensures derives { OnOk result (Derives (standing db.now) trail.old.literals trail.new.literals) }
     ensures reasons { OnOk result (KeepsReasons db.now [] trail.old trail.new) }
+    ensures units { OnOk result (AllByUnits db.now trail.old → AllByUnits db.now trail.new) }
 {
     match db.clause(number) {
         None => Ok(None),
-        Some(clause) => take_clause(trail, number, clause),
+        Some(clause) => take_if_short(trail, number, clause),
+    }
+}
+
+// The same of the clause itself.
+fn take_if_short(
+    trail: &mut FalseList,
+    number: u32,
+    clause: &[Lit],
+) -> Result<Option<u32>, OutOfMemory>
+    ensures conflict { IfOk result (λ conflict. IsSome conflict → (clauses : List (List ℤ)) → IsTrue (is_among clauses clause.now)
+        → has_quiet clauses trail.old.literals ≡ false) }
+    ensures falsified { IfOk result (λ conflict. IfSome conflict (λ found. (places : Places) → place_at places number ≡ Some clause.now
+        → IsFalsified places trail.new.literals found)) }
+    ensures taken { IfOk result (λ conflict. conflict ≡ None → is_short clause.now ≡ true → is_true trail.new.literals clause.now ≡ true) }
+    ensures derives { OnOk result ((clauses : List (List ℤ)) → IsTrue (is_among clauses clause.now)
+        → Derives clauses trail.old.literals trail.new.literals) }
+    ensures reasons { OnOk result ((places : Places) → place_at places number ≡ Some clause.now
+        → KeepsReasons places [] trail.old trail.new) }
+    ensures units { OnOk result ((places : Places) → place_at places number ≡ Some clause.now
+        → AllByUnits places trail.old → AllByUnits places trail.new) }
+{
+    if is_short(clause) {
+        take_clause(trail, number, clause)
+    } else {
+        Ok(None)
     }
 }
 
@@ -109,6 +137,8 @@ pub fn take_clause(
         → Derives clauses trail.old.literals trail.new.literals) }
     ensures reasons { OnOk result ((places : Places) → place_at places number ≡ Some clause.now
         → KeepsReasons places [] trail.old trail.new) }
+    ensures units { OnOk result ((places : Places) → place_at places number ≡ Some clause.now → is_short clause.now ≡ true
+        → AllByUnits places trail.old → AllByUnits places trail.new) }
 {
     quiet_law();
     propagation_law();

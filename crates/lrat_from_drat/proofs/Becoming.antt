@@ -4,10 +4,11 @@ use Rattle.std.proofs.Common.{Option, None, Some, Ok, Err, if◌then◌else◌, 
 use Rattle.std.specs.Prelude.{Result}
 use Rattle.std.specs.Option.{option_map}
 use Rattle.std.proofs.lemmas.Bool.{cases_lt}
-use Rattle.std.proofs.lemmas.List.{append-nil, get_or_past}
+use Rattle.std.proofs.lemmas.List.{append-nil, get_or_past, map-append}
 use Rattle.cnf_base.specs.declared.list.Group.{Group}
 use Rattle.cnf_base.specs.declared.step.Step.{Step}
 use Rattle.cnf_base.specs.declared.step.Step.TheVariants.{Add, Delete}
+use Rattle.cnf_base.specs.ProofText.{is_empty}
 use Rattle.lrat_text.specs.declared.error.StepError.{StepError}
 use Rattle.lrat_text.specs.declared.error.StepError.TheVariants.{Syntax, TooLong}
 use Rattle.lrat_text.specs.LineSteps.{StepsOf, no_more, overlong, no_step, next_step}
@@ -15,29 +16,36 @@ use Rattle.lrat_text.specs.LineReader.{Gives}
 use Rattle.lrat_rules.specs.declared.outcome.Reason.{Reason}
 use Rattle.drat_text.specs.declared.step.DratStep.{DratStep}
 use Rattle.drat_rules.specs.Clauses.{Equality}
+use Rattle.drat_rules.specs.Quiet.{has_quiet}
 use Rattle.drat_rules.specs.Run.{drat_step_fault}
 use Rattle.drat_checker.specs.Places.{IsFirst, IsNone, Place, Places, place_at, standing}
 use Rattle.drat_checker.specs.Hints.{is_tautology}
-use Rattle.lrat_from_drat.specs.Lrat.{addition, bare, beginning_by, deletion, first_twin, is_dropped, lrat_of, lrat_of_step, number_if}
+use Rattle.drat_checker.specs.Lines.{group_ids, ids_of}
+use Rattle.lrat_from_drat.specs.Lrat.{Outline, Added, Deleted, addition, beginning_by, deletion, first_twin, is_dropped, lrat_of}
+use Rattle.lrat_from_drat.specs.Lrat.{lrat_of_step, number_if, outline}
 use Rattle.lrat_from_drat.specs.Lrat.{places_after, tautologies_below, tautologies_of, unless_fault}
 
--- steps without hints, one after another
-pub bare-append : (xs ys : List Step) → map bare (xs ++ ys) ≡ map bare xs ++ map bare ys
-bare-append [] ys = refl
-bare-append (x ∷ xs) ys = ap (λ (l : List Step). bare x ∷ l) (bare-append xs ys)
-
-pub alike-append : (xs ys front piece : List Step) → map bare xs ≡ front → map bare ys ≡ piece → map bare (xs ++ ys) ≡ front ++ piece
+-- outlines of steps one after another
+pub alike-append : (xs ys : List Step) (front piece : List Outline) → map outline xs ≡ front → map outline ys ≡ piece
+    → map outline (xs ++ ys) ≡ front ++ piece
 alike-append xs ys front piece first second =
-    bare-append xs ys ∙ ap (λ (l : List Step). l ++ map bare ys) first ∙ ap (λ (l : List Step). front ++ l) second
+    map-append outline xs ys ∙ ap (λ (l : List Outline). l ++ map outline ys) first ∙ ap (λ (l : List Outline). front ++ l) second
 
 -- an addition, with its line or without
-pub no-addition : (id : ℕ) (clause : List ℤ) → is_tautology clause ≡ true → [] ≡ addition id clause
-no-addition id clause is = sym (ap (λ (b : Bool). if b then [] else Add id clause [] [] ∷ []) is)
+abbrev line : Places → List ℤ → Outline
+line places clause = Added (length places + 1) clause (has_quiet (standing places) clause) (group_ids places clause)
 
-pub one-addition : (id number : ℕ) (clause : List ℤ) (hints : List ℕ) (groups : List Group) → id ≡ number → is_tautology clause ≡ false
-    → map bare (Add id clause hints groups ∷ []) ≡ addition number clause
-one-addition id number clause hints groups at fails =
-    ap (λ (n : ℕ). Add n clause [] [] ∷ []) at ∙ sym (ap (λ (b : Bool). if b then [] else Add number clause [] [] ∷ []) fails)
+pub no-addition : (places : Places) (clause : List ℤ) → is_tautology clause ≡ true → [] ≡ addition places clause
+no-addition places clause is = sym (ap (λ (b : Bool). if b then [] else line places clause ∷ []) is)
+
+pub one-addition : (places : Places) (id : ℕ) (clause : List ℤ) (hints : List ℕ) (groups : List Group) → id ≡ length places + 1
+    → is_tautology clause ≡ false → is_empty hints ≡ has_quiet (standing places) clause → ids_of groups ≡ group_ids places clause
+    → map outline (Add id clause hints groups ∷ []) ≡ addition places clause
+one-addition places id clause hints groups at fails by_hints named =
+    ap (λ (n : ℕ). Added n clause (is_empty hints) (ids_of groups) ∷ []) at
+    ∙ ap (λ (b : Bool). Added (length places + 1) clause b (ids_of groups) ∷ []) by_hints
+    ∙ ap (λ (ids : List ℕ). Added (length places + 1) clause (has_quiet (standing places) clause) ids ∷ []) named
+    ∙ sym (ap (λ (b : Bool). if b then [] else line places clause ∷ []) fails)
 
 -- a deletion, with its line or without
 pub no-deletion : (last number : ℕ) (place : Place) → is_none place ≡ true → [] ≡ deletion last number place
@@ -45,10 +53,10 @@ no-deletion last number None gone = refl
 no-deletion last number (Some clause) gone = cc
 
 pub one-deletion : (last count number id : ℕ) (place : Place) → last ≡ count → id ≡ number + 1 → is_none place ≡ false
-    → map bare (Delete last (id ∷ []) ∷ []) ≡ deletion count number place
+    → map outline (Delete last (id ∷ []) ∷ []) ≡ deletion count number place
 one-deletion last count number id None at is stays = cc
 one-deletion last count number id (Some clause) at is stays =
-    ap (λ (n : ℕ). Delete n (id ∷ []) ∷ []) at ∙ ap (λ (n : ℕ). Delete count (n ∷ []) ∷ []) is
+    ap (λ (n : ℕ). Deleted n (id ∷ []) ∷ []) at ∙ ap (λ (n : ℕ). Deleted count (n ∷ []) ∷ []) is
 
 -- which clause goes
 twin-none : (same : Equality) (clause : List ℤ) (places : Places) → ((n : ℕ) (other : List ℤ) → place_at places n ≡ Some other
@@ -161,6 +169,6 @@ below-end places ids number past so_far = so_far ∙ none-past places number pas
 
 -- the line that deletes them
 pub begins-so : (last count : ℕ) (ids : List ℕ) → last ≡ count → nat_eq (length ids) 0 ≡ false
-    → map bare (Delete last ids ∷ []) ≡ beginning_by count ids
+    → map outline (Delete last ids ∷ []) ≡ beginning_by count ids
 begins-so last count [] at some = cc
-begins-so last count (id ∷ ids) at some = ap (λ (n : ℕ). Delete n (id ∷ ids) ∷ []) at
+begins-so last count (id ∷ ids) at some = ap (λ (n : ℕ). Deleted n (id ∷ ids) ∷ []) at

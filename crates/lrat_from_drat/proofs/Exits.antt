@@ -3,7 +3,6 @@ use Rattle.std.proofs.Common.{◌≡◌, ℕ, Bool, true, false, List, [], ◌++
 use Rattle.std.proofs.Common.{◌∙◌, ap, subst, append_assoc}
 use Rattle.std.specs.Prelude.{◌≢◌, Result, IsTrue}
 use Rattle.std.proofs.lemmas.List.{append-nil, take-append-drop}
-use Rattle.cnf_base.specs.declared.step.Step.{Step}
 use Rattle.host_io.specs.declared.source.Failed.{Failed}
 use Rattle.host_io.specs.Channel.{Channel, Rose}
 use Rattle.text_scan.specs.Decides.{gained, gained-then, Decides, Decides-then, OnlyReads-then}
@@ -36,14 +35,14 @@ use Rattle.drat_checker.proofs.Turns.{at_end, at_no_step, at_limit, at_bad_step,
 use Rattle.drat_checker.proofs.Wanted.{error_wants, step_is_wanted}
 use Rattle.lrat_from_drat.specs.Following.{Follows}
 use Rattle.lrat_from_drat.specs.Writing.{Takes, Writes}
-use Rattle.lrat_from_drat.specs.Lrat.{lrat_of, lrat_of_step}
+use Rattle.lrat_from_drat.specs.Lrat.{Outline, lrat_of, lrat_of_step}
 use Rattle.lrat_from_drat.specs.Conversion.{AreFirstLinesOf, AreLinesOf, AreRefuting, AreSteps, ConvertsSteps, HasLines, HasSteps}
 use Rattle.lrat_from_drat.specs.Conversion.{ReadsStep}
 use Rattle.lrat_from_drat.proofs.Becoming.{alike-append, none_at_bad_step, none_at_end, none_at_limit, none_at_no_step, some_at_good_step}
 use Rattle.lrat_from_drat.proofs.Leading.{LeadsTo, SoFar, leads-then, text-append}
 
 -- whole lines
-module _ {tells : Bool} {old new : Channel} {from : State} {places : Places} {has_empty : Bool} {front : List Step}
+module _ {tells : Bool} {old new : Channel} {from : State} {places : Places} {has_empty : Bool} {front : List Outline}
     (s : SoFar tells old new from places has_empty front)
     (t : IsTrue tells) where
   pub are-steps : AreSteps from (added old new)
@@ -74,7 +73,7 @@ module _ {tells : Bool} {old new : Channel} {from : State} {places : Places} {ha
 
 -- a front of the lines of one more step, and what is left of them
 module _ {tells : Bool} {old mid new : Channel} {same : Equality} {from : State} {places : Places} {has_empty : Bool} {next : Places}
-    {front : List Step} (s : SoFar tells old mid from places has_empty front) (t : IsTrue tells) where
+    {front : List Outline} (s : SoFar tells old mid from places has_empty front) (t : IsTrue tells) where
   pub broken : (step : DratStep) (failed : Failed) → Writes tells mid new same places next step (Err failed)
       → (new.written ≡ old.written ++ added old new) × ((rest : List ℕ) × AreSteps from (added old new ++ rest)
       × AreLinesOf (front ++ lrat_of_step same places step) (added old new ++ rest))
@@ -113,8 +112,8 @@ module _ {tells : Bool} {in_old in_mid in_new out_old out_mid : Channel} {same :
       → lrat_of same places (steps_ahead drat_form reader middle) ≡ []
       → AreLinesOf (lrat_of same from (steps_ahead drat_form first bytes)) (added out_old out_mid)
   all-lines t bytes middle before none =
-      subst (λ (l : List Step). AreLinesOf l (added out_old out_mid))
-      (sym (before ∙ ap (λ (l : List Step). leads.front ++ l) none ∙ append-nil leads.front))
+      subst (λ (l : List Outline). AreLinesOf l (added out_old out_mid))
+      (sym (before ∙ ap (λ (l : List Outline). leads.front ++ l) none ∙ append-nil leads.front))
       (are-lines (leads.begun some.0 some.1) t)
 
   -- and else the first lines
@@ -272,7 +271,7 @@ module _ {tells : Bool} {in_old in_mid in_new out_old out_mid : Channel} {same :
                 front = leads.front ++ lrat_of_step same places step;
                 rest = lrat_of same next (steps_ahead drat_form after more);
                 parts = before
-                    ∙ ap (λ (l : List Step). leads.front ++ l)
+                    ∙ ap (λ (l : List Outline). leads.front ++ l)
                     (some_at_good_step same places _ _ _ _ gives step at next e good writes.places)
                     ∙ sym (append_assoc leads.front (lrat_of_step same places step)
                     (lrat_of same next (steps_ahead drat_form after more)));

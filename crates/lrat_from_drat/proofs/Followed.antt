@@ -21,23 +21,23 @@ use Rattle.lrat_rules.specs.Run.{after_step, judge_step, run, step_fault}
 use Rattle.drat_checker.specs.Places.{Places, place_at}
 use Rattle.drat_checker.specs.Hints.{is_tautology, plain}
 use Rattle.drat_checker.specs.Lines.{IsGoodLine}
-use Rattle.lrat_from_drat.specs.Following.{Follows, Leads, is_strict_step}
+use Rattle.lrat_from_drat.specs.Following.{Follows, Leads, is_exact_step}
 
 abbrev pub LiveLaw : Type 0
 LiveLaw = (live : Live) (id other : ℕ) (clause : List ℤ) → clause_at (with_clause live id clause) other
     ≡ (if other == id then Some clause else clause_at live other)
 
 -- one good step
-pub leads-one : (before : State) (step : Step) → step_fault before step ≡ None → is_strict_step before step ≡ true
+pub leads-one : (before : State) (step : Step) → step_fault before step ≡ None → is_exact_step before step ≡ true
     → is_printable step ≡ true → Leads before (after_step before step) (step ∷ [])
-leads-one before step good strict printable = record {
+leads-one before step good exact printable = record {
   reached = λ line. ap (judge_step before line (λ s. run s []) step) good;
-  strict = and_from _ _ strict refl;
+  exact = and_from _ _ exact refl;
   printable = and_from _ _ printable refl;
 }
 
 pub leads-none : (state : State) → Leads state state []
-leads-none state = record { reached = λ line. refl; strict = refl; printable = refl }
+leads-none state = record { reached = λ line. refl; exact = refl; printable = refl }
 
 -- one clause more
 place-old : (places : Places) (clause : List ℤ) (n : ℕ) → n < length places → place_at (places ++ Some clause ∷ []) n ≡ place_at places n
@@ -116,7 +116,7 @@ module _ (law : LiveLaw) (state : State) (places : Places) (f : Follows state pl
       → Leads state (record { live = with_clause state.live number clause; top = number }) (Add number clause hints groups ∷ [])
   leads-added hints groups good printable =
       leads-one state (Add number clause hints groups) (good.good state number f.live (omega (arith, f.top)))
-      (good.strict state.live f.live) printable
+      (good.exact state.live f.live) printable
 
 no-eqb : (n m : ℕ) → (n == m) ≡ false → n ≡ m → ⊥
 no-eqb n m e same = let t : (n == m) ≡ true = eq-eqb n m same in cc

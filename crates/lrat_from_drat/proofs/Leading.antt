@@ -34,8 +34,8 @@ use Rattle.drat_checker.specs.Memory.{drat_reading_may_want_memory}
 use Rattle.drat_checker.specs.Places.{Places, standing}
 use Rattle.drat_checker.proofs.Turns.{at_good_step, good_so_far}
 use Rattle.drat_checker.proofs.Wanted.{behind_wants}
-use Rattle.lrat_from_drat.specs.Following.{Follows, Leads, are_strict, is_strict_step}
-use Rattle.lrat_from_drat.specs.Lrat.{bare, lrat_of, lrat_of_step}
+use Rattle.lrat_from_drat.specs.Following.{Follows, Leads, are_exact, is_exact_step}
+use Rattle.lrat_from_drat.specs.Lrat.{Outline, lrat_of, lrat_of_step, outline}
 use Rattle.lrat_from_drat.specs.Writing.{Writes}
 use Rattle.lrat_from_drat.specs.Conversion.{ReadsStep}
 use Rattle.lrat_from_drat.proofs.Becoming.{alike-append, some_at_good_step}
@@ -48,39 +48,39 @@ lines_from-append line (x ∷ xs) ys =
     ap (λ (ls : List Line). record { line = line; step = Some x } ∷ ls) (lines_from-append (line + 1) xs ys
     ∙ ap (λ (n : ℕ). lines_from (line + 1) xs ++ lines_from n ys) same)
 
-strict-append : (a b : State) (line : ℕ) (xs ys : List Step) → run a (lines_from line xs) ≡ Reached b → are_strict a xs ≡ true
-    → are_strict b ys ≡ true → are_strict a (xs ++ ys) ≡ true
-strict-append a b line [] ys runs f g = ap (λ s. are_strict s ys) (same_reached a b runs) ∙ g
-strict-append a b line (x ∷ xs) ys runs f g =
-    let parts = and_parts (is_strict_step a x) (are_strict (after_step a x) xs) f in
+exact-append : (a b : State) (line : ℕ) (xs ys : List Step) → run a (lines_from line xs) ≡ Reached b → are_exact a xs ≡ true
+    → are_exact b ys ≡ true → are_exact a (xs ++ ys) ≡ true
+exact-append a b line [] ys runs f g = ap (λ s. are_exact s ys) (same_reached a b runs) ∙ g
+exact-append a b line (x ∷ xs) ys runs f g =
+    let parts = and_parts (is_exact_step a x) (are_exact (after_step a x) xs) f in
     and_from _ _ parts.0
-    (strict-append (after_step a x) b (line + 1) xs ys (run_on a b line x (lines_from (line + 1) xs) runs) parts.1 g)
+    (exact-append (after_step a x) b (line + 1) xs ys (run_on a b line x (lines_from (line + 1) xs) runs) parts.1 g)
 
 pub leads-then : {a b c : State} {xs ys : List Step} → Leads a b xs → Leads b c ys → Leads a c (xs ++ ys)
 leads-then {a} {b} {c} {xs} {ys} f g = record {
   reached = λ line. ap (run a) (lines_from-append line xs ys)
       ∙ run-append a b (lines_from line xs) (lines_from (line + length xs) ys) (f.reached line) ∙ g.reached (line + length xs);
-  strict = strict-append a b 1 xs ys (f.reached 1) f.strict g.strict;
+  exact = exact-append a b 1 xs ys (f.reached 1) f.exact g.exact;
   printable = list_all-append is_printable xs ys ∙ and_from _ _ f.printable g.printable;
 }
 
 pub text-append : (xs ys : List Step) → text_of (xs ++ ys) ≡ text_of xs ++ text_of ys
 text-append xs ys = flat_map-append line_of_step xs ys
 
--- what was written so far from a state on, and what it is without hints
+-- what was written so far from a state on, and its outlines
 pub record SoFar (tells : Bool) (out_old out_new : Channel) (from : State) (places : Places) (has_empty : Bool)
-    (front : List Step) : Type 0 where
+    (front : List Outline) : Type 0 where
   pub then : State
   pub steps : List Step
   pub leads : Leads from then steps
   pub follows : Follows then places
-  pub alike : map bare steps ≡ front
+  pub alike : map outline steps ≡ front
   pub empty : has_empty ≡ true → list_any step_adds_empty steps ≡ true
   pub written : IsTrue tells → out_new.written ≡ out_old.written ++ text_of steps
 
 pub record LeadsTo (tells : Bool) (in_old in_new out_old out_new : Channel) (same : Equality) (from : Places) (first : ReaderOf DratDraft)
     (places : Places) (has_empty : Bool) (reader : ReaderOf DratDraft) : Type 0 where
-  pub front : List Step
+  pub front : List Outline
   pub begun : (state : State) → Follows state from → SoFar tells out_old out_new state places has_empty front
   pub text : IsTrue tells → Decides in_old in_new
       (λ bytes more. lrat_of same from (steps_ahead drat_form first bytes)
@@ -174,7 +174,7 @@ leads_on {in_old = in_old} {in_mid = in_mid} {in_new = in_new} {out_old = out_ol
           };
       text = λ t. Decides-then _ (leads.text t) (read.gives t)
           (λ bytes middle more before gives. before
-          ∙ ap (λ (l : List Step). leads.front ++ l) (some_at_good_step same places _ _ _ _ gives step at next is good writes.places)
+          ∙ ap (λ (l : List Outline). leads.front ++ l) (some_at_good_step same places _ _ _ _ gives step at next is good writes.places)
           ∙ sym (append_assoc leads.front (lrat_of_step same places step) (lrat_of same next (steps_ahead drat_form reader' more))));
       verdict = λ t. Decides-then _ (leads.verdict t) (read.gives t)
           (λ bytes middle more before gives. before

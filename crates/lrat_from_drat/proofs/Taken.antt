@@ -80,7 +80,7 @@ module _ (law : LiveLaw) (tells : Bool) (old new : Channel) (same : Equality) (b
         steps = [];
         leads = leads-none state;
         follows = subst (Follows state) (sym is) (follows-tautology law state before f clause taut);
-        alike = no-addition (length before + 1) clause taut;
+        alike = no-addition before clause taut;
         empty = λ e. absurd (no-empty clause taut e);
         lines = subst (λ (c : Channel). WritesAll {T = Unit {0}} tells old c [] (Ok tt)) (sym unwritten) (nothing tells old);
       };
@@ -112,7 +112,7 @@ module _ (law : LiveLaw) (tells : Bool) (old new : Channel) (same : Equality) (b
             follows = subst (Follows (record { live = with_clause state.live (length before + 1) clause; top = length before + 1 }))
                 (sym is)
                 (follows-added law state before f clause fails);
-            alike = one-addition id (length before + 1) clause hints groups at fails;
+            alike = one-addition before id clause hints groups at fails (line.by_hints state.live f.live) line.named_ids;
             empty = λ e. ap (λ b. b || false) e;
             lines = one-line step w;
           };

@@ -34,7 +34,7 @@ use Rattle.drat_checker.specs.Places.{Places}
 use Rattle.drat_checker.proofs.Standing.{standing-all}
 use Rattle.lrat_from_drat.specs.Following.{Leads}
 use Rattle.lrat_from_drat.specs.Starting.{Begins, Begun}
-use Rattle.lrat_from_drat.specs.Lrat.{bare, beginning, lrat_of}
+use Rattle.lrat_from_drat.specs.Lrat.{Outline, beginning, lrat_of, outline}
 use Rattle.lrat_from_drat.specs.Conversion.{AreFirstLinesOf, AreLinesOf, AreRefuting, AreSteps, ConvertsFrom, ConvertsSteps}
 use Rattle.lrat_from_drat.specs.Conversion.{HasLines, HasSteps}
 use Rattle.lrat_from_drat.proofs.Followed.{leads-none}
@@ -68,8 +68,8 @@ module _ {from then : State} {steps : List Step} (leads : Leads from then steps)
       (h.0, subst (AreSteps from) (sym (append_assoc (text_of steps) written h.0)) (behind (written ++ h.0) h.1))
 
 -- the lines of steps behind those of others
-module _ (steps front : List Step) (alike : map bare steps ≡ front) where
-  lines-after : (becomes : List Step) (written : List ℕ) → AreLinesOf becomes written
+module _ (steps : List Step) (front : List Outline) (alike : map outline steps ≡ front) where
+  lines-after : (becomes : List Outline) (written : List ℕ) → AreLinesOf becomes written
       → AreLinesOf (front ++ becomes) (text_of steps ++ written)
   lines-after becomes written h = record {
     steps = steps ++ h.steps;
@@ -77,16 +77,16 @@ module _ (steps front : List Step) (alike : map bare steps ≡ front) where
     text = ap (λ (l : List ℕ). text_of steps ++ l) h.text ∙ sym (text-append steps h.steps);
   }
 
-  first-after : (becomes : List Step) (written : List ℕ) → AreFirstLinesOf becomes written
+  first-after : (becomes : List Outline) (written : List ℕ) → AreFirstLinesOf becomes written
       → AreFirstLinesOf (front ++ becomes) (text_of steps ++ written)
   first-after becomes written h = record {
     front = front ++ h.front;
     rest = h.rest;
-    parts = ap (λ (l : List Step). front ++ l) h.parts ∙ sym (append_assoc front h.front h.rest);
+    parts = ap (λ (l : List Outline). front ++ l) h.parts ∙ sym (append_assoc front h.front h.rest);
     lines = lines-after h.front written h.lines;
   }
 
-  pub lines-behind : (result : Result Verdict ConvertError) (becomes : List Step) (written : List ℕ) → HasLines result becomes written
+  pub lines-behind : (result : Result Verdict ConvertError) (becomes : List Outline) (written : List ℕ) → HasLines result becomes written
       → HasLines result (front ++ becomes) (text_of steps ++ written)
   lines-behind (Ok verdict) becomes written h = lines-after becomes written h
   lines-behind (Err ReadFault) becomes written h = first-after becomes written h
@@ -151,7 +151,7 @@ no-steps state channel = record {
   text = added_is channel channel [] (sym (append-nil channel.written));
 }
 
-no-lines : (becomes : List Step) (channel : Channel) → AreFirstLinesOf becomes (added channel channel)
+no-lines : (becomes : List Outline) (channel : Channel) → AreFirstLinesOf becomes (added channel channel)
 no-lines becomes channel = record {
   front = [];
   rest = becomes;
@@ -227,7 +227,7 @@ pub none-written : (result : Result Verdict ConvertError) (state : State) (chann
 none-written result state channel is =
     subst (λ (r : Result Verdict ConvertError). HasSteps r state (added channel channel)) (sym is) (no-steps state channel)
 
-pub no-lines-written : (result : Result Verdict ConvertError) (becomes : List Step) (channel : Channel) → result ≡ Err OutOfMemory
+pub no-lines-written : (result : Result Verdict ConvertError) (becomes : List Outline) (channel : Channel) → result ≡ Err OutOfMemory
     → HasLines result becomes (added channel channel)
 no-lines-written result becomes channel is =
     subst (λ (r : Result Verdict ConvertError). HasLines r becomes (added channel channel)) (sym is) (no-lines becomes channel)

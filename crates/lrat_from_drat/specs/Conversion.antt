@@ -24,7 +24,7 @@ use Rattle.drat_checker.specs.DratVerdict.{drat_steps_verdict_by}
 use Rattle.drat_checker.specs.Memory.{drat_reading_may_want_memory}
 use Rattle.drat_checker.specs.Places.{Places, standing}
 use Rattle.lrat_from_drat.specs.Following.{Follows, Leads}
-use Rattle.lrat_from_drat.specs.Lrat.{bare, beginning, lrat_of}
+use Rattle.lrat_from_drat.specs.Lrat.{Outline, beginning, lrat_of, outline}
 
 -- the bytes are the lines of good steps from this state on
 pub record AreSteps (from : State) (written : List ℕ) : Type 0 where
@@ -51,22 +51,22 @@ HasSteps (Err TooLong) from written = AreSteps from written
 HasSteps (Err OutOfMemory) from written = AreSteps from written
 HasSteps (Err WriteFault) from written = (rest : List ℕ) × AreSteps from (written ++ rest)
 
--- the bytes are the lines of these steps, with hints
-pub record AreLinesOf (becomes : List Step) (written : List ℕ) : Type 0 where
+-- the bytes are lines of these outlines
+pub record AreLinesOf (becomes : List Outline) (written : List ℕ) : Type 0 where
   pub steps : List Step
-  pub alike : map bare steps ≡ becomes
+  pub alike : map outline steps ≡ becomes
   pub text : written ≡ text_of steps
 
--- the lines of the first of these steps
-pub record AreFirstLinesOf (becomes : List Step) (written : List ℕ) : Type 0 where
-  pub front : List Step
-  pub rest : List Step
+-- lines of the first of these outlines
+pub record AreFirstLinesOf (becomes : List Outline) (written : List ℕ) : Type 0 where
+  pub front : List Outline
+  pub rest : List Outline
   pub parts : becomes ≡ front ++ rest
   pub lines : AreLinesOf front written
 
--- What was written of the lines of these steps: all of them where the proof was read to its end, to a bad line or to the limit, and else
+-- What was written of lines of these outlines: all of them where the proof was read to its end, to a bad line or to the limit, and else
 -- the first ones, of whose last line a front may be missing where a write failed.
-abbrev pub HasLines : Result Verdict ConvertError → List Step → List ℕ → Type 0
+abbrev pub HasLines : Result Verdict ConvertError → List Outline → List ℕ → Type 0
 HasLines (Ok verdict) becomes written = AreLinesOf becomes written
 HasLines (Err TooLong) becomes written = AreLinesOf becomes written
 HasLines (Err ReadFault) becomes written = AreFirstLinesOf becomes written

@@ -12,7 +12,7 @@ use Rattle.drat_proof.specs.declared.error.ConvertError.TheVariants.{ReadFault, 
 use Rattle.drat_checker.specs.Places.{Places, place_at}
 use Rattle.drat_checker.specs.Numbers.{has_number}
 use Rattle.lrat_from_drat.specs.Following.{Follows, Leads}
-use Rattle.lrat_from_drat.specs.Lrat.{bare, beginning, is_dropped}
+use Rattle.lrat_from_drat.specs.Lrat.{beginning, is_dropped, outline}
 
 -- the numbers are those of the tautologies
 pub record AreDropped (places : Places) (ids : List ℕ) : Type 0 where
@@ -26,7 +26,7 @@ pub record Begun (tells : Bool) (old new : Channel) (clauses : List (List ℤ)) 
   pub steps : List Step
   pub leads : Leads (start clauses) then steps
   pub follows : Follows then (map Some clauses)
-  pub alike : map bare steps ≡ beginning clauses
+  pub alike : map outline steps ≡ beginning clauses
   pub lines : WritesAll tells old new (text_of steps) written
 
 abbrev pub Begins : Bool → Channel → Channel → List (List ℤ) → Result (Unit {0}) ConvertError → Type 0

@@ -18,7 +18,7 @@ use Rattle.drat_proof.specs.declared.error.ConvertError.{ConvertError}
 use Rattle.drat_proof.specs.declared.error.ConvertError.TheVariants.{ReadFault, TooLong, OutOfMemory, WriteFault}
 use Rattle.drat_checker.specs.Places.{Places, standing}
 use Rattle.lrat_from_drat.specs.Following.{Follows, Leads}
-use Rattle.lrat_from_drat.specs.Lrat.{bare, lrat_of_step, places_after}
+use Rattle.lrat_from_drat.specs.Lrat.{Outline, lrat_of_step, outline, places_after}
 
 -- the literals that a step adds are in their range
 abbrev pub has_literals : Step → Bool
@@ -35,14 +35,14 @@ WritesLine tells old new step (Err WriteFault) = (has_literals step ≡ true)
 WritesLine tells old new step (Err ReadFault) = ⊥
 WritesLine tells old new step (Err TooLong) = ⊥
 
--- The lines are these, hints apart, lead from this state to one that follows the clauses behind the step, and were written so.
-pub record Written (tells : Bool) (old new : Channel) (becomes : List Step) (after : Places) (step : DratStep) (state : State)
+-- The lines have these outlines, lead from this state to one that follows the clauses behind the step, and were written so.
+pub record Written (tells : Bool) (old new : Channel) (becomes : List Outline) (after : Places) (step : DratStep) (state : State)
     (written : Result (Unit {0}) Failed) : Type 0 where
   pub then : State
   pub steps : List Step
   pub leads : Leads state then steps
   pub follows : Follows then after
-  pub alike : map bare steps ≡ becomes
+  pub alike : map outline steps ≡ becomes
   pub empty : adds_empty step ≡ true → list_any step_adds_empty steps ≡ true
   pub lines : WritesAll tells old new (text_of steps) written
 

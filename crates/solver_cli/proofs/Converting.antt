@@ -19,7 +19,7 @@ use Rattle.drat_proof.specs.Conversion.{HasVerdict, converted}
 use Rattle.drat_proof.specs.TwoRoles.{KeptButTwo, added}
 use Rattle.drat_proof.specs.declared.error.ConvertError.{ConvertError}
 use Rattle.drat_proof.specs.declared.error.ConvertError.TheVariants as error
-use Rattle.cnf_base.specs.declared.step.Step.{Step}
+use Rattle.lrat_from_drat.specs.Lrat.{Outline}
 use Rattle.lrat_from_drat.specs.Conversion.{AreFirstLinesOf, AreLinesOf, AreSteps, HasSteps}
 use Rattle.command_line.specs.Command.{format_before}
 use Rattle.command_line.specs.declared.conversion.Conversion.{Conversion}
@@ -32,10 +32,10 @@ use Rattle.solver_cli.proofs.Judging.{judged, unopened, wanted_by}
 use Rattle.solver_cli.proofs.Reading.{of_content, ok_err, rose_since}
 
 -- all lines are the first ones, and those with no rest
-pub all_first : {becomes : List Step} {written : List ℕ} → AreLinesOf becomes written → AreFirstLinesOf becomes written
+pub all_first : {becomes : List Outline} {written : List ℕ} → AreLinesOf becomes written → AreFirstLinesOf becomes written
 all_first {becomes} {written} lines = record { front = becomes; rest = []; parts = sym (append-nil becomes); lines = lines }
 
-pub no_rest : {becomes : List Step} {written : List ℕ} → AreFirstLinesOf becomes written
+pub no_rest : {becomes : List Outline} {written : List ℕ} → AreFirstLinesOf becomes written
     → (rest : List ℕ) × AreFirstLinesOf becomes (written ++ rest)
 no_rest {becomes} {written} lines = ([], subst (AreFirstLinesOf becomes) (sym (append-nil written)) lines)
 

@@ -80,16 +80,16 @@ pub returns-clause-pass : goal.returns-clause-pass
 returns-clause-pass c =
     let places = c.args.db.now in
     sym (all-pass places c.args.pivot c.args.trail.now.literals c.numbers-numbers.result.now
-    (λ number clause stands held. c.numbers-numbers.ensures number clause stands
+    (λ number clause stands held. c.numbers-numbers.ensures.all number clause stands
     (ap (literals_of clause) c.negated.ensures ∙ held))
     (λ number other m stands. c.loop-number.invariant.pass number other
     (subst (λ (l : List ℕ). IsTrue (has_number number l))
     (sym (take_all c.loop-number.number-index c.numbers-numbers.result.now c.loop-number-test.false)) m) stands))
 
 pub returns-clause-line : goal.returns-clause-line
-returns-clause-line c = λ is wanted plain others first.
+returns-clause-line c = λ is wanted plain some others first.
     good-groups c.args.db.now c.args.clause.now others c.args.pivot c.numbers-numbers.result.now c.loop-number.line.groups
     (subst (λ (l : List ℕ). FitGroups c.args.db.now c.args.clause.now c.args.pivot l c.loop-number.line.groups)
     (take_all c.loop-number.number-index c.numbers-numbers.result.now c.loop-number-test.false) (c.loop-number.invariant.fits wanted plain))
-    (λ number other stands held. c.numbers-numbers.ensures number other stands (ap (literals_of other) c.negated.ensures ∙ held))
-    first
+    (λ number other stands held. c.numbers-numbers.ensures.all number other stands (ap (literals_of other) c.negated.ensures ∙ held))
+    c.numbers-numbers.ensures.rising some first

@@ -9,6 +9,7 @@ use Rattle.drat_checker.proofs.Lifts.{some-each}
 use Rattle.drat_checker.proofs.Lined.{fits-other}
 use Rattle.drat_rules.specs.Addition.{others_of}
 use Rattle.drat_checker.proofs.Watched.{moves-none}
+use Rattle.drat_checker.proofs.Units.{units-extended}
 use Rattle.drat_checker.proofs.addition.passes.Goals as goal
 
 pub returns-then-not-holds-clause-passes : goal.returns-then-not-holds-clause-passes
@@ -50,6 +51,9 @@ returns-clause-fits c = λ is wanted plain.
     c.in_ok-note_candidate.ensures.fits (sym c.is_some.ensures ∙ is) wanted plain
     (c.in_ok-refutation.ensures.reasons.kept (clause ++ others) (has-right clause others)
     (reasons-assumed places clause (clause ++ others) c.args.trail.now (has-left clause others) c.requires.assumed.reasons))
+    (units-extended places places c.args.trail.now c.refute_candidate.new.trail c.once_law.ensures c.requires.assumed.reasons.many
+    c.in_ok-refutation.ensures.extends c.in_ok-refutation.ensures.reasons.rest c.in_ok-refutation.ensures.reasons.parts
+    c.requires.settled.holds c.requires.assumed.units)
     (some-each c.in_ok-refutation.refutation (λ r h. refutes-more places c.refute_candidate.new.trail others (clause ++ others) r
     (has-right clause others)
     (free-both c.refute_candidate.new.trail.literals clause others

@@ -2,7 +2,7 @@
 use Rattle.std.proofs.Common.{◌≡◌, ◌+◌, ◌-◌, ℕ, List, [], ◌∷◌, ◌++◌, take, ap, ◌∙◌, subst, arith}
 use Rattle.lrat_rules.specs.Chain.{literals_of}
 use Rattle.drat_checker.specs.Hints.{RefuteSoFar}
-use Rattle.drat_checker.proofs.Hinted.{refute-end, refute-start}
+use Rattle.drat_checker.proofs.Hinted.{own-marked, refute-end, refute-start}
 use Rattle.drat_checker.proofs.hints.explain_all.Goals as goal
 
 pub places-init : goal.places-init
@@ -10,7 +10,9 @@ places-init c = record {
   within = omega arith;
   so_far = refute-start c.args.db.now c.args.trail.now c.args.given.now c.args.first
       (literals_of (take c.args.first.count c.args.trail.now.literals)) (literals_of c.note.new.needed) c.note.new.found (λ x m. m)
-      c.in_ok-note.ensures.marked c.note.ensures.id
+      c.in_ok-note.ensures.marked
+      (own-marked c.args.db.now c.args.first.number c.clear.new.self c.note.new.needed c.clear.ensures c.in_ok-note.ensures.own)
+      c.note.ensures.id
       (c.in_ok-note.ensures.found ∙ ap (λ (l : List ℕ). l ++ (c.args.first.number + 1) ∷ []) c.clear-2.ensures);
 }
 

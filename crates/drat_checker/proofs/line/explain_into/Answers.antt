@@ -7,7 +7,7 @@ use Rattle.drat_checker.proofs.line.explain_into.Goals as goal
 
 pub returns-in-None : goal.returns-in-None
 returns-in-None c = λ assumed same. record {
-  closes = λ are refutes plain.
+  closes = λ are units refutes plain.
       absurd (both_ways (is_tautology assumed) plain (c.conflict_of.ensures.none c.args.db.now assumed same are refutes c.in-None.is));
 }
 
@@ -27,11 +27,12 @@ returns-in_ok-push_turned-in-Some c = λ assumed same.
     let refute : Refute c.args.db.now trail c.args.given.now first c.push_turned.new.hints =
     subst (Refute c.args.db.now trail c.args.given.now first) (sym hints) c.in_ok-explain-in-Some.ensures in
     record {
-      closes = λ are refutes plain. record {
+      closes = λ are units refutes plain. record {
         ids = refute.ids;
-        strict = λ live n live_are is. refute.strict live assumed n live_are (record {
+        exact = λ live n live_are is. refute.exact live assumed n live_are (record {
           same = same;
           reasons = are;
+          units = units;
           conflict = if-some-at (IsFirstConflict c.args.db.now trail.literals assumed) c.conflict_of.result first c.in-Some.is
               (c.conflict_of.ensures.first c.args.db.now assumed same are refutes);
         }) is;

@@ -7,11 +7,12 @@ use Rattle.lrat_rules.specs.Chain.{literals_of, effect}
 use Rattle.lrat_rules.specs.Trail.{with_last}
 use Rattle.drat_checker.specs.Propagation.{Derives}
 use Rattle.drat_checker.specs.Trail.{with_reason}
-use Rattle.drat_checker.specs.Reasons.{KeepsReasons}
+use Rattle.drat_checker.specs.Reasons.{KeepsReasons, is_short_place}
 use Rattle.drat_checker.proofs.Propagated.{either, unclashed, false_clause}
 use Rattle.drat_checker.proofs.Guarded.{conflict-false, forced-held, forced-unfalse}
 use Rattle.drat_checker.proofs.Visited.{last-negated, true-by}
 use Rattle.drat_checker.proofs.Derived.{derives-none, derives-forced}
+use Rattle.drat_checker.proofs.Units.{units-falsified, units-last}
 use Rattle.drat_checker.proofs.Reasoned.{keeps-falsified, keeps-forced, keeps-none}
 use Rattle.drat_checker.proofs.propagation.take_clause.Goals as goal
 
@@ -101,3 +102,20 @@ returns-in-Conflict-clause-reasons c = λ places stands. keeps-none places c.arg
 
 pub returns-in-NotUnit-clause-reasons : goal.returns-in-NotUnit-clause-reasons
 returns-in-NotUnit-clause-reasons c = λ places stands. keeps-none places c.args.trail.now
+
+pub returns-in-Conflict-clause-units : goal.returns-in-Conflict-clause-units
+returns-in-Conflict-clause-units c = λ places stands short units. units
+
+pub returns-in-NotUnit-clause-units : goal.returns-in-NotUnit-clause-units
+returns-in-NotUnit-clause-units c = λ places stands short units. units
+
+pub returns-then-clash-clause-units : goal.returns-then-clash-clause-units
+returns-then-clash-clause-units c =
+    absurd (unclashing c.args.trail.now.literals c.args.clause.now c.in-Unit.literal c.negated.result c.in_ok-clash-in-Unit.clash
+    (sym c.effect_of.ensures ∙ c.in-Unit.is) c.negated.ensures c.in_ok-clash-in-Unit.ensures.clash c.if-clash.true)
+
+pub returns-else-clash-clause-units : goal.returns-else-clash-clause-units
+returns-else-clash-clause-units c = λ places stands short units.
+    units-falsified places c.in_ok-clash-in-Unit.clash (with_reason c.negated.result (Some c.args.number) c.args.trail.now) units
+    (units-last places c.args.trail.now c.negated.result (Some c.args.number) (ap is_short_place stands ∙ short) units)
+    c.in_ok-clash-in-Unit.ensures.reasons

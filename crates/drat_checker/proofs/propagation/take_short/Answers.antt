@@ -5,7 +5,6 @@ use Rattle.std.proofs.lemmas.Bool.{or_cases}
 use Rattle.std.proofs.lemmas.List.{take_all}
 use Rattle.std.proofs.lemmas.List.Folds.{list_any_more}
 use Rattle.std.proofs.lemmas.Map.Views.{exact_unsigned_eq}
-use Rattle.lrat_rules.specs.Chain.{literals_of}
 use Rattle.drat_checker.specs.Places.{place_at, standing}
 use Rattle.drat_checker.specs.Numbers.{has_number}
 use Rattle.drat_checker.specs.Reasons.{IsFalsified}
@@ -13,7 +12,6 @@ use Rattle.drat_checker.proofs.Lifts.{if-some-at}
 use Rattle.drat_checker.proofs.Propagated.{none-before}
 use Rattle.drat_checker.proofs.Derived.{derives-none, derives-then, derives-extends, derives-same}
 use Rattle.drat_checker.proofs.Reasoned.{keeps-none, keeps-then}
-use Rattle.drat_checker.proofs.Guarded.{short-not-unit}
 use Rattle.drat_checker.proofs.Visited.{true-more}
 use Rattle.drat_checker.proofs.propagation.take_short.Goals as goal
 
@@ -22,6 +20,7 @@ loop-number-init c = record {
   derives = derives-none (standing c.args.db.now) c.args.trail.now.literals;
   reasons = keeps-none c.args.db.now c.args.trail.now;
   holds = λ number clause none stands short. absurd (cc);
+  units = λ units. units;
 }
 
 pub loop-number-preserved : goal.loop-number-preserved
@@ -39,11 +38,9 @@ loop-number-preserved c =
             | inl earlier ↦ true-more clause (derives-extends step.derives) (so_far.holds number clause earlier stands short)
             | inr now ↦
                 let is : number ≡ slice_index numbers i = exact_unsigned_eq number (get_or numbers i 0) now in
-                elim (step.taken c.in-None.is clause (ap (place_at c.args.db.now) (sym is) ∙ stands)) [
-                  | inl nothing ↦ absurd (short-not-unit (literals_of c.loop-number.trail.literals) clause short nothing)
-                  | inr holds ↦ holds
-                ]
+                step.taken c.in-None.is clause (ap (place_at c.args.db.now) (sym is) ∙ stands) short
           ];
+      units = λ units. step.units (so_far.units units);
     }
 
 pub returns-in-Some-clause-conflict : goal.returns-in-Some-clause-conflict
@@ -78,3 +75,9 @@ returns-clause-holds c = λ is. record {
 
 pub returns-clause-derives : goal.returns-clause-derives
 returns-clause-derives c = c.loop-number.invariant.derives
+
+pub returns-in-Some-clause-units : goal.returns-in-Some-clause-units
+returns-in-Some-clause-units c = λ units. c.in_ok-conflict.ensures.units (c.loop-number.invariant.units units)
+
+pub returns-clause-units : goal.returns-clause-units
+returns-clause-units c = c.loop-number.invariant.units

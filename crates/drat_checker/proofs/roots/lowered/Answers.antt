@@ -1,5 +1,5 @@
--- A clause that forces nothing under the roots forced none of them.
-use Rattle.std.proofs.Common.{sym, ◌∙◌, subst}
+-- A clause that is the reason of no root leaves all of them.
+use Rattle.std.proofs.Common.{sym, subst}
 use Rattle.drat_checker.specs.declared.roots.Roots.{Roots}
 use Rattle.drat_checker.specs.declared.roots.Roots.TheVariants.{Stale, Settled}
 use Rattle.drat_checker.specs.Places.{Places}
@@ -7,23 +7,17 @@ use Rattle.drat_checker.specs.Roots.{AreKept}
 use Rattle.drat_checker.proofs.Fewer.{roots-fewer, watched-fewer}
 use Rattle.drat_checker.proofs.roots.lowered.Goals as goal
 
-pub returns-in-NotUnit : goal.returns-in-NotUnit
-returns-in-NotUnit c = λ fewer kept is were.
+pub returns-then-spare : goal.returns-then-spare
+returns-then-spare c = λ fewer kept is were.
     let both = subst (λ (r : Roots). AreKept r c.args.db.now kept c.args.trail.now) c.in-Settled.is were in
     subst (λ (ps : Places). AreKept Settled ps kept c.args.trail.now) (sym is) (
       watched-fewer c.args.db.now c.args.number kept both.0,
-      roots-fewer c.args.db.now c.args.number c.in-Some.clause.now (sym c.in-Some.ensures) kept c.args.trail.now
-          (sym c.effect_of.ensures ∙ c.in-NotUnit.is) both.1,
+      roots-fewer c.args.db.now c.args.number kept c.args.trail.now
+          (c.is_spare-spare.ensures c.if-spare.true c.args.db.now (sym c.in-Some.ensures) both.1.reasons) both.1,
     )
 
-pub returns-in-Unit : goal.returns-in-Unit
-returns-in-Unit c = λ fewer kept is were.
-    subst (λ (ps : Places). AreKept Stale ps kept c.args.trail.now) (sym is)
-    (watched-fewer c.args.db.now c.args.number kept
-    (subst (λ (r : Roots). AreKept r c.args.db.now kept c.args.trail.now) c.in-Settled.is were).0)
-
-pub returns-in-Conflict : goal.returns-in-Conflict
-returns-in-Conflict c = λ fewer kept is were.
+pub returns-else-spare : goal.returns-else-spare
+returns-else-spare c = λ fewer kept is were.
     subst (λ (ps : Places). AreKept Stale ps kept c.args.trail.now) (sym is)
     (watched-fewer c.args.db.now c.args.number kept
     (subst (λ (r : Roots). AreKept r c.args.db.now kept c.args.trail.now) c.in-Settled.is were).0)

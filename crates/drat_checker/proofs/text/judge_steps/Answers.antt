@@ -7,6 +7,7 @@ use Rattle.lrat_text.specs.declared.error.StepError.TheVariants.{ReadFault, OutO
 use Rattle.lrat_text.specs.LineReader.{GaveStep, given, is_reading, steps_ahead, so_far}
 use Rattle.lrat_checker.specs.declared.verdict.Verdict.{Verdict}
 use Rattle.lrat_checker.specs.declared.verdict.CheckError.{CheckError}
+use Rattle.lrat_checker.specs.declared.verdict.CheckError.TheVariants.{OutOfMemory}
 use Rattle.lrat_checker.specs.TextVerdict.{end_verdict, error_answer, Answers}
 use Rattle.drat_text.specs.Draft.{drat_form}
 use Rattle.drat_rules.specs.Clauses.{equality_of}
@@ -104,11 +105,20 @@ steps-preserved g c =
       beside = c.next_into.ensures.beside ∙ c.steps.invariant.beside;
     }
 
+-- memory was wanted to judge the step that was read
+-- where memory is refused nothing is said of the verdict
 pub returns-in_err-reason-in-Ok-Some-clause-decides : goal.returns-in_err-reason-in-Ok-Some-clause-decides
 returns-in_err-reason-in-Ok-Some-clause-decides g c = λ told.
-    Decides-then _ (c.steps.invariant.same told) (c.in-Ok-Some.ensures.gives told) (λ bytes middle more before gives. search rules)
+    let is : c.from_residual.result ≡ Err OutOfMemory = first_of (search rules, cc) in
+    Decides-then
+    (λ bytes more. Answers c.from_residual.result
+    (drat_steps_verdict_by (equality_of c.args.deletions) c.args.judge.now false (steps_ahead drat_form c.args.reader.now bytes)))
+    (c.steps.invariant.same told) (c.in-Ok-Some.ensures.gives told)
+    (λ bytes middle more before gives.
+    subst (λ (r : Result Verdict CheckError). Answers r
+    (drat_steps_verdict_by (equality_of c.args.deletions) c.args.judge.now false (steps_ahead drat_form c.args.reader.now bytes)))
+    (sym is) tt)
 
--- memory was wanted to judge the step that was read
 pub returns-in_err-reason-in-Ok-Some-clause-wants : goal.returns-in_err-reason-in-Ok-Some-clause-wants
 returns-in_err-reason-in-Ok-Some-clause-wants g c = λ told is.
     Decides-then _ (c.steps.invariant.wants told) (c.in-Ok-Some.ensures.spends told (ap is_reading c.steps.invariant.reading))

@@ -1,6 +1,5 @@
 -- What is ahead of a new reader are the steps of the text.
 use Rattle.std.proofs.Common.{◌≡◌, ℕ, List, ◌++◌, false, length, map, Option, Some, Err, rules, sym, ◌∙◌, ap, subst, inl, inr}
-use Rattle.cnf_base.specs.declared.step.Step.{Step}
 use Rattle.host_io.specs.declared.role.Role.TheVariants.{ProofIn, ProofOut}
 use Rattle.text_scan.specs.Decides.{Decides-map, Decides-none}
 use Rattle.lrat_text.specs.LineSteps.{StepsOf}
@@ -16,7 +15,7 @@ use Rattle.drat_proof.specs.TwoRoles.{added}
 use Rattle.drat_proof.specs.declared.error.ConvertError.TheVariants.{OutOfMemory}
 use Rattle.drat_checker.specs.DratVerdict.{drat_steps_verdict_by, drat_text_verdict_by, drat_verdict_so_far_by}
 use Rattle.drat_checker.specs.Memory.{drat_reading_may_want_memory, drat_check_may_want_memory_by}
-use Rattle.lrat_from_drat.specs.Lrat.{beginning, lrat_of, lrat_steps}
+use Rattle.lrat_from_drat.specs.Lrat.{Outline, beginning, lrat_of, lrat_steps}
 use Rattle.lrat_from_drat.specs.Conversion.{HasLines}
 use Rattle.lrat_from_drat.proofs.Whole.{no-lines-written, none-written, refutes}
 use Rattle.lrat_from_drat.proofs.text.convert.Goals as goal
@@ -62,7 +61,7 @@ returns-clause-lines g c =
     ≡ lrat_steps same clauses bytes =
     λ bytes. ap (λ (s : StepsOf DratStep). beginning clauses ++ lrat_of same (map Some clauses) s) (c.new-reader.ensures.steps bytes) in
     λ told. Decides-map _ (converts.lines told) (λ bytes more h. subst
-    (λ (l : List Step). HasLines c.convert_from.result l (added (g.H.Host.channel c.args.host.now ProofOut)
+    (λ (l : List Outline). HasLines c.convert_from.result l (added (g.H.Host.channel c.args.host.now ProofOut)
     (g.H.Host.channel c.convert_from.new.host ProofOut))) (whole bytes) h)
 
 pub returns-clause-appended : goal.returns-clause-appended

@@ -8,18 +8,18 @@ use Rattle.drat_checker.proofs.line.LineHints.add_candidate.Goals as goal
 
 pub returns-then-is_blocked-clause-fits : goal.returns-then-is_blocked-clause-fits
 returns-then-is_blocked-clause-fits c =
-    on-ok c.add_bare.result (λ h wanted plain are refutes.
+    on-ok c.add_bare.result (λ h wanted plain are units refutes.
     h c.args.db.now c.args.clause.now c.args.pivot c.requires.stands c.requires.holds
     (sym c.clashes-is_blocked.ensures.blocked ∙ c.if-is_blocked.true))
     c.add_bare.ensures.fits
 
 pub returns-then-tautology-clause-fits : goal.returns-then-tautology-clause-fits
-returns-then-tautology-clause-fits c = λ wanted plain are refutes.
+returns-then-tautology-clause-fits c = λ wanted plain are units refutes.
     fits-tautology c.args.db.now c.args.clause.now c.args.pivot c.args.number c.args.self.now.groups c.args.other.now c.requires.stands
     (sym c.in_ok-tautology.ensures ∙ c.if-tautology.true)
 
 pub returns-clause-fits : goal.returns-clause-fits
-returns-clause-fits c = λ wanted plain are refutes.
+returns-clause-fits c = λ wanted plain are units refutes.
     let places = c.args.db.now in
     let clause = c.args.clause.now in
     let other = c.args.other.now in
@@ -34,4 +34,4 @@ returns-clause-fits c = λ wanted plain are refutes.
     subst (FitOneMore places clause c.args.pivot c.args.number groups) (sym is)
     (fits-refuted places clause c.args.pivot c.args.number other c.requires.stands c.requires.holds plain_other groups hints
     c.id_of-id.ensures.range free
-    (c.in_ok-hints.ensures.explain.closes are refutes (both-plain clause other c.args.pivot plain plain_other free)))
+    (c.in_ok-hints.ensures.explain.closes are units refutes (both-plain clause other c.args.pivot plain plain_other free)))

@@ -1,5 +1,6 @@
--- A blocked clause, a conflict of the clauses alone, and what the roots tell.
+-- A clause that is good without propagation, a conflict of the clauses alone, and what the roots tell.
 use Rattle.std.proofs.Common.{◌≡◌, [], None, refl, sym, ◌∙◌, ap, subst}
+use Rattle.std.proofs.lemmas.Bool.{both_ways}
 use Rattle.drat_rules.specs.Addition.{drat_fault}
 use Rattle.drat_checker.specs.Places.{Places, standing}
 use Rattle.drat_checker.specs.Trail.{Trail}
@@ -12,22 +13,15 @@ use Rattle.drat_checker.proofs.Rooted.{clash-under}
 use Rattle.drat_checker.proofs.Lined.{good-hints}
 use Rattle.drat_checker.proofs.numbered.NumberedJudge.fault_of.Goals as goal
 
-pub add_blocked-requires : goal.add_blocked-requires
-add_blocked-requires c = record {
-  blocked = c.is_blocked.ensures.blocked c.if-is_blocked.true;
-  hints = c.clear.ensures.hints;
-  groups = c.clear.ensures.groups;
-}
-
-pub returns-then-is_blocked-clause-fault : goal.returns-then-is_blocked-clause-fault
-returns-then-is_blocked-clause-fault c =
+pub returns-then-is_plainly_good-clause-fault : goal.returns-then-is_plainly_good-clause-fault
+returns-then-is_plainly_good-clause-fault c =
     subst (λ (ps : Places). None ≡ drat_fault (standing ps) c.args.clause.now) c.self.view_is
-    (sym (c.is_blocked.ensures.good c.if-is_blocked.true))
+    (sym (c.is_plainly_good.ensures.good c.if-is_plainly_good.true))
 
-pub returns-then-is_blocked-clause-line : goal.returns-then-is_blocked-clause-line
-returns-then-is_blocked-clause-line c = λ is wanted plain.
-    subst (λ (ps : Places). IsGoodLine ps c.args.clause.now c.add_blocked.new.self.hints c.add_blocked.new.self.groups) c.self.view_is
-    (c.in_ok-add_blocked.ensures.line (c.clear.ensures.wanted ∙ wanted))
+pub returns-then-is_plainly_good-clause-line : goal.returns-then-is_plainly_good-clause-line
+returns-then-is_plainly_good-clause-line c = λ is wanted plain.
+    absurd (both_ways c.clear.new.self.is_wanted (c.is_plainly_good.ensures.unwanted c.if-is_plainly_good.true)
+    (c.clear.ensures.wanted ∙ wanted))
 
 pub settle-requires : goal.settle-requires
 settle-requires c = c.self.invariant
@@ -54,8 +48,9 @@ returns-in-Some-clause-line c = λ is wanted plain.
     c.self.view_is
     (good-hints c.self.inside.db c.args.clause.now c.note_refutation.new.self.hints c.note_refutation.new.self.groups
     (c.note_refutation.ensures.groups ∙ c.clear.ensures.groups)
+    (clash-under c.quiet_law.ensures.none c.quiet_law.ensures.fails (standing c.self.inside.db) c.args.clause.now clash.none)
     ((c.in_ok-note_refutation.ensures.explain (c.clear.ensures.wanted ∙ wanted)).closes
-    (reasons-assumed c.self.inside.db [] c.args.clause.now c.settle.new.trail refl clash.reasons)
+    (reasons-assumed c.self.inside.db [] c.args.clause.now c.settle.new.trail refl clash.reasons) clash.units
     (c.refutation_by-refutation.ensures c.self.inside.db clash.falsified) plain))
 
 pub addition_fault-requires : goal.addition_fault-requires
@@ -75,6 +70,7 @@ invariant_of-self-2 c =
         closed = roots.closed;
         settled = c.in_ok-fault.ensures.settled;
         reasons = roots.reasons;
+        units = roots.units;
       }),
     )
 
