@@ -85,7 +85,7 @@ class Case(fuzzing.Drawn):
         super().__init__(draw, 0.08)
         self.of_formula = draw.choice([1, 2, 2, 3, 3, 3, 4])
         self.variables = self.of_formula + draw.choice([0, 1, 1, 2])
-        self.formula = [drawn_clause(draw, self.of_formula, 3, 0.05) for _ in range(draw.randint(1, 3 * self.of_formula + 2))]
+        self.formula = self.drawn_formula()
         self.any_order = draw.random() < 0.5
         self.model = Model(self.variables, self.formula, self.any_order)
         self.end, self.has_empty = None, False
@@ -93,6 +93,9 @@ class Case(fuzzing.Drawn):
             self.step()
         if draw.random() < 0.7:
             self.addition([])
+
+    def drawn_formula(self):
+        return [drawn_clause(self.draw, self.of_formula, 3, 0.05) for _ in range(self.draw.randint(1, 3 * self.of_formula + 2))]
 
     def addition(self, clause):
         at = self.put(line_of(self.draw, clause))

@@ -1,5 +1,5 @@
 -- How writes of parts make the write of a whole text.
-use Rattle.std.proofs.Common.{◌≡◌, ℕ, ◌+◌, ◌≤◌, Bool, List, [], ◌++◌, take, drop, length, refl, sym, ◌∙◌, ap, append_assoc, Ok, Err, arith}
+use Rattle.std.proofs.Common.{◌≡◌, ℕ, ◌+◌, Bool, List, [], ◌++◌, take, drop, length, refl, sym, ◌∙◌, ap, append_assoc, Ok, Err, arith}
 use Rattle.std.specs.Prelude.{Result, IsOk, IsErr, IsTrue}
 use Rattle.std.proofs.lemmas.List.{append-nil, take-append-drop}
 use Rattle.std.proofs.Math.Seq.{take-append_seam, take-append-add}

@@ -1,5 +1,5 @@
 -- What is left to show of `emit_group`.
-use Rattle.std.proofs.Common.{◌≡◌, ℕ, [], ◌∷◌, refl, ap, sym, ◌∙◌}
+use Rattle.std.proofs.Common.{ℕ, [], ◌∷◌, refl, ap}
 use Rattle.std.specs.Prelude.{nat_lt}
 use Rattle.lrat_write.specs.LineText.{led_number, ids_text, group_text}
 use Rattle.host_io.proofs.Emitting.{in_turn, fails_within, same_text}
