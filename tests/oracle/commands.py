@@ -53,6 +53,7 @@ solve chain.cnf --proof out --order bad.order
 solve chain.cnf --proof out --buckets bad.order
 solve chain.cnf --proof out --schedule bad.schedule
 solve sums.cnf --proof out --parity --progress
+solve sums.cnf --proof out --parity --search
 solve conflict.cnf --proof out --parity
 check clause.cnf clause.lrat
 check both.cnf both.lrat --progress

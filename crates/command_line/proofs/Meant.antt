@@ -21,7 +21,7 @@ use Rattle.schedule_plan.specs.declared.limits.Limits.{Limits}
 use Rattle.command_line.specs.Parser.{the_app}
 use Rattle.command_line.specs.Command.{Command, Meaning, Asks, AsksHelp, Misuse, IsOneOf, MayMean, Planned, bench_means, check_means}
 use Rattle.command_line.specs.Command.{command}
-use Rattle.command_line.specs.Command.{any_order_among, parity_among, planned_with, rewrite_among, format_given}
+use Rattle.command_line.specs.Command.{any_order_among, parity_among, rewrite_among, format_given}
 use Rattle.command_line.specs.Command.{is_set, limits_among, make_means, means, meanings, method_named, mode_given, names_among}
 use Rattle.command_line.specs.Command.{only_command, order_means, part_named, plan_among, plan_given, progress_among, refusal_means}
 use Rattle.command_line.specs.Command.{ask_means, both, names_differ, same_name, size_among, to_ask}
@@ -118,15 +118,13 @@ names_values values file proof order schedule buckets file_is proof_is order_is 
     ∷ of_row values (codes "buckets") buckets buckets_is i
     ∷ [])
 
-pub plan_values : (values : ArgMatches) (name schedule buckets search_text : Option Text) (parity : Bool)
+pub plan_values : (values : ArgMatches) (name schedule buckets search_text : Option Text)
     → name ≡ first_value (found_of values) (codes "plan") → schedule ≡ first_value (found_of values) (codes "schedule") → buckets
-    ≡ first_value (found_of values) (codes "buckets")
-    → search_text ≡ first_value (found_of values) (codes "search") → parity ≡ parity_among (rows_of (found_of values))
-    → plan_among (rows_of (found_of values))
-    ≡ option_and_then (planned_with parity) (plan_given name schedule buckets (is_set search_text))
-plan_values values name schedule buckets search_text parity name_is schedule_is buckets_is search_is parity_is = λ i.
-    option_and_then (planned_with (sym parity_is i)) (plan_given (of_row values (codes "plan") name name_is i) (of_row values (codes "schedule") schedule schedule_is i)
-    (of_row values (codes "buckets") buckets buckets_is i) (is_set (of_row values (codes "search") search_text search_is i)))
+    ≡ first_value (found_of values) (codes "buckets") → search_text ≡ first_value (found_of values) (codes "search")
+    → plan_among (rows_of (found_of values)) ≡ plan_given name schedule buckets (is_set search_text)
+plan_values values name schedule buckets search_text name_is schedule_is buckets_is search_is = λ i.
+    plan_given (of_row values (codes "plan") name name_is i) (of_row values (codes "schedule") schedule schedule_is i)
+    (of_row values (codes "buckets") buckets buckets_is i) (is_set (of_row values (codes "search") search_text search_is i))
 
 -- files that aren't named change nothing
 two_alone : (file other : Option Text) → two_names file other [] ≡ two_names file other (None ∷ None ∷ None ∷ [])

@@ -279,13 +279,6 @@ plan_given None None (Some file) false = Some (ByBuckets file)
 plan_given None None None true = Some Found
 plan_given _ _ _ _ = None
 
--- parity equations are not added up before a plan that trials find
-abbrev pub planned_with : Bool → Planned → Option Planned
-planned_with parity (ByName name) = Some (ByName name)
-planned_with parity (ByFile file) = Some (ByFile file)
-planned_with parity (ByBuckets file) = Some (ByBuckets file)
-planned_with parity Found = if parity then None else Some Found
-
 -- the format of this name, if it is one, and the one that the options `--format` and `--any-order` give
 abbrev pub format_named : Text → Option ProofFormat
 format_named name = if bytes_eq name (codes "lrat") then Some Lrat else if bytes_eq name (codes "drat") then Some Drat else None
@@ -394,9 +387,8 @@ parity_among rows = is_set (first_of (codes "parity") rows)
 
 -- what gives the plan, among these values
 abbrev pub plan_among : List Row → Option Planned
-plan_among rows = option_and_then (planned_with (parity_among rows))
-    (plan_given (first_of (codes "plan") rows) (first_of (codes "schedule") rows) (first_of (codes "buckets") rows)
-    (is_set (first_of (codes "search") rows)))
+plan_among rows = plan_given (first_of (codes "plan") rows) (first_of (codes "schedule") rows) (first_of (codes "buckets") rows)
+    (is_set (first_of (codes "search") rows))
 
 -- the names of the files among these values, which `solve` is given
 abbrev pub names_among : List Row → Option (Text × Text)

@@ -36,6 +36,10 @@ lax_rule = flag_rule (codes "lax")
 abbrev pub progress_rule : Rule
 progress_rule = flag_rule (codes "progress")
 
+-- `[--explain]`
+abbrev pub explain_rule : Rule
+explain_rule = flag_rule (codes "explain")
+
 -- `[--max-nodes N] [--max-ids N] [--cache N]`
 abbrev pub limit_rules : List Rule
 limit_rules = option_rule (codes "max-nodes") ∷ option_rule (codes "max-ids") ∷ option_rule (codes "cache") ∷ []
@@ -49,11 +53,11 @@ abbrev pub plan_rules : List Rule
 plan_rules =
     option_rule (codes "buckets") ∷ option_rule (codes "schedule") ∷ option_rule (codes "plan") ∷ flag_rule (codes "parity") ∷ []
 
--- `solve FILE --proof P [--lax]`, and then the options of orders, of plans and of limits, and `[--progress]`
+-- `solve FILE --proof P [--lax]`, and then the options of orders, of plans and of limits, and `[--progress] [--explain]`
 abbrev pub solve_app : App
 solve_app =
-    with_rule (with_rules (with_rules (with_rules (with_rules (new_app (codes "solve")) (file_rule ∷ proof_rule ∷ lax_rule ∷ [])) order_rules)
-    plan_rules) limit_rules) progress_rule
+    with_rules (with_rules (with_rules (with_rules (with_rules (new_app (codes "solve")) (file_rule ∷ proof_rule ∷ lax_rule ∷ [])) order_rules)
+    plan_rules) limit_rules) (progress_rule ∷ explain_rule ∷ [])
 
 -- a proof's file, behind the formula's
 abbrev pub proof_file_rule : Rule
@@ -63,39 +67,40 @@ proof_file_rule = record (new_rule (codes "PROOF")) { required = true }
 abbrev pub any_order_rule : Rule
 any_order_rule = flag_rule (codes "any-order")
 
--- `check FILE PROOF [--format FORMAT] [--any-order] [--lax] [--progress]`
+-- `check FILE PROOF [--format FORMAT] [--any-order] [--lax] [--progress] [--explain]`
 abbrev pub check_app : App
 check_app = with_rules (new_app (codes "check"))
-    (file_rule ∷ proof_file_rule ∷ option_rule (codes "format") ∷ any_order_rule ∷ lax_rule ∷ progress_rule ∷ [])
+    (file_rule ∷ proof_file_rule ∷ option_rule (codes "format") ∷ any_order_rule ∷ lax_rule ∷ progress_rule ∷ explain_rule ∷ [])
 
 -- `[--fresh]`
 abbrev pub fresh_rule : Rule
 fresh_rule = flag_rule (codes "fresh")
 
--- `drat FILE PROOF --out P [--lax]`, behind which `[--fresh]` stands; so `lrat`, behind which `[--any-order]` does, and `trim`, behind
--- which `[--core C]` does
+-- `drat FILE PROOF --out P [--lax]`, behind which `[--fresh] [--explain]` stands; so `lrat`, behind which `[--any-order] [--explain]` does,
+-- and `trim`, behind which `[--core C] [--explain]` does
 abbrev pub rewrite_app : Text → App
 rewrite_app name = with_rules (new_app name) (file_rule ∷ proof_file_rule ∷ needed_rule (codes "out") ∷ lax_rule ∷ [])
 
 abbrev pub drat_app : App
-drat_app = with_rule (rewrite_app (codes "drat")) fresh_rule
+drat_app = with_rules (rewrite_app (codes "drat")) (fresh_rule ∷ explain_rule ∷ [])
 
 abbrev pub lrat_app : App
-lrat_app = with_rule (rewrite_app (codes "lrat")) any_order_rule
+lrat_app = with_rules (rewrite_app (codes "lrat")) (any_order_rule ∷ explain_rule ∷ [])
 
 abbrev pub trim_app : App
-trim_app = with_rule (rewrite_app (codes "trim")) (option_rule (codes "core"))
+trim_app = with_rules (rewrite_app (codes "trim")) (option_rule (codes "core") ∷ explain_rule ∷ [])
 
--- `order FILE --by METHOD --out F [--lax]`
+-- `order FILE --by METHOD --out F [--lax] [--explain]`
 abbrev pub order_app : App
 order_app =
-    with_rules (new_app (codes "order")) (file_rule ∷ needed_rule (codes "by") ∷ needed_rule (codes "out") ∷ lax_rule ∷ [])
+    with_rules (new_app (codes "order"))
+    (file_rule ∷ needed_rule (codes "by") ∷ needed_rule (codes "out") ∷ lax_rule ∷ explain_rule ∷ [])
 
--- `ask FILE --cubes Q --proof P [--order F] [--lax]`, and then the options of limits
+-- `ask FILE --cubes Q --proof P [--order F] [--lax]`, and then the options of limits, and `[--explain]`
 abbrev pub ask_app : App
 ask_app =
-    with_rules (with_rules (new_app (codes "ask"))
-    (file_rule ∷ needed_rule (codes "cubes") ∷ proof_rule ∷ option_rule (codes "order") ∷ lax_rule ∷ [])) limit_rules
+    with_rule (with_rules (with_rules (new_app (codes "ask"))
+    (file_rule ∷ needed_rule (codes "cubes") ∷ proof_rule ∷ option_rule (codes "order") ∷ lax_rule ∷ [])) limit_rules) explain_rule
 
 -- a word that must be there, without an option in front of it; help shows it by another name
 abbrev pub word_rule : Text → Rule
@@ -105,13 +110,15 @@ word_rule name = record (new_rule name) { value_names = 1; required = true }
 abbrev pub board_rules : List Rule
 board_rules = word_rule (codes "KIND") ∷ word_rule (codes "SIZE") ∷ []
 
--- `bench board N --proof P [--max-nodes N] [--max-ids N] [--cache N] [--progress]`
+-- `bench board N --proof P [--max-nodes N] [--max-ids N] [--cache N] [--progress] [--explain]`
 abbrev pub bench_app : App
-bench_app = with_rule (with_rules (with_rules (new_app (codes "bench")) board_rules) (proof_rule ∷ limit_rules)) progress_rule
+bench_app = with_rules (with_rules (with_rules (new_app (codes "bench")) board_rules) (proof_rule ∷ limit_rules))
+    (progress_rule ∷ explain_rule ∷ [])
 
--- `make board N --part PART --out F`
+-- `make board N --part PART --out F [--explain]`
 abbrev pub make_app : App
-make_app = with_rules (with_rules (new_app (codes "make")) board_rules) (needed_rule (codes "part") ∷ needed_rule (codes "out") ∷ [])
+make_app = with_rules (with_rules (new_app (codes "make")) board_rules)
+    (needed_rule (codes "part") ∷ needed_rule (codes "out") ∷ explain_rule ∷ [])
 
 -- a command that shows its version, by `--version` or `-V`
 abbrev pub with_version : App → App

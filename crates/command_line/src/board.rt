@@ -33,9 +33,9 @@ pub struct MakeTask<'a> {
     pub file: &'a str,
 }
 
-const LEAST_SIZE: u64 = 2;
+pub(crate) const LEAST_SIZE: u64 = 2;
 
-const GREATEST_SIZE: u64 = 100;
+pub(crate) const GREATEST_SIZE: u64 = 100;
 
 pub fn bench_asked<'a>(values: &ArgMatches<'a>) -> Option<Asked<'a>>
     ensures meant { MatchOption result (bench_means (rows_of (found_of values.now)) ≡ Misuse)

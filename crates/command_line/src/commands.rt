@@ -15,14 +15,14 @@ const SOLVE: Subcommand<'static> = Subcommand {
 bddsat solve FILE --proof P [--lax] [--order F]
                     [--search | --buckets F | --schedule F | --plan PLAN]
                     [--parity] [--max-nodes N] [--max-ids N] [--cache N]
-                    [--progress]",
+                    [--progress] [--explain]",
         after: "\
 Example:
   bddsat solve formula.cnf --search --proof formula.lrat",
     },
     arguments: &[
         FILE, PROOF, LAX, SEARCH, ORDER, BUCKETS, SCHEDULE, PLAN, PARITY, MAX_NODES, MAX_IDS,
-        CACHE, PROGRESS,
+        CACHE, PROGRESS, EXPLAIN,
     ],
 };
 
@@ -32,61 +32,61 @@ const CHECK: Subcommand<'static> = Subcommand {
         about: "Check the proof in PROOF that FILE is unsatisfiable",
         usage: "\
 bddsat check FILE PROOF [--format FORMAT] [--any-order] [--lax]
-                    [--progress]",
+                    [--progress] [--explain]",
         after: "\
 Examples:
   bddsat check formula.cnf formula.lrat
   bddsat check formula.cnf formula.drat --format drat --any-order",
     },
-    arguments: &[FILE, GIVEN_PROOF, FORMAT, ANY_ORDER, LAX, PROGRESS],
+    arguments: &[FILE, GIVEN_PROOF, FORMAT, ANY_ORDER, LAX, PROGRESS, EXPLAIN],
 };
 
 const DRAT: Subcommand<'static> = Subcommand {
     name: "drat",
     texts: Texts {
         about: "Check PROOF, an LRAT proof, and write it in DRAT to P",
-        usage: "bddsat drat FILE PROOF --out P [--lax] [--fresh]",
+        usage: "bddsat drat FILE PROOF --out P [--lax] [--fresh] [--explain]",
         after: "\
 Example:
   bddsat drat formula.cnf formula.lrat --out formula.drat",
     },
-    arguments: &[FILE, LRAT_PROOF, DRAT_OUT, LAX, FRESH],
+    arguments: &[FILE, LRAT_PROOF, DRAT_OUT, LAX, FRESH, EXPLAIN],
 };
 
 const LRAT: Subcommand<'static> = Subcommand {
     name: "lrat",
     texts: Texts {
         about: "Check PROOF, a DRAT proof, and write it in LRAT to P",
-        usage: "bddsat lrat FILE PROOF --out P [--lax] [--any-order]",
+        usage: "bddsat lrat FILE PROOF --out P [--lax] [--any-order] [--explain]",
         after: "\
 Example:
   bddsat lrat formula.cnf formula.drat --any-order --out formula.lrat",
     },
-    arguments: &[FILE, DRAT_PROOF, LRAT_OUT, LAX, ANY_ORDER],
+    arguments: &[FILE, DRAT_PROOF, LRAT_OUT, LAX, ANY_ORDER, EXPLAIN],
 };
 
 const TRIM: Subcommand<'static> = Subcommand {
     name: "trim",
     texts: Texts {
         about: "Check PROOF, an LRAT proof, and write what it needs to P",
-        usage: "bddsat trim FILE PROOF --out P [--lax] [--core C]",
+        usage: "bddsat trim FILE PROOF --out P [--lax] [--core C] [--explain]",
         after: "\
 Example:
   bddsat trim formula.cnf formula.lrat --out trimmed.lrat",
     },
-    arguments: &[FILE, LRAT_PROOF, TRIMMED_OUT, LAX, CORE],
+    arguments: &[FILE, LRAT_PROOF, TRIMMED_OUT, LAX, CORE, EXPLAIN],
 };
 
 const ARRANGE: Subcommand<'static> = Subcommand {
     name: "order",
     texts: Texts {
         about: "Write an order of FILE's variables, found by METHOD, to F",
-        usage: "bddsat order FILE --by METHOD --out F [--lax]",
+        usage: "bddsat order FILE --by METHOD --out F [--lax] [--explain]",
         after: "\
 Example:
   bddsat order formula.cnf --by degree --out formula.order",
     },
-    arguments: &[FILE, METHOD, ORDER_OUT, LAX],
+    arguments: &[FILE, METHOD, ORDER_OUT, LAX, EXPLAIN],
 };
 
 const ASK: Subcommand<'static> = Subcommand {
@@ -95,12 +95,14 @@ const ASK: Subcommand<'static> = Subcommand {
         about: "Answer the cubes in Q over FILE and write one proof to P",
         usage: "\
 bddsat ask FILE --cubes Q --proof P [--lax] [--order F]
-                  [--max-nodes N] [--max-ids N] [--cache N]",
+                  [--max-nodes N] [--max-ids N] [--cache N] [--explain]",
         after: "\
 Example:
   bddsat ask formula.cnf --cubes questions.cubes --proof formula.lrat",
     },
-    arguments: &[FILE, CUBES, PROOF, ORDER, LAX, MAX_NODES, MAX_IDS, CACHE],
+    arguments: &[
+        FILE, CUBES, PROOF, ORDER, LAX, MAX_NODES, MAX_IDS, CACHE, EXPLAIN,
+    ],
 };
 
 const BENCH: Subcommand<'static> = Subcommand {
@@ -109,24 +111,26 @@ const BENCH: Subcommand<'static> = Subcommand {
         about: "Decide the mutilated chessboard of N by N and write the proof to P",
         usage: "\
 bddsat bench board N --proof P [--max-nodes N] [--max-ids N] [--cache N]
-                    [--progress]",
+                    [--progress] [--explain]",
         after: "\
 Example:
   bddsat bench board 8 --proof board.lrat",
     },
-    arguments: &[KIND, SIZE, PROOF, MAX_NODES, MAX_IDS, CACHE, PROGRESS],
+    arguments: &[
+        KIND, SIZE, PROOF, MAX_NODES, MAX_IDS, CACHE, PROGRESS, EXPLAIN,
+    ],
 };
 
 const MAKE: Subcommand<'static> = Subcommand {
     name: "make",
     texts: Texts {
         about: "Write a text of the mutilated chessboard of N by N to F",
-        usage: "bddsat make board N --part PART --out F",
+        usage: "bddsat make board N --part PART --out F [--explain]",
         after: "\
 Example:
   bddsat make board 8 --part cnf --out board.cnf",
     },
-    arguments: &[KIND, SIZE, PART, OUT],
+    arguments: &[KIND, SIZE, PART, OUT, EXPLAIN],
 };
 
 const FILE: Argument<'static> = Argument {
@@ -180,7 +184,7 @@ const PLAN: Argument<'static> = Argument {
 const PARITY: Argument<'static> = Argument {
     name: "parity",
     form: Form::Flag,
-    help: "Add up parity equations first; not with --search",
+    help: "Add up parity equations first",
 };
 
 const MAX_NODES: Argument<'static> = Argument {
@@ -205,6 +209,12 @@ const PROGRESS: Argument<'static> = Argument {
     name: "progress",
     form: Form::Flag,
     help: "Report progress on standard error",
+};
+
+const EXPLAIN: Argument<'static> = Argument {
+    name: "explain",
+    form: Form::Flag,
+    help: "Explain on standard error what goes wrong",
 };
 
 const GIVEN_PROOF: Argument<'static> = Argument {

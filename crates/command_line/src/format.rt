@@ -48,7 +48,7 @@ fn format_of_name(name: Option<&str>) -> Option<ProofFormat>
     }
 }
 
-fn format_named(name: &str) -> Option<ProofFormat>
+pub(crate) fn format_named(name: &str) -> Option<ProofFormat>
     ensures { result ≡ format_named name.now }
 {
     if name == "lrat" {

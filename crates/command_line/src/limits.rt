@@ -10,17 +10,17 @@ use schedule_plan::Limits;
 
 const DEFAULT_NODES: u64 = 10_000_000;
 
-const GREATEST_NODES: u64 = 100_000_000;
+pub(crate) const GREATEST_NODES: u64 = 100_000_000;
 
-const GREATEST_IDS: u64 = 1_000_000_000_000_000;
+pub(crate) const GREATEST_IDS: u64 = 1_000_000_000_000_000;
 
 const DEFAULT_IDS: u64 = GREATEST_IDS;
 
-const LEAST_CACHE: u64 = 1;
+pub(crate) const LEAST_CACHE: u64 = 1;
 
 const DEFAULT_CACHE: u64 = 1_000_000;
 
-const GREATEST_CACHE: u64 = 100_000_000;
+pub(crate) const GREATEST_CACHE: u64 = 100_000_000;
 
 const MOST_DIGITS: usize = 18;
 

@@ -17,18 +17,18 @@ const ALL: Texts<'static> = Texts {
 bddsat solve FILE --proof P [--lax] [--order F]
                     [--search | --buckets F | --schedule F | --plan PLAN]
                     [--parity] [--max-nodes N] [--max-ids N] [--cache N]
-                    [--progress]
+                    [--progress] [--explain]
        bddsat check FILE PROOF [--format FORMAT] [--any-order] [--lax]
-                    [--progress]
-       bddsat drat FILE PROOF --out P [--lax] [--fresh]
-       bddsat lrat FILE PROOF --out P [--lax] [--any-order]
-       bddsat trim FILE PROOF --out P [--lax] [--core C]
-       bddsat order FILE --by METHOD --out F [--lax]
+                    [--progress] [--explain]
+       bddsat drat FILE PROOF --out P [--lax] [--fresh] [--explain]
+       bddsat lrat FILE PROOF --out P [--lax] [--any-order] [--explain]
+       bddsat trim FILE PROOF --out P [--lax] [--core C] [--explain]
+       bddsat order FILE --by METHOD --out F [--lax] [--explain]
        bddsat ask FILE --cubes Q --proof P [--lax] [--order F]
-                    [--max-nodes N] [--max-ids N] [--cache N]
+                    [--max-nodes N] [--max-ids N] [--cache N] [--explain]
        bddsat bench board N --proof P [--max-nodes N] [--max-ids N] [--cache N]
-                    [--progress]
-       bddsat make board N --part PART --out F",
+                    [--progress] [--explain]
+       bddsat make board N --part PART --out F [--explain]",
     after: "\
 Exit codes:
   10  solve: satisfiable; the values are on standard output
@@ -54,7 +54,9 @@ Examples:
   bddsat order formula.cnf --by degree --out formula.order
   bddsat ask formula.cnf --cubes questions.cubes --proof formula.lrat
   bddsat bench board 8 --proof board.lrat
-  bddsat make board 8 --part cnf --out board.cnf",
+  bddsat make board 8 --part cnf --out board.cnf
+
+When something goes wrong: add --explain to the command",
 };
 
 /// The parser: one of nine commands after the program's name.

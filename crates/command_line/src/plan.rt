@@ -1,11 +1,10 @@
 // What options of the command line give a plan by.
 ghost use Rattle.std.specs.Prelude.{◌≡◌, option_map};
-ghost use Rattle.std.specs.Option.{option_and_then};
 ghost use Rattle.clap.specs.Words.{found_of, rows_of};
-ghost use Rattle.command_line.specs.Command.{Found, plan_among, plan_given, plan_named, planned_with};
+ghost use Rattle.command_line.specs.Command.{plan_among, plan_given, plan_named};
 ghost use Rattle.command_line.specs.Reading.{planned_of, text_of};
 
-use crate::mode::{flag_among, is_set};
+use crate::mode::is_set;
 use clap::ArgMatches;
 
 /// A plan that has a name.
@@ -36,37 +35,12 @@ const DEFAULT_PLAN: PlanName = PlanName::Bucket;
 pub fn plan_among<'a>(values: &ArgMatches<'a>) -> Option<PlanSource<'a>>
     ensures { option_map planned_of result ≡ plan_among (rows_of (found_of values.now)) }
 {
-    let plan = plan_given(
+    plan_given(
         values.get_str("plan"),
         values.get_str("schedule"),
         values.get_str("buckets"),
         is_set(values.get_str("search")),
-    );
-    with_parity(plan, flag_among(values, "parity"))
-}
-
-// The same plan, unless it is to be found and parity equations are added up before it.
-fn with_parity<'a>(plan: Option<PlanSource<'a>>, parity: bool) -> Option<PlanSource<'a>>
-    ensures { option_map planned_of result ≡ option_and_then (planned_with parity) (option_map planned_of plan.entry) }
-{
-    match plan {
-        Some(PlanSource::Name(name)) => Some(PlanSource::Name(name)),
-        Some(PlanSource::Schedule(file)) => Some(PlanSource::Schedule(file)),
-        Some(PlanSource::Buckets(file)) => Some(PlanSource::Buckets(file)),
-        Some(PlanSource::Search) => found_without(parity),
-        None => None,
-    }
-}
-
-// The plan that is to be found, unless parity equations are added up.
-fn found_without<'a>(parity: bool) -> Option<PlanSource<'a>>
-    ensures { option_map planned_of result ≡ planned_with parity Found }
-{
-    if parity {
-        None
-    } else {
-        Some(PlanSource::Search)
-    }
+    )
 }
 
 // What gives the plan: the option of its name, that of a schedule's file, that of an order's, or the flag of the search; the default
@@ -89,7 +63,7 @@ fn plan_given<'a>(
     }
 }
 
-fn plan_named(name: &str) -> Option<PlanName>
+pub(crate) fn plan_named(name: &str) -> Option<PlanName>
     ensures { result ≡ plan_named name.now }
 {
     if name == "bucket" {

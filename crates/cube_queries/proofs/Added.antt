@@ -130,11 +130,14 @@ module _ {S : Type 0} (old new : Runner S) where
 
   -- a cube is answered
   pub replies_added : (most : ℕ) (cube : List ℤ) (r : Result Answer TableError) → Adds most old new r
-      → IfOk r (IsAnswer new.formula.now new.terms.table.graph.order new.terms.table.book.steps cube) → Replies cube old new r
+      → IfOk r (IsAnswer new.formula.now new.terms.table.graph.order new.terms.table.book.steps new.terms.table.book.state.live cube)
+      → Replies cube old new r
   replies_added most cube r adds answer = record {
     goes_on = adds.goes_on;
     out = adds.out;
     keeps = λ whole. keeps_same old new adds.nodes (good_same old new adds.out);
+    clauses = adds.clauses;
+    no_limit = adds.no_limit;
     answer = answer;
     goes = adds.goes;
   }

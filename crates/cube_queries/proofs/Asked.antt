@@ -1,6 +1,6 @@
 -- Cubes that are answered one by one, beside the formula's term, which is released at the end.
 use Rattle.std.proofs.Common.{◌≡◌, ◌∙◌, ◌<◌, ◌+◌, ◌++◌, ℕ, zero, suc, Bool, true, false, ℤ, List, [], ◌∷◌, length, take}
-use Rattle.std.proofs.Common.{None, Some, Ok, Err, Result, refl, sym, ap, subst, arith}
+use Rattle.std.proofs.Common.{◌≢◌, None, Some, Ok, Err, Result, refl, sym, ap, subst, arith}
 use Rattle.std.specs.Prelude.{IsErrAnd, IsTrue, slice_index_or}
 use Rattle.std.specs.List.{list_all}
 use Rattle.std.proofs.lemmas.Bool.{and_parts}
@@ -12,6 +12,7 @@ use Rattle.node_table.specs.declared.error.TableError.{TableError}
 use Rattle.node_table.specs.declared.error.TableError.TheVariants.{NodeLimit, IdLimit, OutOfMemory, WriteFault}
 use Rattle.node_table.specs.HandedOn.{no_error, same_error}
 use Rattle.node_table.specs.Laws.{StepByStep}
+use Rattle.lrat_rules.specs.State.{Live}
 use Rattle.node_table.specs.Table.{TableState}
 use Rattle.term_runner.specs.declared.held.HeldTerm.{HeldTerm}
 use Rattle.term_runner.specs.declared.runner.Runner.{Runner}
@@ -49,7 +50,9 @@ stays_replied cube old new answer replies = record {
 }
 
 abbrev pub AnswersIn : {S : Type 0} → Runner S → List (List ℤ) → List Answer → Type 0
-AnswersIn runner cubes answers = AreAnswers runner.formula.now runner.terms.table.graph.order runner.terms.table.book.steps cubes answers
+AnswersIn runner cubes answers =
+    AreAnswers runner.formula.now runner.terms.table.graph.order runner.terms.table.book.steps runner.terms.table.book.state.live cubes
+    answers
 
 -- one cube more
 pub answers_more : {S : Type 0} (old new : Runner S) (cubes : List (List ℤ)) (place : ℕ) → place < length cubes → (answers : List Answer)
@@ -57,8 +60,9 @@ pub answers_more : {S : Type 0} (old new : Runner S) (cubes : List (List ℤ)) (
     → AnswersIn new (take (place + 1) cubes) (answers ++ answer ∷ [])
 answers_more old new cubes place within answers answer before replies =
     subst (λ (l : List (List ℤ)). AnswersIn new l (answers ++ answer ∷ [])) (sym (take_more cubes place [] within))
-    (all_and_one (IsAnswer new.formula.now new.terms.table.graph.order new.terms.table.book.steps) (take place cubes) answers
-    (slice_index_or cubes place []) answer (answers_further old new replies.goes (take place cubes) answers before) replies.answer)
+    (all_and_one (IsAnswer new.formula.now new.terms.table.graph.order new.terms.table.book.steps new.terms.table.book.state.live)
+    (take place cubes) answers (slice_index_or cubes place []) answer
+    (answers_further old new replies.goes replies.clauses (take place cubes) answers before) replies.answer)
 
 pub whole_answers : {S : Type 0} (runner : Runner S) (cubes : List (List ℤ)) (place : ℕ) → place ≡ length cubes → (answers : List Answer)
     → AnswersIn runner (take place cubes) answers → AnswersIn runner cubes answers
@@ -72,6 +76,7 @@ pub all_replied : {S : Type 0} (cubes : List (List ℤ)) (old new : Runner S) (a
 all_replied cubes old new answers stays are = record {
   goes_on = λ whole. stays.runner;
   answers = are;
+  unrefuted = λ is. absurd (no_error is);
   goes = stays.goes;
 }
 
@@ -87,6 +92,7 @@ module _ {S : Type 0} (steps : StepByStep S) (cubes : List (List ℤ)) (old mid 
   none_replied cube replies = handed (record {
     goes_on = λ whole. replies.goes_on (λ same. whole (ap Err (same_error same)));
     answers = tt;
+    unrefuted = λ is. absurd (replies.no_limit (ap Err (same_error is)));
     goes = goes_further steps old mid new (Some error) before.goes replies.goes;
   })
 
@@ -94,6 +100,7 @@ module _ {S : Type 0} (steps : StepByStep S) (cubes : List (List ℤ)) (old mid 
   none_reclaimed back = handed (record {
     goes_on = λ whole. back.goes_on (λ same. whole (ap Err (same_error same)));
     answers = tt;
+    unrefuted = λ is. absurd (back.no_limit (ap Err (same_error is)));
     goes = goes_further steps old mid new (Some error) before.goes back.goes;
   })
 
@@ -104,6 +111,7 @@ no_room_replied cubes old new stays (Ok answers) is = absurd is
 no_room_replied cubes old new stays (Err other) is = subst (λ (e : TableError). RepliesAll cubes old new (Err e)) (sym is) (record {
   goes_on = λ whole. stays.runner;
   answers = tt;
+  unrefuted = λ same. absurd (let e : OutOfMemory ≡ NodeLimit = same_error same in cc);
   goes = record {
     formula = stays.goes.formula;
     limits = stays.goes.limits;
@@ -125,23 +133,30 @@ module _ {S : Type 0} (steps : StepByStep S) (cubes : List (List ℤ)) (old mid 
     (before : Goes old mid None)
     (released : IsTrue two.terms.table.book.in_step → Releases held two new)
     (torn : two.terms.table.book.in_step ≡ false → new ≡ two) where
-  pub all_released : (r : Result (List Answer) TableError) → RepliesAll cubes mid two r → RepliesAll cubes old new r
-  all_released (Ok answers) replies =
+  pub all_released : (r : Result (List Answer) TableError) → r ≢ Err NodeLimit → RepliesAll cubes mid two r → RepliesAll cubes old new r
+  all_released (Ok answers) no_limit replies =
       let one = released (replies.goes_on no_error).over.sound.in_step in
       let steps_are : new.terms.table.book.steps ≡ two.terms.table.book.steps = ap (λ (t : TableState S). t.book.steps) one.table in
+      let live_is : new.terms.table.book.state.live ≡ two.terms.table.book.state.live =
+      ap (λ (t : TableState S). t.book.state.live) one.table in
       let order_is : new.terms.table.graph.order ≡ two.terms.table.graph.order = ap (λ (t : TableState S). t.graph.order) one.table in
       record {
         goes_on = λ whole. one.goes_on;
-        answers = subst (λ (f : Formula). AreAnswers f new.terms.table.graph.order new.terms.table.book.steps cubes answers)
-            (sym (ap (λ f. f.now) one.formula))
-            (subst (λ (o : List ℕ). AreAnswers two.formula.now o new.terms.table.book.steps cubes answers) (sym order_is)
-            (subst (λ (s : List Step). AreAnswers two.formula.now two.terms.table.graph.order s cubes answers) (sym steps_are)
-            replies.answers));
+        answers = subst (λ (f : Formula). AreAnswers f new.terms.table.graph.order new.terms.table.book.steps new.terms.table.book.state.live
+            cubes answers) (sym (ap (λ f. f.now) one.formula))
+            (subst (λ (o : List ℕ). AreAnswers two.formula.now o new.terms.table.book.steps new.terms.table.book.state.live cubes answers)
+            (sym order_is)
+            (subst (λ (s : List Step). AreAnswers two.formula.now two.terms.table.graph.order s new.terms.table.book.state.live cubes answers)
+            (sym steps_are)
+            (subst (λ (l : Live). AreAnswers two.formula.now two.terms.table.graph.order two.terms.table.book.steps l cubes answers)
+            (sym live_is) replies.answers)));
+        unrefuted = λ is. absurd (no_error is);
         goes = goes_released steps old two new held released torn None (goes_further steps old mid two None before replies.goes);
       }
-  all_released (Err error) replies = record {
+  all_released (Err error) no_limit replies = record {
     goes_on = λ whole. (released (replies.goes_on whole).over.sound.in_step).goes_on;
     answers = tt;
+    unrefuted = λ is. absurd (no_limit is);
     goes = goes_released steps old two new held released torn (Some error)
         (goes_further steps old mid two (Some error) before replies.goes);
   }
@@ -162,6 +177,7 @@ taken_none cubes old new holds error (Ok answers) is over = absurd is
 taken_none cubes old new holds error (Err other) is over = subst (λ (e : TableError). RepliesAll cubes old new (Err e)) (sym is) (record {
   goes_on = λ whole. over.goes_on (λ same. whole (ap Err (same_error same)));
   answers = tt;
+  unrefuted = λ is was. over.unrefuted (λ same. nodes_whole (sym (ap Err (same_error is)) ∙ same)) was tt;
   goes = over.goes;
 })
 
@@ -181,3 +197,9 @@ none_taken old new holds NodeLimit over on = over.refused nodes_whole refl
 none_taken old new holds IdLimit over on = over.refused ids_whole refl
 none_taken old new holds OutOfMemory over on = over.refused memory_whole refl
 none_taken old new holds WriteFault over on = absurd (let e : true ≡ false = sym on ∙ over.goes.leaves.out_of_step in cc)
+
+-- an error that is handed on is no limit of nodes where it wasn't
+pub handed_limit : (error : TableError) (r : Result (List Answer) TableError) → IsErrAnd r (λ e. e ≡ error) → (error ≡ NodeLimit → ⊥)
+    → r ≢ Err NodeLimit
+handed_limit error (Ok answers) is none same = absurd is
+handed_limit error (Err other) is none same = none (sym is ∙ same_error same)

@@ -1,45 +1,76 @@
 -- How a session ends: its steps are a conservative proof, whose lines the sink has, and its answers are true.
 use Rattle.std.proofs.Common.{◌≡◌, ◌≢◌, ◌⊎◌, ◌∙◌, ◌<◌, ◌≤◌, ◌+◌, ◌*◌, ◌++◌, ℕ, Bool, true, false, ℤ, List, [], ◌∷◌, length, Option, None}
 use Rattle.std.proofs.Common.{Some, Result, Ok, Err, refl, sym, ap, subst, arith, inl, inr}
-use Rattle.std.specs.Prelude.{IsTrue, IfOk, IsOk}
+use Rattle.std.specs.Prelude.{IsTrue, IfOk, IsOk, max}
+use Rattle.node_table.specs.Value.{Levels}
 use Rattle.cnf_base.specs.declared.step.Step.{Step}
 use Rattle.cnf_base.specs.Formula.{Formula}
+use Rattle.cnf_base.specs.Truth.{AreClausesOf}
 use Rattle.host_io.specs.Channel.{Channel, Rose}
 use Rattle.lrat_rules.specs.Conservative.{are_conservative}
 use Rattle.lrat_rules.specs.Derivation.{IsCutProof, IsDerivation, IsWritten, text_of}
-use Rattle.lrat_rules.specs.Marks.{in_use}
+use Rattle.lrat_rules.specs.Marks.{IsWithin, in_use}
 use Rattle.lrat_rules.specs.State.{State, start}
 use Rattle.clause_ledger.specs.Book.{Book, IsBook, IsTextOf, after_steps}
 use Rattle.node_table.specs.declared.error.TableError.{TableError}
 use Rattle.node_table.specs.declared.error.TableError.TheVariants as table
 use Rattle.node_table.specs.Diagram.{Graph, levels}
 use Rattle.node_table.specs.HandedOn.{no_error, same_error}
-use Rattle.node_table.specs.Progress.{BreaksOff, error_of}
-use Rattle.node_table.specs.Table.{UnlessTorn, live_nodes}
+use Rattle.node_table.specs.Progress.{BreaksOff, error_of, number_limit}
+use Rattle.node_table.specs.Table.{TableState, UnlessTorn, live_nodes}
 use Rattle.node_table.specs.Tied.{IsTied}
 use Rattle.schedule_plan.specs.declared.limits.Limits.{Limits}
 use Rattle.term_runner.specs.declared.error.RunError.{RunError}
 use Rattle.term_runner.specs.declared.error.RunError.TheVariants.{OutOfMemory, WriteFault}
 use Rattle.term_runner.specs.declared.runner.Runner.{Runner}
 use Rattle.term_runner.specs.Price.{IsMovePrice}
-use Rattle.term_runner.specs.Proofs.{IsProofOfKind, IsProofSoFarOfKind}
+use Rattle.term_runner.specs.Counting.{IsPartOfOne}
+use Rattle.term_runner.specs.Proofs.{IsProof, IsProofSoFar, IsProofSoFarOfKind, KeepsWithin}
 use Rattle.term_runner.specs.Runner.{IsRunner}
 use Rattle.term_runner.specs.Unused.{IsOpenedOver}
+use Rattle.term_runner.specs.Width.{AreMore, IsPartInHand}
 use Rattle.cube_queries.specs.declared.answer.Answer.{Answer}
 use Rattle.cube_queries.specs.declared.answer.Outcome.{Outcome}
 use Rattle.cube_queries.specs.Answers.{AreAnswers}
-use Rattle.cube_queries.specs.Ends.{AnyState, Ends, IsFlushed, Says, Shows, outcome_of}
+use Rattle.cube_queries.specs.Ends.{Ends, IsAnswered, IsFlushed, Says, Shows, outcome_of}
 use Rattle.cube_queries.specs.Steps.{CostsAll, Goes, RepliesAll}
-use Rattle.cube_queries.specs.Width.{IsPaid, NeedsAtMost, NeedsMore, moves_of}
+use Rattle.cube_queries.specs.Width.{AreAmple, IsPaid, NeedsAtMost, NeedsMore, functions_at, moves_of}
 use Rattle.cube_queries.proofs.Replied.{answers_true}
 use Rattle.cube_queries.proofs.Stays.{ids_whole, memory_whole, nodes_whole}
 
--- A write failed in the last step: the state before it has no greater number.
-pub record BrokeIn {S : Type 0} (runner : Runner S) : Type 0 where
+-- More parts than a number are more than a smaller one, and so what is needed.
+fewer : (kind : (Levels → Bool) → Type 0) (few number : ℕ) → few ≤ number → AreMore kind number → AreMore kind few
+fewer kind few number less more = record {
+  parts = more.parts;
+  more = let many = more.more in omega (arith, many, less);
+  are = more.are;
+  essential = more.essential;
+  differ = more.differ;
+}
+
+needs_more : (formula : Formula) (order : List ℕ) (cubes : List (List ℤ)) (few number : ℕ) → few ≤ number
+    → NeedsMore formula order cubes number → NeedsMore formula order cubes few
+needs_more formula order cubes few number less (inl wider) = inl (record {
+  count = wider.count;
+  before = wider.before;
+  after = wider.after;
+  move = wider.move;
+  more = fewer (IsPartInHand false formula order wider.before wider.after) few number less wider.more;
+})
+needs_more formula order cubes few number less (inr wider) = inr (record {
+  cube = wider.cube;
+  asked = wider.asked;
+  more = fewer (IsPartOfOne (functions_at formula order wider.cube)) few number less wider.more;
+})
+
+-- A write failed in the last step: the state before it has no greater number, and both keep within the limits.
+pub record BrokeIn {S : Type 0} (formula : Formula) (limits : Limits) (runner : Runner S) : Type 0 where
   pub earlier : List Step
   pub last : Step
   pub parts : runner.terms.table.book.steps ≡ earlier ++ last ∷ []
   pub no_less : (after_steps (start runner.terms.table.book.formula) earlier).top ≤ runner.terms.table.book.state.top
+  pub within_before : KeepsWithin formula limits (after_steps (start runner.terms.table.book.formula) earlier)
+  pub within_after : KeepsWithin formula limits runner.terms.table.book.state
 
 -- what is known of a runner behind all cubes
 pub record IsSession {S : Type 0} (formula : Formula) (order : List ℕ) (limits : Limits) (cubes : List (List ℤ)) (runner : Runner S)
@@ -48,15 +79,16 @@ pub record IsSession {S : Type 0} (formula : Formula) (order : List ℕ) (limits
   pub of_order : runner.terms.table.graph.order ≡ order
   pub within : runner.limits ≡ limits
   pub goes_on : UnlessTorn found (IsRunner runner)
-  pub answers : IfOk found (AreAnswers formula order runner.terms.table.book.steps cubes)
+  pub answers : IfOk found (AreAnswers formula order runner.terms.table.book.steps runner.terms.table.book.state.live cubes)
   pub nodes : found ≡ Err table.NodeLimit → runner.terms.table.max_nodes ≤ live_nodes runner.terms.table.graph
+  pub unrefuted : found ≡ Err table.NodeLimit → runner.refuted ≡ false
   pub ids : found ≡ Err table.IdLimit → runner.terms.table.book.limit < runner.terms.table.book.state.top + 4
   pub torn : found ≡ Err table.WriteFault → runner.terms.table.book.in_step ≡ false
   pub clauses : runner.terms.table.book.formula ≡ formula.clauses
   pub short : found ≡ Err table.NodeLimit → NeedsMore formula order cubes limits.max_nodes
   pub paid : (width price : ℕ) → NeedsAtMost formula order cubes width → IsMovePrice formula.vars limits.cache width price
       → IsPaid formula cubes price runner.terms.table.book.state
-  pub broken : found ≡ Err table.WriteFault → BrokeIn runner
+  pub broken : found ≡ Err table.WriteFault → BrokeIn formula limits runner
 
 module _ {S : Type 0} (formula : Formula) (order : List ℕ) (limits : Limits) (cubes : List (List ℤ)) (sink : S) (old new : Runner S)
     (opened : IsOpenedOver formula order limits sink old) where
@@ -91,19 +123,44 @@ module _ {S : Type 0} (formula : Formula) (order : List ℕ) (limits : Limits) (
   costs_short error costs is =
       subst (λ (l : Limits). NeedsMore formula order cubes l.max_nodes) opened.within (needs old.limits.max_nodes (costs.short is))
 
-  broke_in : new.terms.table.book.formula ≡ formula.clauses → BreaksOff old.terms.table new.terms.table → BrokeIn new
+  -- the limits of the table that was opened
+  vars_are : levels old.terms.table.graph ≡ formula.vars
+  vars_are = opened.unused.vars ∙ ap (λ (f : Formula). f.vars) opened.of_formula
+
+  top_is : old.terms.table.book.state.top ≡ length formula.clauses
+  top_is = ap (λ (s : State). s.top) opened.unused.book.state ∙ ap (λ (f : Formula). length f.clauses) opened.of_formula
+
+  ids_are : old.terms.table.book.limit ≡ limits.max_ids
+  ids_are = opened.unused.book.limit ∙ ap (λ (l : Limits). l.max_ids) opened.within
+
+  nodes_are : old.terms.table.max_nodes ≡ limits.max_nodes
+  nodes_are = ap (λ (t : TableState S). t.max_nodes) opened.unused.table ∙ ap (λ (l : Limits). l.max_nodes) opened.within
+
+  within_limits : (nodes : ℕ) → nodes ≤ old.terms.table.max_nodes → (state : State)
+      → IsWithin (levels old.terms.table.graph) (number_limit old.terms.table) nodes state → KeepsWithin formula limits state
+  within_limits nodes few state is = record {
+    numbers = omega (arith, is.numbers, top_is, ids_are);
+    nodes = subst (λ (v : ℕ). in_use v state ≤ limits.max_nodes) vars_are (omega (arith, is.nodes, few, nodes_are));
+  }
+
+  broke_in : new.terms.table.book.formula ≡ formula.clauses → BreaksOff old.terms.table new.terms.table → BrokeIn formula limits new
   broke_in clauses breaks =
       let steps_are : new.terms.table.book.steps ≡ breaks.more =
       ap (λ (b : Book S). b.steps) breaks.told.is ∙ ap (λ (l : List Step). l ++ breaks.more) opened.unused.book.steps in
       let begun : start new.terms.table.book.formula ≡ old.terms.table.book.state =
       ap start clauses ∙ sym (opened.unused.book.state ∙ ap (λ (f : Formula). start f.clauses) opened.of_formula) in
+      let leads : after_steps (start new.terms.table.book.formula) breaks.cut.earlier ≡ breaks.cut.before =
+      ap (λ (s : State). after_steps s breaks.cut.earlier) begun ∙ breaks.cut.leads in
       let same : (after_steps (start new.terms.table.book.formula) breaks.cut.earlier).top ≡ breaks.cut.before.top =
-      ap (λ (s : State). (after_steps s breaks.cut.earlier).top) begun ∙ ap (λ (s : State). s.top) breaks.cut.leads in
+      ap (λ (s : State). s.top) leads in
       record {
         earlier = breaks.cut.earlier;
         last = breaks.cut.last;
         parts = steps_are ∙ breaks.cut.parts;
         no_less = omega (arith, same, breaks.cut.no_less);
+        within_before = subst (KeepsWithin formula limits) (sym leads)
+            (within_limits (live_nodes new.terms.table.graph) breaks.few breaks.cut.before breaks.cut.within_before);
+        within_after = within_limits (live_nodes new.terms.table.graph) breaks.few new.terms.table.book.state breaks.cut.within_after;
       }
 
   runner_clauses : IsRunner new → new.formula.now ≡ formula → new.terms.table.book.formula ≡ formula.clauses
@@ -119,9 +176,11 @@ module _ {S : Type 0} (formula : Formula) (order : List ℕ) (limits : Limits) (
         of_order = is.1.0;
         within = is.1.1;
         goes_on = replies.goes_on;
-        answers = subst (λ (f : Formula). AreAnswers f order new.terms.table.book.steps cubes answers) is.0
-            (subst (λ (o : List ℕ). AreAnswers new.formula.now o new.terms.table.book.steps cubes answers) is.1.0 replies.answers);
+        answers = subst (λ (f : Formula). AreAnswers f order new.terms.table.book.steps new.terms.table.book.state.live cubes answers) is.0
+            (subst (λ (o : List ℕ). AreAnswers new.formula.now o new.terms.table.book.steps new.terms.table.book.state.live cubes answers)
+            is.1.0 replies.answers);
         nodes = λ same. absurd (no_error same);
+        unrefuted = λ same. absurd (no_error same);
         ids = λ same. absurd (no_error same);
         torn = λ same. absurd (no_error same);
         clauses = runner_clauses runner is.0;
@@ -138,6 +197,7 @@ module _ {S : Type 0} (formula : Formula) (order : List ℕ) (limits : Limits) (
         goes_on = replies.goes_on;
         answers = tt;
         nodes = λ same. replies.goes.leaves.1;
+        unrefuted = λ same. replies.unrefuted refl opened.unused.unrefuted;
         ids = λ same. absurd (let e : table.NodeLimit ≡ table.IdLimit = same_error same in cc);
         torn = λ same. absurd (nodes_whole same);
         clauses = runner_clauses (replies.goes_on nodes_whole) is.0;
@@ -154,6 +214,7 @@ module _ {S : Type 0} (formula : Formula) (order : List ℕ) (limits : Limits) (
         goes_on = replies.goes_on;
         answers = tt;
         nodes = λ same. absurd (let e : table.IdLimit ≡ table.NodeLimit = same_error same in cc);
+        unrefuted = λ same. absurd (let e : table.IdLimit ≡ table.NodeLimit = same_error same in cc);
         ids = λ same. replies.goes.leaves.1;
         torn = λ same. absurd (ids_whole same);
         clauses = runner_clauses (replies.goes_on ids_whole) is.0;
@@ -170,6 +231,7 @@ module _ {S : Type 0} (formula : Formula) (order : List ℕ) (limits : Limits) (
         goes_on = replies.goes_on;
         answers = tt;
         nodes = λ same. absurd (let e : table.OutOfMemory ≡ table.NodeLimit = same_error same in cc);
+        unrefuted = λ same. absurd (let e : table.OutOfMemory ≡ table.NodeLimit = same_error same in cc);
         ids = λ same. absurd (let e : table.OutOfMemory ≡ table.IdLimit = same_error same in cc);
         torn = λ same. absurd (memory_whole same);
         clauses = runner_clauses (replies.goes_on memory_whole) is.0;
@@ -187,6 +249,7 @@ module _ {S : Type 0} (formula : Formula) (order : List ℕ) (limits : Limits) (
         goes_on = replies.goes_on;
         answers = tt;
         nodes = λ same. absurd (let e : table.WriteFault ≡ table.NodeLimit = same_error same in cc);
+        unrefuted = λ same. absurd (let e : table.WriteFault ≡ table.NodeLimit = same_error same in cc);
         ids = λ same. absurd (let e : table.WriteFault ≡ table.IdLimit = same_error same in cc);
         torn = λ same. replies.goes.leaves.out_of_step;
         clauses = same_clauses;
@@ -243,13 +306,32 @@ module _ {S B : Type 0} (tells : Bool) (channel : S → Channel) (beside : S →
       subst (λ (cs : List (List ℤ)). IsWritten cs after.written state) session.clauses
       (written_law after.written (inl (whole_text whole t)))
 
-  is_whole : UnlessTorn found (IsTrue tells → IsProofOfKind formula.clauses AnyState after.written)
-  is_whole whole t = record { state = state; written = is_written whole t; within = tt }
+  -- the extension variables in use are as many as the nodes
+  used_are : UnlessTorn found (in_use formula.vars state ≡ live_nodes runner.terms.table.graph)
+  used_are whole =
+      let goes_on = session.goes_on whole in
+      let vars : levels runner.terms.table.graph ≡ formula.vars = goes_on.over.vars ∙ ap (λ (f : Formula). f.vars) session.of_formula in
+      ap (λ (n : ℕ). in_use n state) (sym vars) ∙ used_law runner.terms.table.graph state goes_on.over.sound.tied
+
+  max_nodes_are : UnlessTorn found (runner.terms.table.max_nodes ≡ limits.max_nodes)
+  max_nodes_are whole = (session.goes_on whole).within.max_nodes ∙ ap (λ (l : Limits). l.max_nodes) session.within
+
+  keeps : UnlessTorn found (KeepsWithin formula limits state)
+  keeps whole = record {
+    numbers = subst (λ (l : Limits). state.top ≤ max (length formula.clauses) l.max_ids) session.within
+        (subst (λ (f : Formula). state.top ≤ max (length f.clauses) runner.limits.max_ids) session.of_formula
+        (session.goes_on whole).within.numbers);
+    nodes = omega (arith, used_are whole, few, max_nodes_are whole);
+  }
+
+  is_whole : UnlessTorn found (IsTrue tells → IsProof formula limits after.written)
+  is_whole whole t = record { state = state; written = is_written whole t; within = keeps whole }
 
   -- a failed write leaves a front of the last line
-  is_cut : (kind : State → Type 0) → kind state → ((s : State) → s.top ≤ state.top → kind s) → found ≡ Err table.WriteFault → IsTrue tells
-      → IsProofSoFarOfKind formula.clauses kind after.written
-  is_cut kind here less is t = by_text (subst (λ (b : Bool). IsTextOf b steps after.written) (session.torn is) (bytes_are t)) where
+  is_cut : (kind : State → Type 0) → kind state
+      → ((broke : BrokeIn formula limits runner) → kind (after_steps (start runner.terms.table.book.formula) broke.earlier))
+      → found ≡ Err table.WriteFault → IsTrue tells → IsProofSoFarOfKind formula.clauses kind after.written
+  is_cut kind here before_it is t = by_text (subst (λ (b : Bool). IsTextOf b steps after.written) (session.torn is) (bytes_are t)) where
     by_text : IsTextOf false steps after.written → IsProofSoFarOfKind formula.clauses kind after.written
     by_text (inl same) = inl (record {
       state = state;
@@ -264,15 +346,15 @@ module _ {S B : Type 0} (tells : Bool) (channel : S → Channel) (beside : S →
           after = state;
           cut = subst (λ (cs : List (List ℤ)). IsCutProof cs after.written was state) session.clauses
               (cut_law after.written broke.earlier broke.last (inr cut) broke.parts);
-          within_before = less was broke.no_less;
+          within_before = before_it broke;
           within_after = here;
         })
 
   -- what was found holds, and the bytes show it
   says : (f : Result (List Answer) TableError) → found ≡ f → IfOk (outcome_of f) (Says formula order cubes limits)
   says (Ok answers) is =
-      answers_true formula order steps cubes answers
-      (subst (λ (f : Result (List Answer) TableError). IfOk f (AreAnswers formula order steps cubes)) is session.answers)
+      answers_true formula order steps state.live cubes answers
+      (subst (λ (f : Result (List Answer) TableError). IfOk f (AreAnswers formula order steps state.live cubes)) is session.answers)
   says (Err table.NodeLimit) is = session.short is
   says (Err table.IdLimit) is = tt
   says (Err table.OutOfMemory) is = tt
@@ -290,20 +372,20 @@ module _ {S B : Type 0} (tells : Bool) (channel : S → Channel) (beside : S →
         conserves = subst (λ (f : Formula). are_conservative f.vars (start f.clauses) steps ≡ true) session.of_formula
             goes_on.within.conserves;
         text = whole_text whole t;
-        shown = subst (λ (f : Result (List Answer) TableError). IfOk f (AreAnswers formula order steps cubes)) is session.answers;
+        shown = subst (λ (f : Result (List Answer) TableError). IfOk f (AreAnswers formula order steps state.live cubes)) is session.answers;
       }
   shows (Err table.NodeLimit) is t =
       let whole : found ≢ Err table.WriteFault = λ e. nodes_whole (sym is ∙ e) in
       let goes_on = session.goes_on whole in
       let many = session.nodes is in
-      let max : runner.terms.table.max_nodes ≡ limits.max_nodes = goes_on.within.max_nodes ∙ ap (λ
-      (l : Limits). l.max_nodes) session.within in
-      let live : live_nodes runner.terms.table.graph ≡ limits.max_nodes = omega (arith, many, few, max) in
-      let vars : levels runner.terms.table.graph ≡ formula.vars = goes_on.over.vars ∙ ap (λ (f : Formula). f.vars) session.of_formula in
+      let live : live_nodes runner.terms.table.graph ≡ limits.max_nodes = omega (arith, many, few, max_nodes_are whole) in
+      let inputs : runner.terms.table.inputs ≡ length formula.clauses =
+      goes_on.over.counted ∙ ap (λ (f : Formula). length f.clauses) session.of_formula in
       record {
         state = state;
         written = is_written whole t;
-        used = ap (λ (n : ℕ). in_use n state) (sym vars) ∙ used_law runner.terms.table.graph state goes_on.over.sound.tied ∙ live;
+        used = used_are whole ∙ live;
+        unrefuted = λ id above. goes_on.unrefuted (session.unrefuted is) id (omega (arith, above, inputs));
       }
   shows (Err table.IdLimit) is t =
       let whole : found ≢ Err table.WriteFault = λ e. ids_whole (sym is ∙ e) in
@@ -336,15 +418,32 @@ module _ {S B : Type 0} (tells : Bool) (channel : S → Channel) (beside : S →
   whole_or_torn (Err table.OutOfMemory) = inr memory_whole
   whole_or_torn (Err table.WriteFault) = inl refl
 
-  so_far : IsTrue tells → IsProofSoFarOfKind formula.clauses AnyState after.written
-  so_far t = elim (whole_or_torn found) [ inl torn ↦ is_cut AnyState tt (λ s less. tt) torn t | inr whole ↦ inl (is_whole whole t) ]
+  so_far : IsTrue tells → IsProofSoFar formula limits after.written
+  so_far t = elim (whole_or_torn found) [
+    | inl torn ↦ is_cut (KeepsWithin formula limits) (session.broken torn).within_after (λ broke. broke.within_before) torn t
+    | inr whole ↦ inl (is_whole whole t)
+  ]
+
+  -- the answers are certain where the limits are ample
+  certain : (width price : ℕ) → NeedsAtMost formula order cubes width → IsMovePrice formula.vars limits.cache width price
+      → AreAmple limits formula cubes width price → (f : Result (List Answer) TableError) → found ≡ f → IfOk (outcome_of f) IsAnswered
+  certain width price most is ample (Ok answers) same = tt
+  certain width price most is ample (Err table.NodeLimit) same =
+      most (needs_more formula order cubes width limits.max_nodes ample.0 (session.short same))
+  certain width price most is ample (Err table.IdLimit) same =
+      let whole : found ≢ Err table.WriteFault = λ e. ids_whole (sym same ∙ e) in
+      let limit : runner.terms.table.book.limit ≡ limits.max_ids =
+      (session.goes_on whole).within.max_ids ∙ ap (λ (l : Limits). l.max_ids) session.within in
+      omega (arith, session.ids same, limit, session.paid width price most is, ample.1)
+  certain width price most is ample (Err table.OutOfMemory) same = tt
+  certain width price most is ample (Err table.WriteFault) same = tt
 
   paid : (width price : ℕ) → NeedsAtMost formula order cubes width → IsMovePrice formula.vars limits.cache width price → IsTrue tells
       → IsProofSoFarOfKind formula.clauses (IsPaid formula cubes price) after.written
   paid width price most is t =
       let here = session.paid width price most is in
       elim (whole_or_torn found) [
-        | inl torn ↦ is_cut (IsPaid formula cubes price) here (λ s less. omega (arith, here, less)) torn t
+        | inl torn ↦ is_cut (IsPaid formula cubes price) here (λ broke. omega (arith, here, broke.no_less)) torn t
         | inr whole ↦ inl (record { state = state; written = is_written whole t; within = here })
       ]
 
@@ -389,6 +488,7 @@ module _ {S B : Type 0} (tells : Bool) (channel : S → Channel) (beside : S →
   pub ends_of : Ends tells before after formula order cubes limits result
   ends_of = record {
     says = if_result (Says formula order cubes limits) (says found refl);
+    certain = λ width price most is ample. if_result IsAnswered (certain width price most is ample found refl);
     shows = λ t. if_result (Shows formula order cubes limits after.written) (shows found refl t);
     whole = λ whole t. is_whole (whole_found whole) t;
     so_far = so_far;
@@ -410,10 +510,13 @@ in_step_yet cubes old new (Err table.WriteFault) replies is = absurd (let e : fa
 
 -- where nothing was done, for want of memory
 pub nothing_ends : (tells : Bool) (channel : Channel) (formula : Formula) (order : List ℕ) (limits : Limits) (cubes : List (List ℤ))
-    → ((clauses : List (List ℤ)) → IsDerivation clauses [] (start clauses)) → (IsTrue tells → channel.written ≡ [])
+    → ((clauses : List (List ℤ)) → IsDerivation clauses [] (start clauses))
+    → ((vars : ℕ) (clauses : List (List ℤ)) → AreClausesOf vars clauses → in_use vars (start clauses) ≡ 0)
+    → AreClausesOf formula.vars formula.clauses → (IsTrue tells → channel.written ≡ [])
     → Ends tells channel channel formula order cubes limits (Err OutOfMemory)
-nothing_ends tells channel formula order limits cubes none fresh = record {
+nothing_ends tells channel formula order limits cubes none unused literals fresh = record {
   says = tt;
+  certain = λ width price most is ample. tt;
   shows = λ t. tt;
   whole = λ whole t. no_steps t;
   so_far = λ t. inl (no_steps t);
@@ -424,9 +527,9 @@ nothing_ends tells channel formula order limits cubes none fresh = record {
   name = refl;
 }
   where
-    no_steps : IsTrue tells → IsProofOfKind formula.clauses AnyState channel.written
+    no_steps : IsTrue tells → IsProof formula limits channel.written
     no_steps t = record {
       state = start formula.clauses;
       written = record { steps = []; derived = none formula.clauses; text = fresh t };
-      within = tt;
+      within = record { numbers = omega arith; nodes = omega (arith, unused formula.vars formula.clauses literals) };
     }

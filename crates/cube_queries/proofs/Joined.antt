@@ -1,10 +1,11 @@
 -- The conjunction of the one term that is out and a clause's, step by step.
-use Rattle.std.proofs.Common.{◌≡◌, ◌⊎◌, ◌∙◌, ◌++◌, suc, Bool, true, false, List, [], ◌∷◌, Contains, None, Some, Ok, Err, Result}
+use Rattle.std.proofs.Common.{◌≡◌, ◌⊎◌, ◌∙◌, ◌++◌, suc, ◌≢◌, Bool, true, false, List, [], ◌∷◌, Contains, None, Some, Ok, Err, Result}
 use Rattle.std.proofs.Common.{refl, sym, ap, subst, arith, inl, inr}
 use Rattle.std.specs.Prelude.{IsErrAnd, IsTrue}
 use Rattle.cnf_base.specs.Truth.{Assignment}
 use Rattle.node_table.specs.declared.error.TableError.{TableError}
 use Rattle.node_table.specs.declared.error.TableError.TheVariants.{NodeLimit, IdLimit, OutOfMemory, WriteFault}
+use Rattle.node_table.specs.declared.node.Node.TheVariants.{False}
 use Rattle.node_table.specs.HandedOn.{no_error}
 use Rattle.node_table.specs.Laws.{StepByStep}
 use Rattle.node_table.specs.Table.{TableState}
@@ -38,6 +39,7 @@ module _ {S : Type 0} (steps : StepByStep S) (old mid new : Runner S) (u : HeldT
           listed = released_middle u v w.held own old.terms.out.items mid.terms.out.items new.terms.out.items alone listed
               takes.listed one.out;
           refused = λ whole is. absurd (let e : false ≡ true = is in cc);
+          unrefuted = λ whole was some. one.refuted ∙ takes.unrefuted no_error was some;
           goes = goes_released steps old mid new v released torn None takes.goes;
         }
     second_released (Err error) takes = record {
@@ -48,6 +50,7 @@ module _ {S : Type 0} (steps : StepByStep S) (old mid new : Runner S) (u : HeldT
           released_second u v own mid.terms.out.items new.terms.out.items alone
           (subst (λ (l : List HeldTerm). IsListed own l v) (sym (takes.refused whole is)) listed)
           (released (takes.goes_on whole).over.sound.in_step).out;
+      unrefuted = λ whole was none. (released (takes.goes_on whole).over.sound.in_step).refuted ∙ takes.unrefuted whole was tt;
       goes = goes_released steps old mid new v released torn (Some error) takes.goes;
     }
 
@@ -62,6 +65,7 @@ module _ {S : Type 0} (steps : StepByStep S) (old mid new : Runner S) (u : HeldT
           value = λ a. same_value mid new u one w.held a ∙ takes.value a;
           listed = released_first u w.held own mid.terms.out.items new.terms.out.items alone takes.listed one.out;
           refused = λ whole is. absurd (let e : false ≡ true = is in cc);
+          unrefuted = λ whole was some. one.refuted ∙ takes.unrefuted no_error was some;
           goes = goes_released steps old mid new u released torn None takes.goes;
         }
     first_released (Err error) takes = record {
@@ -72,18 +76,21 @@ module _ {S : Type 0} (steps : StepByStep S) (old mid new : Runner S) (u : HeldT
           released_alone u mid.terms.out.items new.terms.out.items
           (subst (λ (l : List HeldTerm). IsListed [] l u) (sym (takes.refused whole is)) alone)
           (released (takes.goes_on whole).over.sound.in_step).out;
+      unrefuted = λ whole was none. (released (takes.goes_on whole).over.sound.in_step).refuted ∙ takes.unrefuted whole was tt;
       goes = goes_released steps old mid new u released torn (Some error) takes.goes;
     }
 
 -- the clause's term, and then the conjunction
 module _ {S : Type 0} (steps : StepByStep S) (old mid new : Runner S) (own : List HeldTerm) (clause : Assignment → Bool) (term : Term)
-    (first : Takes clause old mid (Ok term)) (before after : Assignment → Bool) (same : (a : Assignment) → after a ≡ before a) where
+    (first : Takes clause old mid (Ok term)) (some : term.held.node ≢ False) (before after : Assignment → Bool)
+    (same : (a : Assignment) → after a ≡ before a) where
   pub over_behind : (r : Result Term TableError) → TakesOver own after mid new r → TakesOver own before old new r
   over_behind (Ok w) over = record {
     goes_on = over.goes_on;
     value = λ a. over.value a ∙ same a;
     listed = over.listed;
     refused = over.refused;
+    unrefuted = λ whole was ends. over.unrefuted whole (first.unrefuted no_error was some) ends;
     goes = goes_further steps old mid new None first.goes over.goes;
   }
   over_behind (Err error) over = record {
@@ -91,6 +98,7 @@ module _ {S : Type 0} (steps : StepByStep S) (old mid new : Runner S) (own : Lis
     value = tt;
     listed = tt;
     refused = over.refused;
+    unrefuted = λ whole was ends. over.unrefuted whole (first.unrefuted no_error was some) ends;
     goes = goes_further steps old mid new (Some error) first.goes over.goes;
   }
 
@@ -102,6 +110,7 @@ over_none old new clause holds error takes = record {
   value = tt;
   listed = tt;
   refused = takes.refused;
+  unrefuted = takes.unrefuted;
   goes = takes.goes;
 }
 
@@ -113,6 +122,7 @@ over_of old new own is holds (Ok term) takes = record {
   value = takes.value;
   listed = subst (λ (l : List HeldTerm). IsListed l new.terms.out.items term.held) is takes.listed;
   refused = λ whole e. takes.refused whole e ∙ is;
+  unrefuted = takes.unrefuted;
   goes = takes.goes;
 }
 over_of old new own is holds (Err error) takes = record {
@@ -120,6 +130,7 @@ over_of old new own is holds (Err error) takes = record {
   value = tt;
   listed = tt;
   refused = λ whole e. takes.refused whole e ∙ is;
+  unrefuted = takes.unrefuted;
   goes = takes.goes;
 }
 

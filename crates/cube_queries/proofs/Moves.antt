@@ -134,7 +134,7 @@ get_behind xs y z rest =
 
 -- a part in hand, as one of functions
 part_in_hand : (formula : Formula) (order : List ℕ) (before after : Stage) (functions : List (Levels → Bool))
-    → ((f : Levels → Bool) → Contains functions f → (term : Term) × IsInHand before after term × (f ≡ term_function formula order term))
+    → ((f : Levels → Bool) → Contains functions f → (term : Term) × IsInHand false before after term × (f ≡ term_function formula order term))
     → (number : ℕ) → HaveMore functions number → (moves : List Move) (count : ℕ) → IsMove formula (in_order order moves) count before after
     → IsWider formula order moves number
 part_in_hand formula order before after functions terms number have moves count move = record {
@@ -148,11 +148,11 @@ part_in_hand formula order before after functions terms number have moves count 
     are = λ place small.
         let is = have.are place small in
         let term = terms is.function is.among in
-        record {
+        inl (record {
           term = term.0;
           in_hand = term.1;
           is_part = subst (λ (f : Levels → Bool). IsSubfunction f (part_at have.parts place)) term.2 is.is_part;
-        };
+        });
     essential = have.essential;
     differ = have.differ;
   };
@@ -169,7 +169,7 @@ wider_first formula order some functions are number have = by_length (length for
       let whole = begins 0 n (omega arith) in
       let parts : conjoin (suc n) ≡ Push 1 ∷ whole.rest = whole.parts in
       part_in_hand formula order no_stage (stage_of 1) functions
-      (λ f there. (input 1, inr (inr (0, omega arith, refl)), are f there)) number have (conjoin (suc n)) 0 (record {
+      (λ f there. (input 1, inr (0, omega arith, refl), are f there)) number have (conjoin (suc n)) 0 (record {
         step = Push 1;
         is = ap (λ (l : List Move). slice_get l 0) (plain order (suc n) ∙ parts);
         reached = refl;
@@ -178,7 +178,7 @@ wider_first formula order some functions are number have = by_length (length for
 
 -- where the conjunction of one more clause with those before has more, or one of both
 pub wider_next : (formula : Formula) (order : List ℕ) (n : ℕ) → suc (suc n) ≤ length formula.clauses → (functions : List (Levels → Bool))
-    → ((f : Levels → Bool) → Contains functions f → (term : Term) × IsInHand (pushed_at n) (stage_of (suc (suc n))) term
+    → ((f : Levels → Bool) → Contains functions f → (term : Term) × IsInHand false (pushed_at n) (stage_of (suc (suc n))) term
     × (f ≡ term_function formula order term))
     → (number : ℕ) → HaveMore functions number → IsWider formula order (conjoin (length formula.clauses)) number
 wider_next formula order n small functions terms number have = by_length (length formula.clauses) refl where
@@ -208,13 +208,13 @@ wider_next formula order n small functions terms number have = by_length (length
       })
 
 -- what the terms in hand there are
-pub both_there : (n : ℕ) → IsInHand (pushed_at n) (stage_of (suc (suc n))) (both (all_up_to n) (input (suc (suc n))))
-both_there n = inr (inr (0, omega arith, refl))
+pub both_there : (n : ℕ) → IsInHand false (pushed_at n) (stage_of (suc (suc n))) (both (all_up_to n) (input (suc (suc n))))
+both_there n = inr (0, omega arith, refl)
 
-pub clause_there : (n : ℕ) → IsInHand (pushed_at n) (stage_of (suc (suc n))) (input (suc (suc n)))
+pub clause_there : (n : ℕ) → IsInHand false (pushed_at n) (stage_of (suc (suc n))) (input (suc (suc n)))
 clause_there n = inl (0, omega arith, refl)
 
-pub front_there : (n : ℕ) → IsInHand (pushed_at n) (stage_of (suc (suc n))) (all_up_to n)
+pub front_there : (n : ℕ) → IsInHand false (pushed_at n) (stage_of (suc (suc n))) (all_up_to n)
 front_there n = inl (1, omega arith, refl)
 
 -- the conjunction holds where its clauses do

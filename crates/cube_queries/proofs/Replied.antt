@@ -6,6 +6,8 @@ use Rattle.cnf_base.specs.declared.step.Step.{Step}
 use Rattle.cnf_base.specs.Formula.{Formula}
 use Rattle.clause_ledger.specs.Book.{Book}
 use Rattle.lrat_rules.specs.Conservative.{IsAddedBy}
+use Rattle.lrat_rules.specs.State.{Live}
+use Rattle.node_table.specs.Tied.{KeepsClauses}
 use Rattle.term_runner.specs.declared.runner.Runner.{Runner}
 use Rattle.cube_queries.specs.declared.answer.Answer.{Answer}
 use Rattle.cube_queries.specs.Answers.{AreAll, AreAnswers, AreTrue, IsAnswer, IsTrueOf}
@@ -33,22 +35,31 @@ still_added [] back clause is = absurd is
 still_added (step ∷ front) back clause (inl here) = inl here
 still_added (step ∷ front) back clause (inr later) = inr (still_added front back clause later)
 
-pub answers_further : {S : Type 0} (old new : Runner S) → Goes old new None → (cubes : List (List ℤ)) (answers : List Answer)
-    → AreAnswers old.formula.now old.terms.table.graph.order old.terms.table.book.steps cubes answers
-    → AreAnswers new.formula.now new.terms.table.graph.order new.terms.table.book.steps cubes answers
-answers_further {S} old new goes cubes answers all =
+pub answers_further : {S : Type 0} (old new : Runner S) → Goes old new None
+    → KeepsClauses old.terms.table.book.state.live new.terms.table.book.state.live → (cubes : List (List ℤ)) (answers : List Answer)
+    → AreAnswers old.formula.now old.terms.table.graph.order old.terms.table.book.steps old.terms.table.book.state.live cubes answers
+    → AreAnswers new.formula.now new.terms.table.graph.order new.terms.table.book.steps new.terms.table.book.state.live cubes answers
+answers_further {S} old new goes keeps cubes answers all =
+    let live = new.terms.table.book.state.live in
     let told : new.terms.table.book.steps ≡ old.terms.table.book.steps ++ goes.leaves.more =
     ap (λ (b : Book S). b.steps) goes.leaves.told.is in
-    subst (λ (f : Formula). AreAnswers f new.terms.table.graph.order new.terms.table.book.steps cubes answers)
+    subst (λ (f : Formula). AreAnswers f new.terms.table.graph.order new.terms.table.book.steps live cubes answers)
     (sym (ap (λ f. f.now) goes.formula))
-    (subst (λ (o : List ℕ). AreAnswers old.formula.now o new.terms.table.book.steps cubes answers) (sym goes.order)
-    (subst (λ (s : List Step). AreAnswers old.formula.now old.terms.table.graph.order s cubes answers) (sym told)
-    (all_weaker (IsAnswer old.formula.now old.terms.table.graph.order old.terms.table.book.steps)
-    (IsAnswer old.formula.now old.terms.table.graph.order (old.terms.table.book.steps ++ goes.leaves.more))
-    (λ cube answer is. (is.0, λ unsat. still_added old.terms.table.book.steps goes.leaves.more (forbidding cube) (is.1 unsat)))
+    (subst (λ (o : List ℕ). AreAnswers old.formula.now o new.terms.table.book.steps live cubes answers) (sym goes.order)
+    (subst (λ (s : List Step). AreAnswers old.formula.now old.terms.table.graph.order s live cubes answers) (sym told)
+    (all_weaker (IsAnswer old.formula.now old.terms.table.graph.order old.terms.table.book.steps old.terms.table.book.state.live)
+    (IsAnswer old.formula.now old.terms.table.graph.order (old.terms.table.book.steps ++ goes.leaves.more) live)
+    (λ cube answer is. (
+      is.0,
+      λ unsat.
+          let was = is.1 unsat in (
+            still_added old.terms.table.book.steps goes.leaves.more (forbidding cube) was.0,
+            (was.1.0, keeps was.1.0 (forbidding cube) was.1.1),
+          ),
+    ))
     cubes answers all)))
 
-pub answers_true : (formula : Formula) (order : List ℕ) (steps : List Step) (cubes : List (List ℤ)) (answers : List Answer)
-    → AreAnswers formula order steps cubes answers → AreTrue formula order cubes answers
-answers_true formula order steps cubes answers =
-    all_weaker (IsAnswer formula order steps) (IsTrueOf formula order) (λ cube answer is. is.0) cubes answers
+pub answers_true : (formula : Formula) (order : List ℕ) (steps : List Step) (live : Live) (cubes : List (List ℤ)) (answers : List Answer)
+    → AreAnswers formula order steps live cubes answers → AreTrue formula order cubes answers
+answers_true formula order steps live cubes answers =
+    all_weaker (IsAnswer formula order steps live) (IsTrueOf formula order) (λ cube answer is. is.0) cubes answers

@@ -33,6 +33,7 @@ taken holds old new result takes = record {
   value = takes.value;
   listed = takes.listed;
   refused = takes.refused;
+  unrefuted = λ whole was some. takes.unrefuted whole some ∙ was;
   keeps = takes.keeps;
   goes = record {
     formula = takes.same.formula;

@@ -147,7 +147,7 @@ module _ {S : Type 0} (counting : Counting S) (old mid new : Runner S) (held : H
           λ i a. term_holds (goes.formula i).now (by_variable (goes.order i) a) (input_term (same i))
 
       terms : (f : Levels → Bool) → Contains (functions_with mid held (place + 1)) f
-          → (term : Term) × IsInHand (pushed_at n) (stage_of (suc (suc n))) term × (f ≡ term_function formula order term)
+          → (term : Term) × IsInHand false (pushed_at n) (stage_of (suc (suc n))) term × (f ≡ term_function formula order term)
       terms f there = elim (among_cases _ f (clause_in mid (place + 1) ∷ function_in mid held ∷ []) there) [
         | inl same ↦
             (both (all_up_to n) (input_term (suc (suc n))), both_there n, sym same ∙ (λ i a. front_is i a && clause_is i a))

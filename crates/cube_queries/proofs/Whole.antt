@@ -1,5 +1,5 @@
 -- The term of a formula, clause by clause.
-use Rattle.std.proofs.Common.{◌≡◌, ◌∙◌, ◌<◌, ◌≤◌, ◌+◌, ◌-◌, ◌&&◌, ℕ, Bool, true, false, ℤ, List, [], length, take, None, Some}
+use Rattle.std.proofs.Common.{◌≡◌, ◌∙◌, ◌<◌, ◌≤◌, ◌+◌, ◌-◌, ◌&&◌, ◌≢◌, ℕ, Bool, true, false, true≢false, ℤ, pos, negsuc, List, [], ◌∷◌, length, take, None, Some}
 use Rattle.std.proofs.Common.{Ok, Err, Result, refl, sym, ap, arith, inl}
 use Rattle.std.specs.Prelude.{slice_index_or}
 use Rattle.std.specs.List.{list_all}
@@ -39,6 +39,7 @@ truth_alone steps runner is none_out formula empty term true_held = record {
       ∙ ap (list_all (clause_holds a)) (sym empty);
   listed = inl (true_held, none_out);
   refused = λ whole e. absurd (let no : false ≡ true = e in cc);
+  unrefuted = λ whole was some. was;
   goes = goes_none steps runner is;
 }
 
@@ -50,6 +51,7 @@ takes_as one other same old new (Ok term) takes = record {
   value = λ a. takes.value a ∙ same a;
   listed = takes.listed;
   refused = takes.refused;
+  unrefuted = takes.unrefuted;
   keeps = takes.keeps;
   goes = takes.goes;
 }
@@ -58,6 +60,7 @@ takes_as one other same old new (Err error) takes = record {
   value = tt;
   listed = tt;
   refused = takes.refused;
+  unrefuted = takes.unrefuted;
   keeps = takes.keeps;
   goes = takes.goes;
 }
@@ -115,23 +118,39 @@ whole_value runner held clauses place all value a =
 
 -- a term that is out alone, behind these steps
 pub alone_behind : {S : Type 0} (old new : Runner S) (holds : Assignment → Bool) (term : Term) → IsRunner new
-    → IsListed [] new.terms.out.items term.held → ((a : Assignment) → holds_in new term.held a ≡ holds a) → Goes old new None
-    → TakesOver [] holds old new (Ok term)
-alone_behind old new holds term runner alone value goes = record {
+    → IsListed [] new.terms.out.items term.held → ((a : Assignment) → holds_in new term.held a ≡ holds a)
+    → (old.refuted ≡ false → term.held.node ≢ False → new.refuted ≡ false) → Goes old new None → TakesOver [] holds old new (Ok term)
+alone_behind old new holds term runner alone value unrefuted goes = record {
   goes_on = λ whole. runner;
   value = value;
   listed = alone;
   refused = λ whole e. absurd (let no : false ≡ true = e in cc);
+  unrefuted = λ whole was some. unrefuted was some;
   goes = goes;
 }
 
 -- a step that failed, behind others
 pub error_behind : {S : Type 0} → StepByStep S → (old mid new : Runner S) (one other : Assignment → Bool) (error : TableError)
-    → Goes old mid None → TakesOver [] one mid new (Err error) → TakesOver [] other old new (Err error)
-error_behind steps old mid new one other error before over = record {
+    → Goes old mid None → (old.refuted ≡ false → mid.refuted ≡ false) → TakesOver [] one mid new (Err error)
+    → TakesOver [] other old new (Err error)
+error_behind steps old mid new one other error before yet over = record {
   goes_on = over.goes_on;
   value = tt;
   listed = tt;
   refused = over.refused;
+  unrefuted = λ whole was ends. over.unrefuted whole (yet was) ends;
   goes = goes_further steps old mid new (Some error) before over.goes;
 }
+
+-- A clause that isn't empty holds somewhere, so its term isn't False.
+some_holds : (clause : List ℤ) → clause ≢ [] → (a : Assignment) × (clause_holds a clause ≡ true)
+some_holds [] some = absurd (some refl)
+some_holds (pos n ∷ more) some = (λ v. true, refl)
+some_holds (negsuc n ∷ more) some = (λ v. false, refl)
+
+pub clause_open : {S : Type 0} (old new : Runner S) (held : HeldTerm) (number : ℕ) → slice_index_or old.formula.now.clauses (number - 1) [] ≢ []
+    → ((a : Assignment) → holds_in new held a ≡ term_holds old.formula.now a (input_term number)) → held.node ≢ False
+clause_open old new held number some value is =
+    let at = some_holds (slice_index_or old.formula.now.clauses (number - 1) []) some in
+    let none : holds_in new held at.0 ≡ false = (λ i. value_of new.terms.table.graph (by_level new.terms.table.graph.order at.0) (is i)) in
+    true≢false (sym at.1 ∙ sym (value at.0) ∙ none)

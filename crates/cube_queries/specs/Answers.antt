@@ -1,5 +1,5 @@
 -- What is answered of cubes over a formula. (Cubes: Heule, Kullmann, Wieringa, Biere: Cube and Conquer, HVC 2011.)
-use Rattle.std.specs.Prelude.{◌≡◌, ◌<◌, ◌&&◌, ℕ, Bool, true, ℤ, List, [], ◌∷◌, length, IsTrue, ⊤}
+use Rattle.std.specs.Prelude.{◌≡◌, ◌<◌, ◌&&◌, ℕ, Bool, true, ℤ, List, [], ◌∷◌, length, Some, IsTrue, ⊤}
 use Rattle.std.specs.List.{list_all}
 use Rattle.cnf_base.specs.declared.step.Step.{Step}
 use Rattle.cnf_base.specs.Cube.{cube_holds, forbidding}
@@ -7,7 +7,7 @@ use Rattle.cnf_base.specs.Formula.{Formula}
 use Rattle.cnf_base.specs.Truth.{Assignment, Satisfies, assignment_of, clause_holds}
 use Rattle.lrat_rules.specs.Conservative.{IsAddedBy, are_conservative}
 use Rattle.lrat_rules.specs.Derivation.{IsDerivation, text_of}
-use Rattle.lrat_rules.specs.State.{State, start}
+use Rattle.lrat_rules.specs.State.{State, Live, clause_at, start}
 use Rattle.term_runner.specs.Recovered.{IsLeastIn}
 use Rattle.cube_queries.specs.declared.answer.Answer.{Answer}
 use Rattle.cube_queries.specs.declared.answer.Answer.TheVariants.{Unsat, Sat}
@@ -31,9 +31,14 @@ abbrev pub IsTrueOf : Formula → List ℕ → List ℤ → Answer → Type 0
 IsTrueOf formula order cube Unsat = (a : Assignment) → Satisfies a formula.clauses → cube_holds a cube ≡ true → ⊥
 IsTrueOf formula order cube (Sat values) = IsLeastModel formula order cube values
 
--- What is answered of a cube is true, and where it is Unsat one of these steps adds the clause that forbids the cube.
-abbrev pub IsAnswer : Formula → List ℕ → List Step → List ℤ → Answer → Type 0
-IsAnswer formula order steps cube answer = IsTrueOf formula order cube answer × (answer ≡ Unsat → IsAddedBy steps (forbidding cube))
+-- the clause is live, under some number
+abbrev pub IsLive : Live → List ℤ → Type 0
+IsLive live clause = (id : ℕ) × (clause_at live id ≡ Some clause)
+
+-- What is answered of a cube is true, and where it is Unsat one of these steps adds the clause that forbids the cube, which is live.
+abbrev pub IsAnswer : Formula → List ℕ → List Step → Live → List ℤ → Answer → Type 0
+IsAnswer formula order steps live cube answer =
+    IsTrueOf formula order cube answer × (answer ≡ Unsat → IsAddedBy steps (forbidding cube) × IsLive live (forbidding cube))
 
 -- there is one for each cube, in turn
 abbrev pub AreAll : (List ℤ → Answer → Type 0) → List (List ℤ) → List Answer → Type 0
@@ -45,15 +50,15 @@ AreAll is (cube ∷ cubes) [] = ⊥
 abbrev pub AreTrue : Formula → List ℕ → List (List ℤ) → List Answer → Type 0
 AreTrue formula order cubes answers = AreAll (IsTrueOf formula order) cubes answers
 
-abbrev pub AreAnswers : Formula → List ℕ → List Step → List (List ℤ) → List Answer → Type 0
-AreAnswers formula order steps cubes answers = AreAll (IsAnswer formula order steps) cubes answers
+abbrev pub AreAnswers : Formula → List ℕ → List Step → Live → List (List ℤ) → List Answer → Type 0
+AreAnswers formula order steps live cubes answers = AreAll (IsAnswer formula order steps live) cubes answers
 
 -- The bytes are exactly the lines of good steps from the formula, and each of them is conservative; so each clause over the formula's
--- variables that they add follows from it. They show these answers.
+-- variables that they add follows from it. They show these answers: no clause that forbids a cube is deleted.
 pub record AreShown (formula : Formula) (order : List ℕ) (cubes : List (List ℤ)) (answers : List Answer) (bytes : List ℕ) : Type 0 where
   pub steps : List Step
   pub state : State
   pub derived : IsDerivation formula.clauses steps state
   pub conserves : IsTrue (are_conservative formula.vars (start formula.clauses) steps)
   pub text : bytes ≡ text_of steps
-  pub shown : AreAnswers formula order steps cubes answers
+  pub shown : AreAnswers formula order steps state.live cubes answers

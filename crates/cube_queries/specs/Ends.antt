@@ -11,18 +11,19 @@ use Rattle.schedule_plan.specs.declared.limits.Limits.{Limits}
 use Rattle.term_runner.specs.declared.error.RunError.{RunError}
 use Rattle.term_runner.specs.declared.error.RunError.TheVariants.{OutOfMemory, WriteFault}
 use Rattle.term_runner.specs.Price.{IsMovePrice}
-use Rattle.term_runner.specs.Proofs.{IsProofOfKind, IsProofSoFarOfKind}
+use Rattle.term_runner.specs.Proofs.{IsProof, IsProofSoFar, IsProofSoFarOfKind, IsUnfinished}
 use Rattle.cube_queries.specs.declared.answer.Answer.{Answer}
 use Rattle.cube_queries.specs.declared.answer.Outcome.{Outcome}
 use Rattle.cube_queries.specs.declared.answer.Outcome.TheVariants.{Answered, NodeLimit, IdLimit}
 use Rattle.cube_queries.specs.Answers.{AreShown, AreTrue}
-use Rattle.cube_queries.specs.Width.{IsPaid, NeedsAtMost, NeedsMore}
+use Rattle.cube_queries.specs.Width.{AreAmple, IsPaid, NeedsAtMost, NeedsMore}
 
--- the proof's extension variables in use are as many as nodes are allowed
+-- The proof's extension variables in use are as many as nodes are allowed. No refutation stands there yet.
 pub record NodesAreUsed (formula : Formula) (max_nodes : ℕ) (bytes : List ℕ) : Type 0 where
   pub state : State
   pub written : IsWritten formula.clauses bytes state
   pub used : in_use formula.vars state ≡ max_nodes
+  pub unrefuted : IsUnfinished formula.clauses state
 
 -- the proof's greatest number is less than four below the greatest allowed
 pub record NumbersAreUsed (formula : Formula) (max_ids : ℕ) (bytes : List ℕ) : Type 0 where
@@ -42,8 +43,11 @@ Shows formula order cubes limits bytes (Answered answers) = AreShown formula ord
 Shows formula order cubes limits bytes NodeLimit = NodesAreUsed formula limits.max_nodes bytes
 Shows formula order cubes limits bytes IdLimit = NumbersAreUsed formula limits.max_ids bytes
 
-abbrev pub AnyState : State → Type 0
-AnyState state = ⊤
+-- all cubes are answered
+abbrev pub IsAnswered : Outcome → Type 0
+IsAnswered (Answered answers) = ⊤
+IsAnswered NodeLimit = ⊥
+IsAnswered IdLimit = ⊥
 
 -- what the answers come to, as an outcome or a failure: a limit is an outcome
 abbrev pub outcome_of : Result (List Answer) TableError → Result Outcome RunError
@@ -60,15 +64,18 @@ pub record IsFlushed (tells : Bool) (before after : Channel) (found result : Res
   pub written : after.written ≡ before.written
   pub name : after.name ≡ before.name
 
--- An outcome is true of the formula and the cubes, and shown by the very bytes of the proof. A write fault is answered exactly where a
--- write or the flush failed. All that was written is a proof, but for a front of one line after a failed write, and flushed with an
--- outcome. However it ends, its numbers are no more than the moves cost that conjoin the clauses and one for each cube.
+-- An outcome is true of the formula and the cubes, and shown by the very bytes of the proof; where the limits are above what the width
+-- needs, it is the answers. A write fault is answered exactly where a write or the flush failed. All that was written is a proof within the
+-- limits, but for a front of one line after a failed write, and flushed with an outcome. However it ends, its numbers are no more than the
+-- moves cost that conjoin the clauses and one for each cube.
 pub record Ends (tells : Bool) (before after : Channel) (formula : Formula) (order : List ℕ) (cubes : List (List ℤ)) (limits : Limits)
     (result : Result Outcome RunError) : Type 0 where
   pub says : IfOk result (Says formula order cubes limits)
+  pub certain : (width price : ℕ) → NeedsAtMost formula order cubes width → IsMovePrice formula.vars limits.cache width price
+      → AreAmple limits formula cubes width price → IfOk result IsAnswered
   pub shows : IsTrue tells → IfOk result (Shows formula order cubes limits after.written)
-  pub whole : result ≢ Err WriteFault → IsTrue tells → IsProofOfKind formula.clauses AnyState after.written
-  pub so_far : IsTrue tells → IsProofSoFarOfKind formula.clauses AnyState after.written
+  pub whole : result ≢ Err WriteFault → IsTrue tells → IsProof formula limits after.written
+  pub so_far : IsTrue tells → IsProofSoFar formula limits after.written
   pub paid : (width price : ℕ) → NeedsAtMost formula order cubes width → IsMovePrice formula.vars limits.cache width price → IsTrue tells
       → IsProofSoFarOfKind formula.clauses (IsPaid formula cubes price) after.written
   pub flushed : IsOk result → IsTrue tells → after.flushed ≡ length after.written

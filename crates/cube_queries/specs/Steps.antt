@@ -1,13 +1,16 @@
 -- Steps of a session of cubes: calls of a runner.
-use Rattle.std.specs.Prelude.{◌≡◌, ◌≢◌, ◌≤◌, ◌+◌, ◌*◌, ◌&&◌, ℕ, Bool, List, [], ◌∷◌, Result, Err, IfOk, IsErr, Option, Some, ℤ, length}
+use Rattle.std.specs.Prelude.{◌≡◌, ◌≢◌, ◌≤◌, ◌+◌, ◌*◌, ◌&&◌, ℕ, Bool, false, List, [], ◌∷◌, Result, Err, IfOk, IsErr}
+use Rattle.std.specs.Prelude.{Option, Some, ℤ, length}
 use Rattle.std.specs.List.{list_all}
 use Rattle.cnf_base.specs.Formula.{Formula}
 use Rattle.cnf_base.specs.Truth.{Assignment, clause_holds}
 use Rattle.node_table.specs.declared.error.TableError.{TableError}
 use Rattle.node_table.specs.declared.error.TableError.TheVariants.{NodeLimit}
+use Rattle.node_table.specs.declared.node.Node.TheVariants.{False}
 use Rattle.node_table.specs.Diagram.{levels}
 use Rattle.node_table.specs.Progress.{Leaves, error_of}
 use Rattle.node_table.specs.Table.{UnlessTorn}
+use Rattle.node_table.specs.Tied.{KeepsClauses}
 use Rattle.node_table.specs.Value.{Levels}
 use Rattle.clause_terms.specs.Term.{by_variable}
 use Rattle.schedule_plan.specs.Plan.{conjoin, input as input_term, term_holds}
@@ -30,12 +33,13 @@ pub record Goes {S : Type 0} (old new : Runner S) (error : Option TableError) : 
   pub origin : new.terms.table.book.origin ≡ old.terms.table.book.origin
   pub leaves : Leaves old.terms.table new.terms.table error
 
--- A step gives a term that holds where this does, behind those that are out.
+-- A step gives a term that holds where this does, behind those that are out. It refutes the formula only where that term is False.
 pub record Takes {S : Type 0} (holds : Assignment → Bool) (old new : Runner S) (result : Result Term TableError) : Type 0 where
   pub goes_on : UnlessTorn result (IsRunner new)
   pub value : IfOk result (λ term. (a : Assignment) → holds_in new term.held a ≡ holds a)
   pub listed : IfOk result (λ term. IsListed old.terms.out.items new.terms.out.items term.held)
   pub refused : UnlessTorn result (IsErr result → new.terms.out.items ≡ old.terms.out.items)
+  pub unrefuted : UnlessTorn result (old.refuted ≡ false → IfOk result (λ term. term.held.node ≢ False) → new.refuted ≡ false)
   pub keeps : UnlessTorn result (KeepsTerms old new)
   pub goes : Goes old new (error_of result)
 
@@ -48,7 +52,7 @@ pub record GivesBack {S T : Type 0} (old new : Runner S) (result : Result T Tabl
   pub top : new.terms.table.book.state.top ≡ old.terms.table.book.state.top
   pub goes : Goes old new (error_of result)
 
--- A step gives a term that holds where this does, behind these, which alone are out yet.
+-- A step gives a term that holds where this does, behind these, which alone are out yet. It refutes the formula only where that is False.
 pub record TakesOver {S : Type 0} (before : List HeldTerm) (holds : Assignment → Bool) (old new : Runner S)
     (result : Result Term TableError)
     : Type 0 where
@@ -56,6 +60,7 @@ pub record TakesOver {S : Type 0} (before : List HeldTerm) (holds : Assignment �
   pub value : IfOk result (λ term. (a : Assignment) → holds_in new term.held a ≡ holds a)
   pub listed : IfOk result (λ term. IsListed before new.terms.out.items term.held)
   pub refused : UnlessTorn result (IsErr result → new.terms.out.items ≡ before)
+  pub unrefuted : UnlessTorn result (old.refuted ≡ false → IfOk result (λ term. term.held.node ≢ False) → new.refuted ≡ false)
   pub goes : Goes old new (error_of result)
 
 -- no other one is out
@@ -66,18 +71,23 @@ TakesAlone holds old new result = TakesOver [] holds old new result
 abbrev pub formula_holds : Formula → Assignment → Bool
 formula_holds formula a = list_all (clause_holds a) formula.clauses
 
--- A step answers a cube, beside a term that stays.
+-- A step answers a cube, beside a term that stays. No clause is deleted, and no limit of nodes is met.
 pub record Replies {S : Type 0} (cube : List ℤ) (old new : Runner S) (result : Result Answer TableError) : Type 0 where
   pub goes_on : UnlessTorn result (IsRunner new)
   pub out : new.terms.out.items ≡ old.terms.out.items
   pub keeps : UnlessTorn result (KeepsTerms old new)
-  pub answer : IfOk result (IsAnswer new.formula.now new.terms.table.graph.order new.terms.table.book.steps cube)
+  pub clauses : KeepsClauses old.terms.table.book.state.live new.terms.table.book.state.live
+  pub no_limit : result ≢ Err NodeLimit
+  pub answer : IfOk result (IsAnswer new.formula.now new.terms.table.graph.order new.terms.table.book.steps new.terms.table.book.state.live
+      cube)
   pub goes : Goes old new (error_of result)
 
--- Cubes are answered, one by one.
+-- Cubes are answered, one by one. Where the limit of nodes is met nothing is refuted.
 pub record RepliesAll {S : Type 0} (cubes : List (List ℤ)) (old new : Runner S) (result : Result (List Answer) TableError) : Type 0 where
   pub goes_on : UnlessTorn result (IsRunner new)
-  pub answers : IfOk result (AreAnswers new.formula.now new.terms.table.graph.order new.terms.table.book.steps cubes)
+  pub answers : IfOk result (AreAnswers new.formula.now new.terms.table.graph.order new.terms.table.book.steps
+      new.terms.table.book.state.live cubes)
+  pub unrefuted : result ≡ Err NodeLimit → old.refuted ≡ false → new.refuted ≡ false
   pub goes : Goes old new (error_of result)
 
 -- a clause's function by levels

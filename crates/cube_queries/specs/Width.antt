@@ -10,6 +10,7 @@ use Rattle.cnf_base.specs.Truth.{clause_holds}
 use Rattle.lrat_rules.specs.State.{State}
 use Rattle.node_table.specs.Value.{Levels}
 use Rattle.clause_terms.specs.Term.{by_variable}
+use Rattle.schedule_plan.specs.declared.limits.Limits.{Limits}
 use Rattle.schedule_plan.specs.Plan.{conjoin}
 use Rattle.term_runner.specs.Counting.{IsPartOfOne}
 use Rattle.term_runner.specs.Width.{AreMore, IsWider}
@@ -50,6 +51,14 @@ NeedsAtMost formula order cubes number = NeedsMore formula order cubes number �
 abbrev pub moves_of : Formula → List (List ℤ) → ℕ
 moves_of formula cubes = length (conjoin (length formula.clauses)) + length cubes
 
--- no number is above the formula's own and those of the moves, at this price each
+-- the greatest number that these moves may come to, at this price each, behind the formula's own
+abbrev pub most_ids : Formula → List (List ℤ) → ℕ → ℕ
+most_ids formula cubes price = length formula.clauses + moves_of formula cubes * price
+
+-- no number is above it
 abbrev pub IsPaid : Formula → List (List ℤ) → ℕ → State → Type 0
-IsPaid formula cubes price state = state.top ≤ length formula.clauses + moves_of formula cubes * price
+IsPaid formula cubes price state = state.top ≤ most_ids formula cubes price
+
+-- the limits are above what the width needs
+abbrev pub AreAmple : Limits → Formula → List (List ℤ) → ℕ → ℕ → Type 0
+AreAmple limits formula cubes width price = (width ≤ limits.max_nodes) × (most_ids formula cubes price + 4 ≤ limits.max_ids)

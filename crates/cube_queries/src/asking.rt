@@ -9,7 +9,7 @@ use crate::session::reply_all;
 use cnf_base::Cnf;
 use cube_text::Cubes;
 use host_io::Sink;
-use lrat_rules::{derivation_law, start_law};
+use lrat_rules::{derivation_law, marks_law, start_law};
 use node_table::{TableError, in_use_law};
 use schedule_plan::{Limits, Order};
 use std::alloc::Global;
@@ -55,6 +55,7 @@ pub fn ask_into<S: Sink + Drop>(
 {
     start_law();
     derivation_law();
+    marks_law();
     in_use_law();
     formula.formula_law();
     let Ok(parts) = Parts::new(alloc, order, limits.cache) else {

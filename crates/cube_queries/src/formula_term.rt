@@ -1,5 +1,5 @@
 // The term of a formula: its clauses, conjoined one by one.
-ghost use Rattle.std.specs.Prelude.{◌≡◌, [], IsTrue};
+ghost use Rattle.std.specs.Prelude.{◌≡◌, ◌↔◌, [], IsTrue};
 ghost use Rattle.node_table.specs.declared.node.Node.TheVariants.{False};
 ghost use Rattle.node_table.specs.Progress.{error_of};
 ghost use Rattle.term_runner.specs.Runner.{IsRunner};
@@ -43,7 +43,7 @@ pub(crate) fn term_of_formula<S: Sink + Drop>(
 }
 
 fn is_false(node: Node) -> bool
-    ensures { IsTrue result → node ≡ False }
+    ensures { IsTrue result ↔ (node ≡ False) }
 {
     match node {
         Node::False => true,

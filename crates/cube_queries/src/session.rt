@@ -1,5 +1,6 @@
 // A session: the formula's term, whose nodes alone stay, then the cubes in turn.
-ghost use Rattle.std.specs.Prelude.{◌≡◌, [], IsTrue};
+ghost use Rattle.std.specs.Prelude.{◌≡◌, ◌≢◌, [], Err, IsTrue};
+ghost use Rattle.node_table.specs.declared.error.TableError.TheVariants.{NodeLimit};
 ghost use Rattle.cnf_base.specs.Truth.{Assignment};
 ghost use Rattle.cube_text.specs.CubeText.{AreCubes};
 ghost use Rattle.node_table.specs.Diagram.{levels};
@@ -55,6 +56,7 @@ fn reply_each<S: Sink + Drop>(
     ensures replies { RepliesAll cubes.now runner.old runner.new result }
     ensures costs { CostsCubes cubes.now runner.old runner.new (error_of result) }
     ensures out { runner.new.terms.out.items ≡ runner.old.terms.out.items }
+    ensures no_limit { result ≢ Err NodeLimit }
 {
     steps_law::<S>();
     let mut answers = Answers::new(alloc);

@@ -1,5 +1,5 @@
 // Steps of a session.
-ghost use Rattle.std.specs.Prelude.{◌≡◌, ◌≤◌, ◌&&◌, ◌∷◌, [], List, IsTrue, IfOk, length};
+ghost use Rattle.std.specs.Prelude.{◌≡◌, ◌≢◌, ◌≤◌, ◌-◌, ◌&&◌, ◌∷◌, [], List, IsTrue, IfOk, length, slice_index_or};
 ghost use Rattle.std.specs.List.{list_all};
 ghost use Rattle.cnf_base.specs.Cube.{is_consistent};
 ghost use Rattle.cnf_base.specs.Truth.{Assignment, is_literal_of};
@@ -34,6 +34,7 @@ pub(crate) fn with_clause<S: Sink + Drop>(
     requires alone { IsListed [] runner.old.terms.out.items term.held }
     requires from_one { 1 ≤ number }
     requires to_len { number ≤ length runner.old.formula.now.clauses }
+    requires some { slice_index_or runner.old.formula.now.clauses (number - 1) [] ≢ [] }
     ensures takes { TakesAlone (λ a. holds_in runner.old term.held a && term_holds runner.old.formula.now a (input_term number))
         runner.old runner.new result }
     ensures costs { Costs 2 (functions_with runner.old term.held number) runner.old runner.new (error_of result) }
@@ -54,6 +55,7 @@ fn with_term<S: Sink + Drop>(
     requires alone { IsListed [] runner.old.terms.out.items term.now.held }
     requires from_one { 1 ≤ number }
     requires to_len { number ≤ length runner.old.formula.now.clauses }
+    requires some { slice_index_or runner.old.formula.now.clauses (number - 1) [] ≢ [] }
     ensures takes { TakesOver runner.old.terms.out.items (λ a. holds_in runner.old term.now.held a
         && term_holds runner.old.formula.now a (input_term number)) runner.old runner.new result }
     ensures costs { Costs 2 (functions_with runner.old term.now.held number) runner.old runner.new (error_of result) }

@@ -10,6 +10,7 @@ use Rattle.cnf_base.specs.Limits.{max_vars}
 use Rattle.cnf_base.specs.Number.{signed_number}
 use Rattle.cnf_base.specs.Text.{Word}
 use Rattle.text_scan.specs.Items.{Items, next_word}
+use Rattle.text_scan.specs.Near.{is_near}
 use Rattle.text_scan.specs.declared.scanner.ScanError.{ScanError}
 use Rattle.text_scan.specs.declared.scanner.ScanError.TheVariants.{ReadFault as ScanFault, TooLong as ScanTooLong}
 use Rattle.dimacs_reader.specs.Cnf.{literals_of, max_literals, with_read}
@@ -84,10 +85,12 @@ pub data Passes (vars : ℕ) (all : Items) : Items → Draft → Type 0 where
   pass_one : {word : Word} {items : Items} {draft : Draft} → Passes vars all (next_word word items) draft
       → offence_of (signed_number word.bytes) draft ≡ None → Passes vars all items (with_read (signed_number word.bytes) draft)
 
--- Memory may be wanted for a text of these items: a number of it offends nothing, nor does any token before it.
-pub record WantsMemory (vars : ℕ) (all : Items) : Type 0 where
+-- Memory may be wanted for a text of these items, where so many bytes follow those taken: a number of it offends nothing, nor does any
+-- token before it, and no more tokens come behind it than a block of the bytes taken can spell, and those that follow.
+pub record WantsMemory (vars more : ℕ) (all : Items) : Type 0 where
   pub word : Word
   pub after : Items
   pub draft : Draft
   pub passed : Passes vars all (next_word word after) draft
   pub unoffending : offence_of (signed_number word.bytes) draft ≡ None
+  pub near : IsTrue (is_near more after)

@@ -232,9 +232,9 @@ pub fn read_cubes<S: Source>(alloc: Global, vars: u32, source: &mut S) -> Result
     // a read fails only where the bytes taken decide nothing yet
     ensures undecided { IsTrue S.tells → result ≡ Err ReadFault
         → cubes_so_far vars (gained (S.channel source.old) (S.channel source.new)) ≡ overlong }
-    // memory is wanted only for a number that offends nothing
+    // Memory is wanted only for a number that offends nothing, with no more tokens behind it in the bytes taken than a block can spell.
     ensures memory { IsTrue S.tells → result ≡ Err OutOfMemory → Decides (S.channel source.old) (S.channel source.new)
-        (λ bytes more. WantsMemory vars (items 35 max_bytes bytes)) }
+        (λ bytes more. WantsMemory vars (length more) (items 35 max_bytes bytes)) }
     ensures cubes { IfOk result (AreCubes vars) }
 
     ensures reads { OnlyReads (S.channel source.old) (S.channel source.new) }
@@ -246,6 +246,7 @@ pub fn read_cubes<S: Source>(alloc: Global, vars: u32, source: &mut S) -> Result
         match scanner.next(source)? {
             None => return front.finish(scanner.line()),
             Some(token) => {
+                scanner.near_law();
                 front.take(&token)?;
             }
         }

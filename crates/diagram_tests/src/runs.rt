@@ -10,7 +10,7 @@ use schedule_plan::{Order, Plan};
 use std::alloc::Global;
 use std::process::Abort;
 use std::test::Fail;
-use term_runner::{Limits, Outcome, Run, RunError, Runner, run_plan, try_plan};
+use term_runner::{Limits, Outcome, Run, RunError, Runner, Watch, run, run_plan, try_plan};
 
 // A formula, the limits of nodes and of numbers, and how the run, the run of an opened runner and the trial of its clauses' conjunction end,
 // with the last number; of the trial also the moves until half of the numbers were used, and all. The plan has three moves. The first clause
@@ -83,7 +83,7 @@ fn tell_opened(
     requires limits { AreLimits limits }
 {
     match Runner::open(alloc, formula, order, limits, NoSink) {
-        Ok(runner) => tell_end(runner.run(plan), text),
+        Ok(runner) => tell_end(run(runner, plan, &mut Watch::new()), text),
         Err((_, e)) => Err(e)?,
     }
 }

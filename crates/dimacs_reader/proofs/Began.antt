@@ -3,10 +3,12 @@ use Rattle.std.proofs.Common.{◌≡◌, ℕ, true, false, List, ◌++◌, Optio
 use Rattle.std.proofs.Common.{arith}
 use Rattle.std.specs.Prelude.{nat_lt, min, ◌<◌}
 use Rattle.std.specs.Option.{option_map}
+use Rattle.std.proofs.lemmas.Bool.Decides.{nat_tests}
 use Rattle.cnf_base.specs.Formula.{Formula, Draft}
 use Rattle.cnf_base.specs.Text.{Word}
 use Rattle.text_scan.specs.Capped.{capped}
 use Rattle.text_scan.specs.Items.{Items, the_end, too_long, next_word}
+use Rattle.text_scan.specs.Near.{is_near}
 use Rattle.text_scan.specs.Scan.{Scan, so_far, is_reading, is_faulted, Gives, GivesSoFar, last_answer}
 use Rattle.text_scan.specs.declared.scanner.ScanStatus.{ScanStatus}
 use Rattle.text_scan.specs.declared.scanner.ScanStatus.TheVariants.{Reading, Ended, Overlong, Faulted}
@@ -142,16 +144,16 @@ pub began_body : (mode : Mode) (state : BodyState) (text : CnfText) (all rest : 
 began_body mode state text all rest began mode_is = rw mode_is (header_body mode all state.draft.vars state.count rest began.0
     ∙ ap (body mode rest state.count) (sym began.1))
 
-pub began_wants : (mode : Mode) (state : BodyState) (text : CnfText) (all rest after : Items)
+pub began_wants : (mode : Mode) (state : BodyState) (text : CnfText) (more : ℕ) (all rest after : Items)
     → Begins (Ok state) text (λ vars count. HasHeader all vars count rest) → state.mode ≡ mode
-    → Wants state.mode state.count rest state.draft after → WantsMemory mode all
-began_wants mode state text all rest after began mode_is wants = record {
+    → Wants state.mode state.count more rest state.draft after → WantsMemory mode more all
+began_wants mode state text more all rest after began mode_is wants = record {
   vars = state.draft.vars;
   count = state.count;
   rest = rest;
   header = began.0;
   after = after;
-  wants = subst (λ draft. Wants mode state.count rest draft after) began.1 (rw mode_is at wants);
+  wants = subst (λ draft. Wants mode state.count more rest draft after) began.1 (rw mode_is at wants);
 }
 
 -- an error of the header is the answer
@@ -170,3 +172,7 @@ begins_behind (Err (Refused kind line)) before after Good Better same better beg
 begins_behind (Err TooLong) before after Good Better same better begins = same ∙ begins
 begins_behind (Err ReadFault) before after Good Better same better begins = tt
 begins_behind (Err OutOfMemory) before after Good Better same better begins = begins
+
+-- nothing is ahead at the end
+pub end_near : (more line : ℕ) → is_near more (the_end line) ≡ true
+end_near more line = grind (arith, nat_tests)

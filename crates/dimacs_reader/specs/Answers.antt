@@ -22,15 +22,16 @@ Answers (Err TooLong) text = text ≡ overlong
 Answers (Err ReadFault) text = ⊤
 Answers (Err OutOfMemory) text = ⊤
 
--- Memory may be wanted for a text of these items: it has a good header, and behind it a number that offends nothing, or
--- in the mode Lax a last clause without its zero.
-pub record WantsMemory (mode : Mode) (all : Items) : Type 0 where
+-- Memory may be wanted for a text of these items, where so many bytes follow those taken: it has a good header, and behind it a number
+-- that offends nothing, or in the mode Lax a last clause without its zero, with no more tokens behind than a block of the bytes taken can
+-- spell, and those that follow.
+pub record WantsMemory (mode : Mode) (more : ℕ) (all : Items) : Type 0 where
   pub vars : ℕ
   pub count : ℕ
   pub rest : Items
   pub header : HasHeader all vars count rest
   pub after : Items
-  pub wants : Wants mode count rest (no_clauses vars) after
+  pub wants : Wants mode count more rest (no_clauses vars) after
 
 -- the number of a kind
 abbrev pub number_of : CnfKind → ℕ

@@ -1,9 +1,10 @@
 -- The body of a text as it is read: what is announced, and the draft so far.
-use Rattle.std.specs.Prelude.{◌≡◌, ℕ, ◌≤◌, ◌<◌, true, false, [], length, Option, None, Some, Result, Ok, Err, codes, ⊤}
+use Rattle.std.specs.Prelude.{◌≡◌, ℕ, ◌≤◌, ◌<◌, true, false, [], length, Option, None, Some, Result, Ok, Err, codes, ⊤, IsTrue}
 use Rattle.cnf_base.specs.Formula.{Formula, Draft}
 use Rattle.cnf_base.specs.Number.{signed_number}
 use Rattle.cnf_base.specs.Text.{Word}
 use Rattle.text_scan.specs.Items.{Items, the_end, too_long, next_word}
+use Rattle.text_scan.specs.Near.{is_near}
 use Rattle.dimacs_reader.specs.declared.error.CnfError.{CnfError}
 use Rattle.dimacs_reader.specs.declared.error.CnfError.TheVariants.{Refused, ReadFault, TooLong, OutOfMemory}
 use Rattle.dimacs_reader.specs.declared.error.CnfKind.{CnfKind}
@@ -41,27 +42,30 @@ EndsClauses (the_end line) after = after ≡ the_end line
 EndsClauses (too_long line) after = ⊥
 EndsClauses (next_word word items) after = (is_word (codes "%") word.bytes ≡ true) × (items ≡ after)
 
--- Memory was wanted for a number: all tokens before those items are good, and the last of them is that number.
-pub record WantsForNumber (mode : Mode) (count : ℕ) (all : Items) (start : Draft) (after : Items) : Type 0 where
+-- Memory was wanted for a number, where so many bytes follow those taken: all tokens before those items are good, and the last of them is
+-- that number. Behind it come no more tokens than a block of the bytes taken can spell, and those bytes.
+pub record WantsForNumber (mode : Mode) (count more : ℕ) (all : Items) (start : Draft) (after : Items) : Type 0 where
   pub word : Word
   pub draft : Draft
   pub passed : Passes mode count all start (next_word word after) draft
   pub good : IsGood mode word count draft
+  pub near : IsTrue (is_near more after)
 
 -- Memory was wanted in the mode Lax for a clause without its zero: all tokens are good, they leave a clause begun, and
--- there the clauses end.
-pub record WantsForEnd (mode : Mode) (count : ℕ) (all : Items) (start : Draft) (after : Items) : Type 0 where
+-- there the clauses end, as near.
+pub record WantsForEnd (mode : Mode) (count more : ℕ) (all : Items) (start : Draft) (after : Items) : Type 0 where
   pub lax : mode ≡ Lax
   pub rest : Items
   pub draft : Draft
   pub passed : Passes mode count all start rest draft
   pub begun : 0 < length draft.begun
   pub ends : EndsClauses rest after
+  pub near : IsTrue (is_near more after)
 
 -- Memory was wanted while those items were ahead.
-pub data Wants (mode : Mode) (count : ℕ) (all : Items) (start : Draft) (after : Items) : Type 0 where
-  for_number : WantsForNumber mode count all start after → Wants mode count all start after
-  for_end : WantsForEnd mode count all start after → Wants mode count all start after
+pub data Wants (mode : Mode) (count more : ℕ) (all : Items) (start : Draft) (after : Items) : Type 0 where
+  for_number : WantsForNumber mode count more all start after → Wants mode count more all start after
+  for_end : WantsForEnd mode count more all start after → Wants mode count more all start after
 
 -- the counters are those of the draft, and within the limits
 pub record IsBody (vars count ended begun literals : ℕ) (draft : Draft) : Type 0 where

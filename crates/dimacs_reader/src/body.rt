@@ -243,9 +243,9 @@ pub fn read_body<S: Source>(
     ensures undecided { IsTrue S.tells → result ≡ Err ReadFault → (is_reading scanner.old.status ≡ true)
         × (body_text body.mode (so_far scanner.old (gained (S.channel source.old) (S.channel source.new))) body.count body.draft
         ≡ overlong) }
-    // want of memory never stands for a refusal, nor for a text that is too long
+    // want of memory never stands for a refusal, nor for a text that is too long, and is told at its place
     ensures memory { IsTrue S.tells → result ≡ Err OutOfMemory → Decides (S.channel source.old) (S.channel source.new)
-        (λ bytes more. Wants body.mode body.count (ahead scanner.old bytes) body.draft (ahead scanner.new more)) }
+        (λ bytes more. Wants body.mode body.count (length more) (ahead scanner.old bytes) body.draft (ahead scanner.new more)) }
     ensures memory_within { result ≡ Err OutOfMemory → is_overlong scanner.new.status ≡ false }
     ensures fault { result ≡ Err ReadFault → Rose (S.channel source.old).faults (S.channel source.new).faults }
     ensures unfailed { result ≢ Err ReadFault → (S.channel source.new).faults ≡ (S.channel source.old).faults }
@@ -256,6 +256,7 @@ pub fn read_body<S: Source>(
         match scanner.next(source)? {
             None => return body.finish(scanner.line()),
             Some(token) => {
+                scanner.near_law();
                 if is_word(&token, b"%") {
                     return body.finish(token.line());
                 }

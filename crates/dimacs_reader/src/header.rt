@@ -1,5 +1,5 @@
 // The header of a CNF text, token by token: `p`, `cnf`, the number of variables, the number of clauses.
-ghost use Rattle.std.specs.Prelude.{◌≡◌, ◌≢◌, ◌≤◌, false, Err, IsTrue, IfOk};
+ghost use Rattle.std.specs.Prelude.{◌≡◌, ◌≢◌, ◌≤◌, false, length, Err, IsTrue, IfOk};
 ghost use Rattle.cnf_base.specs.Formula.{IsFormula};
 ghost use Rattle.host_io.specs.Channel.{Rose};
 ghost use Rattle.text_scan.specs.Decides.{gained, Decides, OnlyReads};
@@ -33,9 +33,10 @@ pub fn read_cnf<S: Source>(alloc: Global, source: &mut S, mode: Mode) -> Result<
     // a read fails only where the bytes taken decide nothing yet
     ensures undecided { IsTrue S.tells → result ≡ Err ReadFault → cnf_so_far mode (gained (S.channel source.old) (S.channel source.new))
         ≡ overlong }
-    // memory is wanted only for a number that offends nothing, or for a last clause without its zero, behind a good header
+    // Memory is wanted only for a number that offends nothing, or for a last clause without its zero, behind a good header, with no more
+    // tokens behind it in the bytes taken than a block can spell.
     ensures memory { IsTrue S.tells → result ≡ Err OutOfMemory → Decides (S.channel source.old) (S.channel source.new)
-        (λ bytes more. WantsMemory mode (items 99 max_bytes bytes)) }
+        (λ bytes more. WantsMemory mode (length more) (items 99 max_bytes bytes)) }
     ensures formula { IfOk result IsFormula }
 
     ensures reads { OnlyReads (S.channel source.old) (S.channel source.new) }

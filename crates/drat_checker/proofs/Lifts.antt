@@ -32,3 +32,12 @@ if-none-each (Some x) f h = tt
 pub by-result : {T E : Type 0} {P Q R : Type 0} (r : Result T E) → (P → R) → (Q → R) → OnOk r P → OnErr r Q → R
 by-result (Ok x) f g h k = f h
 by-result (Err e) f g h k = g k
+
+pub if-ok-given : {T E : Type 0} {A B C : Type 0} {P Q : T → Type 0} (r : Result T E) → (A → B → C → (x : T) → P x → Q x) → OnOk r A
+    → OnOk r B → OnOk r C → IfOk r P → IfOk r Q
+if-ok-given (Ok x) f a b c h = f a b c x h
+if-ok-given (Err e) f a b c h = tt
+
+pub if-ok-by : {T E : Type 0} {A : Type 0} {Q : T → Type 0} (r : Result T E) → (A → (x : T) → Q x) → OnOk r A → IfOk r Q
+if-ok-by (Ok x) f a = f a x
+if-ok-by (Err e) f a = tt

@@ -1,5 +1,5 @@
 -- The walk over the numbers that watch a literal that is false: those that are visited have a clause that is true, or watch it no more.
-use Rattle.std.proofs.Common.{◌≡◌, ℕ, ◌+◌, ◌<◌, ◌≢◌, Bool, true, false, ◌||◌, ◌&&◌, ℤ, neg_ℤ, List, [], ◌∷◌, ◌++◌, length, take, get_or}
+use Rattle.std.proofs.Common.{◌≡◌, ℕ, ◌+◌, ◌<◌, ◌≢◌, ◌⊎◌, Bool, true, false, ◌||◌, ◌&&◌, ℤ, neg_ℤ, List, [], ◌∷◌, ◌++◌, length, take, get_or}
 use Rattle.std.proofs.Common.{Some, cond, nat_eq, int_eq, inl, inr, refl, sym, ap, ◌∙◌, subst, eqb-true}
 use Rattle.std.specs.List.{list_all}
 use Rattle.std.proofs.lemmas.Bool.{and_parts, or_cases, or_left, or_right, cases_eq}
@@ -9,12 +9,12 @@ use Rattle.lrat_rules.specs.Trail.{with_last}
 use Rattle.drat_checker.specs.declared.literal_lists.LiteralLists.{LiteralLists}
 use Rattle.drat_checker.specs.Places.{Places, place_at}
 use Rattle.drat_checker.specs.Numbers.{has_number}
-use Rattle.drat_checker.specs.LiteralLists.{KeepsEach, numbers_at}
+use Rattle.drat_checker.specs.LiteralLists.{KeepsEach, KeepsOthers, numbers_at}
 use Rattle.drat_checker.specs.Propagation.{Extends, HasAlso}
-use Rattle.drat_checker.specs.Watches.{Pairs, Watchers, AreVisited, IsWatched}
-use Rattle.drat_checker.specs.Watches.{is_true, watchers, watchers_with, watches}
+use Rattle.drat_checker.specs.Watches.{Pairs, Watchers, AreVisited, IsWatched, KeepsBoth}
+use Rattle.drat_checker.specs.Watches.{beside, is_true, watchers, watchers_with, watches}
 use Rattle.drat_checker.proofs.FalseSets.{all_members, at_member, has_own, int_eq-true, eq-int_eq}
-use Rattle.drat_checker.proofs.Watched.{KeepsWatchers}
+use Rattle.drat_checker.proofs.Watched.{KeepsWatchers, in-one, in-other, of-either}
 
 -- a clause that is true stays so as literals become false
 pub more-false : {old new : List ℤ} → Extends old new → (x : ℤ) → literals_of old x ≡ true → literals_of new x ≡ true
@@ -61,12 +61,13 @@ pub visited-next : (places : Places) (pairs pairs' : Pairs) (literal : ℤ) (old
     → left ≡ i + 1 → i < length out → k ≡ get_or out i 0 → Extends old new → take i out' ≡ take i out
     → ((n : ℕ) → n ≢ k → watches pairs' n literal ≡ true → watches pairs n literal ≡ true)
     → ((clause : List ℤ) → place_at places k ≡ Some clause → watches pairs' k literal ≡ true → is_true new clause ≡ true)
-    → AreVisited places pairs literal old (take left out) → AreVisited places pairs' literal new (take i out')
-visited-next places pairs pairs' literal old new out out' i left k more within at e front keeps here before = record {
-  visited = λ n clause stands watched. elim (cases_eq n k) [
+    → (numbers : List ℕ) → AreVisited places pairs literal old numbers (take left out)
+    → AreVisited places pairs' literal new numbers (take i out')
+visited-next places pairs pairs' literal old new out out' i left k more within at e front keeps here numbers before = record {
+  visited = λ n clause stands watched own. elim (cases_eq n k) [
     | inl same ↦ or_left _ _
         (here clause (ap (place_at places) (sym same) ∙ stands) (ap (λ m. watches pairs' m literal) (sym same) ∙ watched))
-    | inr other ↦ elim (or_cases (is_true old clause) _ (before.visited n clause stands (keeps n other watched))) [
+    | inr other ↦ elim (or_cases (is_true old clause) _ (before.visited n clause stands (keeps n other watched) own)) [
       | inl holds ↦ or_left _ _ (true-more clause e holds)
       | inr listed ↦
           let parts : (has_number n (take i out) || nat_eq n (get_or out i 0)) ≡ true =
@@ -79,14 +80,18 @@ visited-next places pairs pairs' literal old new out out' i left k more within a
   ];
 }
 
--- at the start all watchers of the literal are still to come
-pub visited-start : (places : Places) (pairs : Pairs) (lists : LiteralLists) (literal : ℤ) (literals : List ℤ) (out : List ℕ)
-    → IsWatched pairs (watchers_with lists literal out) places → AreVisited places pairs literal literals out
-visited-start places pairs lists literal literals out w = record {
-  visited = λ n clause at watched. or_right (is_true literals clause) _
-      (subst (λ (b : Bool). has_number n (cond b out (numbers_at lists literal)) ≡ true) (eq-int_eq literal literal refl)
-      (w.listed n clause literal at watched));
+-- at the start all are still to come
+pub visited-start : (places : Places) (pairs : Pairs) (literal : ℤ) (literals : List ℤ) (numbers : List ℕ)
+    → AreVisited places pairs literal literals numbers numbers
+visited-start places pairs literal literals numbers = record {
+  visited = λ n clause at watched own. or_right (is_true literals clause) _ own;
 }
+
+-- where there are none nothing is visited
+pub visited-none : (places : Places) (pairs : Pairs) (literal : ℤ) (literals : List ℤ) (numbers : List ℕ) → numbers ≡ []
+    → AreVisited places pairs literal literals numbers []
+visited-none places pairs literal literals numbers none =
+    subst (λ (l : List ℕ). AreVisited places pairs literal literals numbers l) none (visited-start places pairs literal literals numbers)
 
 and_true-false : (b : Bool) → (b && true) ≡ false → b ≡ false
 and_true-false true e = e
@@ -128,6 +133,16 @@ taken-out lists lists' literal out is others n x listed =
       | false ↦ λ other. ap (has_number n) (others x other) ∙ listed
     ] refl
 
+-- the lists of other literals
+pub others-kept : (lists taken walked given : LiteralLists) (literal : ℤ)
+    → ((x : ℤ) → int_eq x literal ≡ false → numbers_at taken x ≡ numbers_at lists x) → KeepsEach taken walked
+    → ((x : ℤ) → int_eq x literal ≡ false → numbers_at given x ≡ numbers_at walked x) → KeepsOthers literal lists given
+others-kept lists taken walked given literal out kept back = record {
+  kept = λ x other. record {
+    kept = λ n listed. ap (has_number n) (back x other) ∙ (kept.kept x).kept n (ap (has_number n) (out x other) ∙ listed);
+  };
+}
+
 pub given-back : (lists lists' : LiteralLists) (literal : ℤ) (out : List ℕ) → numbers_at lists' literal ≡ out
     → ((x : ℤ) → int_eq x literal ≡ false → numbers_at lists' x ≡ numbers_at lists x) → (n : ℕ) (x : ℤ)
     → has_number n (watchers_with lists literal out x) ≡ true → has_number n (watchers lists' x) ≡ true
@@ -137,3 +152,49 @@ given-back lists lists' literal out is others n x listed =
       | true ↦ λ same there. ap (has_number n) (ap (numbers_at lists') (int_eq-true x literal same) ∙ is) ∙ there
       | false ↦ λ other there. ap (has_number n) (others x other) ∙ there
     ] refl listed
+
+-- a number goes from a list of one kind to that of another
+module _ (lists taken given others others' : LiteralLists) (literal : ℤ) (number : ℕ) (out left : List ℕ) (moves : Bool)
+    (is : out ≡ numbers_at lists literal)
+    (apart : (x : ℤ) → int_eq x literal ≡ false → numbers_at taken x ≡ numbers_at lists x)
+    (back : numbers_at given literal ≡ left)
+    (apart' : (x : ℤ) → int_eq x literal ≡ false → numbers_at given x ≡ numbers_at taken x)
+    (stay : (n : ℕ) → nat_eq n number ≡ false → has_number n out ≡ true → has_number n left ≡ true)
+    (none : moves ≡ false → left ≡ out) (kept : KeepsEach others others')
+    (entered : moves ≡ true → has_number number (numbers_at others' literal) ≡ true) where
+  own-moved : (n : ℕ) → has_number n out ≡ true
+      → (has_number n (numbers_at given literal) ≡ true) ⊎ (has_number n (numbers_at others' literal) ≡ true)
+  own-moved n listed =
+      elim (nat_eq n number) as (λ b. nat_eq n number ≡ b
+      → (has_number n (numbers_at given literal) ≡ true) ⊎ (has_number n (numbers_at others' literal) ≡ true)) [
+        | true ↦ λ same. elim moves as (λ b. moves ≡ b
+            → (has_number n (numbers_at given literal) ≡ true) ⊎ (has_number n (numbers_at others' literal) ≡ true)) [
+              | true ↦ λ e. inr
+                  (subst (λ (m : ℕ). has_number m (numbers_at others' literal) ≡ true) (sym (eqb-true n number same)) (entered e))
+              | false ↦ λ e. inl (ap (has_number n) (back ∙ none e) ∙ listed)
+            ] refl
+        | false ↦ λ other. inl (ap (has_number n) back ∙ stay n other listed)
+      ] refl
+
+  one-moved : (n : ℕ) (x : ℤ) → has_number n (numbers_at lists x) ≡ true
+      → (has_number n (numbers_at given x) ≡ true) ⊎ (has_number n (numbers_at others' x) ≡ true)
+  one-moved n x listed =
+      elim (int_eq x literal) as (λ b. int_eq x literal ≡ b
+      → (has_number n (numbers_at given x) ≡ true) ⊎ (has_number n (numbers_at others' x) ≡ true)) [
+        | true ↦ λ same.
+            let at : x ≡ literal = int_eq-true x literal same in
+            subst (λ (y : ℤ). (has_number n (numbers_at given y) ≡ true) ⊎ (has_number n (numbers_at others' y) ≡ true)) (sym at)
+            (own-moved n (ap (has_number n) (is ∙ ap (numbers_at lists) (sym at)) ∙ listed))
+        | false ↦ λ other. inl (ap (has_number n) (apart' x other ∙ apart x other) ∙ listed)
+      ] refl
+
+  pub moved-over : KeepsBoth (beside (watchers lists) (watchers others)) (beside (watchers given) (watchers others'))
+  moved-over = record {
+    kept = λ n x listed. elim (of-either (watchers lists) (watchers others) n x listed) [
+      | inl here ↦ elim (one-moved n x here) [
+        | inl stays ↦ in-one (watchers given) (watchers others') n x stays
+        | inr goes ↦ in-other (watchers given) (watchers others') n x goes
+      ]
+      | inr there ↦ in-other (watchers given) (watchers others') n x ((kept.kept x).kept n there)
+    ];
+  }

@@ -1,13 +1,15 @@
 -- Watched literals, as numbers go from the lists of literals that they watch no more, and as a clause watches another literal.
-use Rattle.std.proofs.Common.{◌≡◌, ℕ, ◌<◌, ◌≢◌, true, false, ◌&&◌, ℤ, List, length, set, None, Some, is_some, nat_eq, int_eq}
+use Rattle.std.proofs.Common.{◌≡◌, ℕ, ◌<◌, ◌≢◌, ◌⊎◌, true, false, ◌&&◌, ℤ, List, length, set, None, Some, is_some, nat_eq, int_eq}
 use Rattle.std.proofs.Common.{inl, inr, refl, sym, ap, ◌∙◌, subst, eqb-true}
 use Rattle.std.proofs.Math.Seq.{get_or-set_same, get_or-set_other}
 use Rattle.std.proofs.lemmas.Bool.{and_parts, or_cases, or_left, or_right, both_ways, false_from_ne_true, cases_eq}
+use Rattle.std.proofs.lemmas.List.Folds.{list_any-append}
 use Rattle.lrat_rules.specs.Chain.{literals_of}
 use Rattle.drat_checker.specs.declared.pair.Pair.{Pair}
 use Rattle.drat_checker.specs.Places.{Places, place_at}
 use Rattle.drat_checker.specs.Numbers.{has_number}
-use Rattle.drat_checker.specs.Watches.{Pairs, Watchers, IsPair, IsWatched, MovesWatches, is_in, is_of, pair_at, watches}
+use Rattle.drat_checker.specs.Watches.{Pairs, Watchers, ArePairs, IsPair, IsWatched, KeepsBoth, MovesWatches, beside, is_in, is_of, pair_at}
+use Rattle.drat_checker.specs.Watches.{watches}
 use Rattle.drat_checker.specs.Visits.{IsMoved}
 use Rattle.drat_checker.proofs.FalseSets.{int_eq-true, eq-int_eq}
 
@@ -15,31 +17,70 @@ use Rattle.drat_checker.proofs.FalseSets.{int_eq-true, eq-int_eq}
 pub record KeepsWatchers (old new : Watchers) (number : ℕ) (literal : ℤ) : Type 0 where
   pub kept : (n : ℕ) (x : ℤ) → (nat_eq n number && int_eq x literal) ≡ false → has_number n (old x) ≡ true → has_number n (new x) ≡ true
 
+-- two kinds of lists
+pub in-one : (one other : Watchers) (n : ℕ) (x : ℤ) → has_number n (one x) ≡ true → has_number n (beside one other x) ≡ true
+in-one one other n x h = list_any-append (nat_eq n) (one x) (other x) ∙ or_left _ _ h
+
+pub in-other : (one other : Watchers) (n : ℕ) (x : ℤ) → has_number n (other x) ≡ true → has_number n (beside one other x) ≡ true
+in-other one other n x h = list_any-append (nat_eq n) (one x) (other x) ∙ or_right (has_number n (one x)) _ h
+
+pub of-either : (one other : Watchers) (n : ℕ) (x : ℤ) → has_number n (beside one other x) ≡ true
+    → (has_number n (one x) ≡ true) ⊎ (has_number n (other x) ≡ true)
+of-either one other n x h = or_cases (has_number n (one x)) _ (sym (list_any-append (nat_eq n) (one x) (other x)) ∙ h)
+
+pub each-beside : (one one' other : Watchers) (n : ℕ) (x : ℤ) → (has_number n (one x) ≡ true → has_number n (one' x) ≡ true)
+    → has_number n (beside one other x) ≡ true → has_number n (beside one' other x) ≡ true
+each-beside one one' other n x f h =
+    elim (of-either one other n x h) [
+      | inl here ↦ in-one one' other n x (f here)
+      | inr there ↦ in-other one' other n x there
+    ]
+
+pub swapped : (one other : Watchers) (n : ℕ) (x : ℤ) → has_number n (beside one other x) ≡ true
+    → has_number n (beside other one x) ≡ true
+swapped one other n x h =
+    elim (of-either one other n x h) [
+      | inl here ↦ in-other other one n x here
+      | inr there ↦ in-one other one n x there
+    ]
+
+pub keeps-beside : {one one' : Watchers} {number : ℕ} {literal : ℤ} (other : Watchers) → KeepsWatchers one one' number literal
+    → KeepsWatchers (beside one other) (beside one' other) number literal
+keeps-beside {one} {one'} other keeps = record {
+  kept = λ n x apart listed. each-beside one one' other n x (keeps.kept n x apart) listed;
+}
+
+pub both-then : {a b c : Watchers} → KeepsBoth a b → KeepsBoth b c → KeepsBoth a c
+both-then f g = record { kept = λ n x h. g.kept n x (f.kept n x h) }
+
+pub both-same : (all : Watchers) → KeepsBoth all all
+both-same all = record { kept = λ n x h. h }
+
 pub own-first : (pair : Pair) → is_of pair pair.first ≡ true
 own-first pair = or_left _ _ (eq-int_eq pair.first pair.first refl)
 
 pub own-second : (pair : Pair) → is_of pair pair.second ≡ true
 own-second pair = or_right (int_eq pair.second pair.first) _ (eq-int_eq pair.second pair.second refl)
 
-module _ (pairs : Pairs) (all all' : Watchers) (places : Places) (number : ℕ) (literal : ℤ) (w : IsWatched pairs all places)
-    (keeps : KeepsWatchers all all' number literal) where
-  -- the number that goes from the literal's list doesn't watch it
-  pub watched-gone : ((clause : List ℤ) → place_at places number ≡ Some clause → watches pairs number literal ≡ false)
-      → IsWatched pairs all' places
-  watched-gone unwatched = record {
-    are = w.are;
-    listed = λ n clause x at watched.
-        keeps.kept n x (false_from_ne_true _ (λ both.
-        let parts = and_parts (nat_eq n number) (int_eq x literal) both in
-        let same : n ≡ number = eqb-true n number parts.0 in
-        let here : watches pairs number literal ≡ true =
-        subst (λ (m : ℕ). watches pairs m literal ≡ true) same
-        (subst (λ (y : ℤ). watches pairs n y ≡ true) (int_eq-true x literal parts.1) watched) in
-        both_ways (watches pairs number literal) (unwatched clause (ap (place_at places) (sym same) ∙ at)) here))
-        (w.listed n clause x at watched);
-  }
+-- the number that goes from the literal's list doesn't watch it
+pub watched-gone : (pairs : Pairs) (all all' : Watchers) (places : Places) (number : ℕ) (literal : ℤ) → IsWatched pairs all places
+    → KeepsWatchers all all' number literal
+    → ((clause : List ℤ) → place_at places number ≡ Some clause → watches pairs number literal ≡ false) → IsWatched pairs all' places
+watched-gone pairs all all' places number literal w keeps unwatched = record {
+  are = w.are;
+  listed = λ n clause x at watched.
+      keeps.kept n x (false_from_ne_true _ (λ both.
+      let parts = and_parts (nat_eq n number) (int_eq x literal) both in
+      let same : n ≡ number = eqb-true n number parts.0 in
+      let here : watches pairs number literal ≡ true =
+      subst (λ (m : ℕ). watches pairs m literal ≡ true) same
+      (subst (λ (y : ℤ). watches pairs n y ≡ true) (int_eq-true x literal parts.1) watched) in
+      both_ways (watches pairs number literal) (unwatched clause (ap (place_at places) (sym same) ∙ at)) here))
+      (w.listed n clause x at watched);
+}
 
-  -- a clause watches another literal in the place of that one
+-- a clause watches another literal in the place of that one
+module _ (pairs : Pairs) (places : Places) (number : ℕ) (literal : ℤ) (are : ArePairs pairs places) where
   module _ (literals : List ℤ) (pair : Pair) (moved : IsMoved places pairs literals literal number pair) (pairs' : Pairs)
       (is' : pairs' ≡ set pairs number (Some pair)) (within : number < length pairs) where
     at-number : pair_at pairs' number ≡ Some pair
@@ -56,23 +97,27 @@ module _ (pairs : Pairs) (all all' : Watchers) (places : Places) (number : ℕ) 
         let both : Some moved.clause ≡ Some clause = sym moved.stands ∙ ap (place_at places) (sym same) ∙ at in
         cc
 
-    pub watched-moved : has_number number (all' pair.first) ≡ true → IsWatched pairs' all' places
-    watched-moved entered = record {
-      are = record {
-        own = λ n clause own at is. elim (cases_eq n number) [
-          | inl same ↦
-              let new : Some pair ≡ Some own = sym at-number ∙ ap (pair_at pairs') (sym same) ∙ is in
-              let pairs_are : pair ≡ own = cc in
-              let it : IsPair pair moved.clause = record { first = moved.first; second = moved.second; apart = moved.apart } in
-              subst (λ (p : Pair). IsPair p clause) pairs_are
-              (subst (λ (c : List ℤ). IsPair pair c) (same-clause n clause same at) it)
-          | inr other ↦ w.are.own n clause own at (sym (at-other n other) ∙ is)
-        ];
-        there = λ n clause at long. elim (cases_eq n number) [
-          | inl same ↦ ap is_some (ap (pair_at pairs') same ∙ at-number)
-          | inr other ↦ ap is_some (at-other n other) ∙ w.are.there n clause at long
-        ];
-      };
+    pub pairs-moved : ArePairs pairs' places
+    pairs-moved = record {
+      own = λ n clause own at is. elim (cases_eq n number) [
+        | inl same ↦
+            let new : Some pair ≡ Some own = sym at-number ∙ ap (pair_at pairs') (sym same) ∙ is in
+            let pairs_are : pair ≡ own = cc in
+            let it : IsPair pair moved.clause = record { first = moved.first; second = moved.second; apart = moved.apart } in
+            subst (λ (p : Pair). IsPair p clause) pairs_are
+            (subst (λ (c : List ℤ). IsPair pair c) (same-clause n clause same at) it)
+        | inr other ↦ are.own n clause own at (sym (at-other n other) ∙ is)
+      ];
+      there = λ n clause at long. elim (cases_eq n number) [
+        | inl same ↦ ap is_some (ap (pair_at pairs') same ∙ at-number)
+        | inr other ↦ ap is_some (at-other n other) ∙ are.there n clause at long
+      ];
+    }
+
+    pub watched-moved : (all all' : Watchers) → IsWatched pairs all places → KeepsWatchers all all' number literal
+        → has_number number (all' pair.first) ≡ true → IsWatched pairs' all' places
+    watched-moved all all' w keeps entered = record {
+      are = pairs-moved;
       listed = λ n clause x at watched. elim (cases_eq n number) [
         | inl same ↦
             subst (λ (m : ℕ). has_number m (all' x) ≡ true) (sym same)

@@ -79,7 +79,7 @@ impl DratJudge {
         ensures { self.new ≡ without_first_by (equality_of deletions) clause.now self.old }
     {
         match self.judge.find(deletions, clause) {
-            None => {}
+            None => self.judge.postpone(clause),
             Some(number) => self.judge.clear(number),
         }
     }

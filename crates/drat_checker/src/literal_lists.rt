@@ -62,6 +62,21 @@ impl LiteralLists {
         mem::replace(&mut self.near[key as usize], Numbers::new(alloc))
     }
 
+    /// Whether the list of a literal is known to have no number.
+    #[inline(always)]
+    pub fn is_empty_at(&self, literal: Lit) -> bool
+        ensures { IsTrue result → numbers_at self.now literal ≡ [] }
+    {
+        let key = key_of(literal);
+        if NEAR_PLACES <= key {
+            return false;
+        }
+        if self.near.len() <= key as usize {
+            return true;
+        }
+        false
+    }
+
     /// Gives a literal this list in the place of its own.
     #[inline(always)]
     pub fn give(&mut self, alloc: Global, literal: Lit, numbers: Numbers) -> Result<(), OutOfMemory>

@@ -13,7 +13,7 @@ use crate::blocked::is_blocked;
 use crate::database::Database;
 use crate::false_list::FalseList;
 use crate::line::LineHints;
-use crate::roots::{Roots, lowered, raised, settle};
+use crate::roots::{Roots, lowered, postponed, raised, settle};
 use crate::watches::Watches;
 use cnf_base::{Cnf, Lit, OutOfMemory};
 use drat_rules::{Deletions, quiet_law};
@@ -146,6 +146,17 @@ impl NumberedJudge {
         ensures none { result ≡ None → IsNone (equality_of deletions) clause.now self.now }
     {
         self.db.find(deletions, clause)
+    }
+
+    /// A deletion takes out no clause, but this one is told to be it by its set of literals: nothing changes but that it is propagated last
+    /// from now on, since the proof isn't meant to need it.
+    pub fn postpone(&mut self, clause: &[Lit])
+        ensures { self.new ≡ self.old }
+    {
+        match self.db.find(Deletions::BySet, clause) {
+            None => {}
+            Some(number) => self.roots = postponed(&mut self.kept, self.roots, number),
+        }
     }
 
     /// Takes out the clause of a number.

@@ -1,6 +1,6 @@
 // Numbers of clauses that have something in common. Those whose clause stands no more stay until they are more than half, so that
 // a number that goes is not searched for.
-ghost use Rattle.std.specs.Prelude.{◌≡◌, ◌<◌, ◌+◌, ◌++◌, ◌∷◌, ℕ, [], false, OnErr, OnOk, IsTrue, length, take, nat_eq, slice_index};
+ghost use Rattle.std.specs.Prelude.{◌≡◌, ◌<◌, ◌+◌, ◌++◌, ◌∷◌, ℕ, [], false, OnErr, OnOk, IfSome, IsTrue, length, take, nat_eq, slice_index};
 ghost use Rattle.drat_checker.specs.Numbers.{AreRising, KeepsNumbers, KeepsStanding, ends_with, has_number, stands};
 
 use crate::store::Store;
@@ -67,6 +67,21 @@ impl Numbers {
         self.numbers.swap_remove(place);
     }
 
+    /// Drops a number where it stands first. The answer is whether it stands there; the others stay.
+    pub fn forget(&mut self, number: u32) -> bool
+        ensures kept { (other : ℕ) → nat_eq other number ≡ false → IsTrue (has_number other self.old)
+            → IsTrue (has_number other self.new) }
+        ensures none { result ≡ false → self.new ≡ self.old }
+    {
+        match place_in(self.numbers.as_slice(), number) {
+            None => false,
+            Some(place) => {
+                self.drop_at(place);
+                true
+            }
+        }
+    }
+
     /// One number more. A refusal loses none.
     pub fn push(&mut self, number: u32) -> Result<(), OutOfMemory>
         ensures kept { KeepsNumbers self.old self.new }
@@ -103,6 +118,13 @@ impl Numbers {
         }
         self.numbers.is_empty()
     }
+}
+
+// The first place of a number.
+fn place_in(numbers: &[u32], number: u32) -> Option<usize>
+    ensures { IfSome result (λ place. (place < length numbers.now) × (slice_index numbers.now place ≡ number)) }
+{
+    numbers.iter().position(|own| *own == number)
 }
 
 // Whether a number is the last one.

@@ -1,6 +1,6 @@
 // Unit propagation over watched literals: each literal that became false visits the clauses that watch it, in the order in which the
 // literals became false, until a clause is false, or none is left.
-ghost use Rattle.std.specs.Prelude.{◌≡◌, ◌⊎◌, ℤ, List, [], take, None, Some, false, true, OnOk, IfOk, IfSome, IsSome, IsTrue};
+ghost use Rattle.std.specs.Prelude.{◌≡◌, ◌+◌, ◌<◌, ◌≤◌, length, ◌⊎◌, ℤ, List, [], take, None, Some, false, true, OnOk, IfOk, IfSome, IsSome, IsTrue};
 ghost use Rattle.lrat_rules.specs.declared.outcome.Effect.TheVariants.{NotUnit};
 ghost use Rattle.lrat_rules.specs.Chain.{literals_of, effect};
 ghost use Rattle.drat_rules.specs.Clauses.{is_among};
@@ -9,7 +9,7 @@ ghost use Rattle.drat_checker.specs.Places.{Places, place_at, standing};
 ghost use Rattle.drat_checker.specs.Propagation.{Derives, IsClosed};
 ghost use Rattle.drat_checker.specs.Database.{is_short};
 ghost use Rattle.drat_checker.specs.Reasons.{AllByUnits, IsFalsified, KeepsReasons};
-ghost use Rattle.drat_checker.specs.Watches.{AreTrue, AreWatched, IsGuarded, IsSettled, MovesWatches, is_true};
+ghost use Rattle.drat_checker.specs.Watches.{AreHeads, AreTrue, AreWatched, IsGuarded, IsSettled, MovesWatches, is_true};
 
 use crate::database::{Database, is_short};
 use crate::false_list::FalseList;
@@ -18,8 +18,8 @@ use cnf_base::{Lit, OutOfMemory};
 use drat_rules::{propagation_law, quiet_law};
 use lrat_rules::Effect;
 
-/// Propagates the literals from a place on to the end. The answer is the number of a clause that is false then: a conflict. Behind a
-/// refusal nothing is said of what is watched.
+/// Propagates the literals from a place on to the end, and over the late clauses where the others come to no conflict. The answer is the
+/// number of a clause that is false then: a conflict. Behind a refusal nothing is said of what is watched.
 pub fn propagate(
     db: &Database,
     kept: &mut Watches,
@@ -40,17 +40,59 @@ pub fn propagate(
 {
     quiet_law();
     propagation_law();
-    let mut place = from;
-    'literals: while place < trail.len() {
-        let literal = trail.literal(place);
-        let conflict = kept.visit(db, trail, literal)?;
+    let mut heads = Heads {
+        next: from,
+        late: from,
+    };
+    'literals: while heads.late < trail.len() {
+        let conflict = advance(db, kept, trail, &mut heads)?;
         match conflict {
             Some(number) => return Ok(Some(number)),
-            None => place += 1,
+            None => continue,
         }
     }
     trail.apart_law();
     Ok(None)
+}
+
+// How many literals of a trail have visited their clauses, and how many the late ones too.
+#[derive(Clone, Copy)]
+struct Heads {
+    next: usize,
+    late: usize,
+}
+
+// The next literal visits its clauses, and where there is none the next one its late ones.
+#[inline(always)]
+fn advance(
+    db: &Database,
+    kept: &mut Watches,
+    trail: &mut FalseList,
+    heads: &mut Heads,
+) -> Result<Option<u32>, OutOfMemory>
+    requires watched { AreWatched kept.old db.now }
+    requires heads { AreHeads db.now kept.old trail.old.literals heads.old.next heads.old.late }
+    requires within { heads.old.next ≤ length trail.old.literals }
+    requires late { heads.old.late < length trail.old.literals }
+    ensures watched { OnOk result (AreWatched kept.new db.now) }
+    ensures moves { OnOk result (MovesWatches kept.old.pairs.items kept.new.pairs.items trail.old.literals) }
+    ensures derives { OnOk result (Derives (standing db.now) trail.old.literals trail.new.literals) }
+    ensures reasons { OnOk result (KeepsReasons db.now [] trail.old trail.new) }
+    ensures conflict { IfOk result (λ conflict. IsSome conflict → has_quiet (standing db.now) trail.old.literals ≡ false) }
+    ensures falsified { IfOk result (λ conflict. IfSome conflict (IsFalsified db.now trail.new.literals)) }
+    ensures heads { IfOk result (λ conflict. conflict ≡ None
+        → AreHeads db.now kept.new trail.new.literals heads.new.next heads.new.late) }
+    ensures within { IfOk result (λ conflict. conflict ≡ None → heads.new.next ≤ length trail.new.literals) }
+    ensures on { heads.new.next + heads.new.late ≡ heads.old.next + heads.old.late + 1 }
+{
+    if heads.next < trail.len() {
+        let literal = trail.literal(heads.next);
+        heads.next += 1;
+        return kept.visit(db, trail, literal);
+    }
+    let literal = trail.literal(heads.late);
+    heads.late += 1;
+    kept.visit_late(db, trail, literal)
 }
 
 /// Takes the short clauses. The answer is the number of one of them that is false; else they are true.

@@ -5,6 +5,7 @@ ghost use Rattle.drat_checker.specs.declared.roots.Roots.TheVariants.{Stale, Set
 ghost use Rattle.drat_checker.specs.Places.{Places, place_at, standing};
 ghost use Rattle.drat_checker.specs.declared.watches.Watches.{Watches as Kept};
 ghost use Rattle.drat_checker.specs.Propagation.{Derives};
+ghost use Rattle.drat_checker.specs.Trail.{Trail};
 ghost use Rattle.drat_checker.specs.Reasons.{AreByUnits, AreReasons, IsNoReason};
 ghost use Rattle.drat_checker.specs.Watches.{AreTrue, AreWatched, IsGuarded};
 ghost use Rattle.drat_checker.specs.Roots.{AreKept, AreRoots, IsClash, IsGrowing, WereKept};
@@ -235,6 +236,16 @@ pub fn lowered(db: &Database, trail: &FalseList, roots: Roots, number: u32) -> R
                 if spare { Roots::Settled } else { Roots::Stale }
             }
         },
+    }
+}
+
+/// The same once the clause of a number is to be visited late.
+pub fn postponed(kept: &mut Watches, roots: Roots, number: u32) -> Roots
+    ensures { (places : Places) (trail : Trail) → AreKept roots places kept.old trail → AreKept result places kept.new trail }
+{
+    match kept.postpone(number) {
+        Ok(()) => roots,
+        Err(_) => Roots::Lost,
     }
 }
 

@@ -1,6 +1,6 @@
 // Two watched literals of each clause that isn't short, and the lists of the numbers that watch a literal: a clause needs to be looked at
 // only where one of its two becomes false. Taking literals back changes no watch. A list may have numbers that watch it no more: they go
-// when they are met. (Moskewicz, Madigan, Zhao, Zhang, Malik: Chaff, DAC 2001.)
+// when they are met. A clause may stand in late lists in their place, which are visited once the others have come to no conflict. (Moskewicz, Madigan, Zhao, Zhang, Malik: Chaff, DAC 2001.)
 ghost use Rattle.std.specs.Prelude.{◌≡◌, ◌<◌, ◌∷◌, ◌++◌, [], ℕ, ℤ, List, length, Some, None, false, true, IsTrue};
 ghost use Rattle.std.specs.Prelude.{IfOk, OnOk, IfSome, IsSome, is_some};
 ghost use Rattle.std.specs.List.{list_all};
@@ -14,11 +14,11 @@ ghost use Rattle.drat_checker.specs.Places.{Places, standing};
 ghost use Rattle.drat_checker.specs.Propagation.{Derives};
 ghost use Rattle.drat_checker.specs.Reasons.{IsFalsified, KeepsReasons};
 ghost use Rattle.drat_checker.specs.Database.{is_short};
-ghost use Rattle.drat_checker.specs.Watches.{ArePairs, AreVisited, AreWatched, IsPair, IsWatched, MovesWatches};
-ghost use Rattle.drat_checker.specs.Watches.{is_in, is_last, pair_at, watchers, watchers_with, watches};
+ghost use Rattle.drat_checker.specs.Watches.{ArePairs, AreVisited, AreWatched, IsPair, IsWatched, KeepsBoth, MovesWatches, Watchers};
+ghost use Rattle.drat_checker.specs.Watches.{beside, is_in, is_last, pair_at, watchers, watchers_with, watches};
 ghost use Rattle.drat_checker.specs.Visits.{IsBeside, OtherOf, VisitIs};
 ghost use Rattle.drat_checker.specs.Numbers.{has_number};
-ghost use Rattle.drat_checker.specs.LiteralLists.{KeepsEach};
+ghost use Rattle.drat_checker.specs.LiteralLists.{KeepsEach, KeepsOthers};
 
 use crate::database::Database;
 use crate::false_list::FalseList;
@@ -36,6 +36,7 @@ pub struct Watches {
     alloc: Global,
     pairs: Vec<Option<Pair>>,
     lists: LiteralLists,
+    late: LiteralLists,
 }
 
 impl Watches {
@@ -47,6 +48,7 @@ impl Watches {
             alloc,
             pairs: Vec::new(alloc),
             lists: LiteralLists::new(alloc),
+            late: LiteralLists::new(alloc),
         }
     }
 
@@ -90,13 +92,41 @@ impl Watches {
         let count = db.count()?;
         self.pairs.clear();
         self.lists = LiteralLists::new(self.alloc);
+        self.late = LiteralLists::new(self.alloc);
         for number in 0..count {
             self.enter(trail, number, db.clause(number))?;
         }
         Ok(())
     }
 
-    /// The clauses that watch a literal that is false are visited. The answer is the number of one of them that is false.
+    /// The clause of a number is visited late from now on. Behind a refusal nothing is said of what is watched.
+    pub fn postpone(&mut self, number: u32) -> Result<(), OutOfMemory>
+        ensures watched { OnOk result ((places : Places) → AreWatched self.old places → AreWatched self.new places) }
+        ensures pairs { self.new.pairs ≡ self.old.pairs }
+    {
+        match pair_in(self.pairs.as_slice(), number) {
+            None => Ok(()),
+            Some(pair) => {
+                move_number(
+                    self.alloc,
+                    &mut self.lists,
+                    &mut self.late,
+                    pair.first,
+                    number,
+                )?;
+                move_number(
+                    self.alloc,
+                    &mut self.lists,
+                    &mut self.late,
+                    pair.second,
+                    number,
+                )
+            }
+        }
+    }
+
+    /// The clauses that watch a literal that is false are visited, but for the late ones. The answer is the number of one of them that is
+    /// false.
     pub fn visit(
         &mut self,
         db: &Database,
@@ -111,20 +141,122 @@ impl Watches {
         ensures reasons { OnOk result (KeepsReasons db.now [] trail.old trail.new) }
         ensures conflict { IfOk result (λ conflict. IsSome conflict → has_quiet (standing db.now) trail.old.literals ≡ false) }
         ensures falsified { IfOk result (λ conflict. IfSome conflict (IsFalsified db.now trail.new.literals)) }
-        ensures visited { IfOk result (λ conflict. conflict ≡ None → AreVisited db.now self.new.pairs.items literal trail.new.literals []) }
+        ensures visited { IfOk result (λ conflict. conflict ≡ None
+            → AreVisited db.now self.new.pairs.items literal trail.new.literals (watchers self.old.lists literal) []) }
+        ensures late { OnOk result (self.new.late ≡ self.old.late) }
     {
-        let mut out = self.lists.take(self.alloc, literal);
-        let conflict = walk(
+        visit_in(
             db,
             self.alloc,
             &mut self.pairs,
             &mut self.lists,
-            &mut out,
             trail,
             literal,
-        )?;
-        self.lists.give(self.alloc, literal, out)?;
-        Ok(conflict)
+        )
+    }
+
+    /// The same of the late ones.
+    pub fn visit_late(
+        &mut self,
+        db: &Database,
+        trail: &mut FalseList,
+        literal: Lit,
+    ) -> Result<Option<u32>, OutOfMemory>
+        requires watched { AreWatched self.old db.now }
+        requires falsified { IsTrue (literals_of trail.old.literals literal) }
+        ensures watched { OnOk result (AreWatched self.new db.now) }
+        ensures moves { OnOk result (MovesWatches self.old.pairs.items self.new.pairs.items trail.old.literals) }
+        ensures derives { OnOk result (Derives (standing db.now) trail.old.literals trail.new.literals) }
+        ensures reasons { OnOk result (KeepsReasons db.now [] trail.old trail.new) }
+        ensures conflict { IfOk result (λ conflict. IsSome conflict → has_quiet (standing db.now) trail.old.literals ≡ false) }
+        ensures falsified { IfOk result (λ conflict. IfSome conflict (IsFalsified db.now trail.new.literals)) }
+        ensures visited { IfOk result (λ conflict. conflict ≡ None
+            → AreVisited db.now self.new.pairs.items literal trail.new.literals (watchers self.old.late literal) []) }
+        ensures late { OnOk result (KeepsOthers literal self.old.late self.new.late) }
+    {
+        if self.late.is_empty_at(literal) {
+            return Ok(None);
+        }
+        visit_in(
+            db,
+            self.alloc,
+            &mut self.pairs,
+            &mut self.late,
+            trail,
+            literal,
+        )
+    }
+}
+
+// The clauses in one kind of lists that watch a literal that is false are visited: the literal's list is taken out, and given back.
+fn visit_in(
+    db: &Database,
+    alloc: Global,
+    pairs: &mut Vec<Option<Pair>>,
+    lists: &mut LiteralLists,
+    trail: &mut FalseList,
+    literal: Lit,
+) -> Result<Option<u32>, OutOfMemory>
+    requires many { length pairs.old.items ≡ length db.now }
+    requires pairs { ArePairs pairs.old.items db.now }
+    requires falsified { IsTrue (literals_of trail.old.literals literal) }
+    ensures many { length pairs.new.items ≡ length db.now }
+    ensures watched { OnOk result ((others : Watchers) → IsWatched pairs.old.items (beside (watchers lists.old) others) db.now
+        → IsWatched pairs.new.items (beside (watchers lists.new) others) db.now) }
+    ensures moves { OnOk result (MovesWatches pairs.old.items pairs.new.items trail.old.literals) }
+    ensures derives { OnOk result (Derives (standing db.now) trail.old.literals trail.new.literals) }
+    ensures reasons { OnOk result (KeepsReasons db.now [] trail.old trail.new) }
+    ensures conflict { IfOk result (λ conflict. IsSome conflict → has_quiet (standing db.now) trail.old.literals ≡ false) }
+    ensures falsified { IfOk result (λ conflict. IfSome conflict (IsFalsified db.now trail.new.literals)) }
+    ensures visited { IfOk result (λ conflict. conflict ≡ None
+        → AreVisited db.now pairs.new.items literal trail.new.literals (watchers lists.old literal) []) }
+    ensures kept { OnOk result (KeepsOthers literal lists.old lists.new) }
+{
+    let mut out = lists.take(alloc, literal);
+    let conflict = walk(db, alloc, pairs, lists, &mut out, trail, literal)?;
+    lists.give(alloc, literal, out)?;
+    Ok(conflict)
+}
+
+// Moves a number from the list of a literal to that of others, where it stands there.
+fn move_number(
+    alloc: Global,
+    lists: &mut LiteralLists,
+    others: &mut LiteralLists,
+    literal: Lit,
+    number: u32,
+) -> Result<(), OutOfMemory>
+    ensures { OnOk result (KeepsBoth (beside (watchers lists.old) (watchers others.old)) (beside (watchers lists.new)
+        (watchers others.new))) }
+{
+    let mut out = lists.take(alloc, literal);
+    let moves = out.forget(number);
+    lists.give(alloc, literal, out)?;
+    enter_if(moves, others, alloc, literal, number)
+}
+
+// The number enters the list of a literal, where it is to.
+fn enter_if(
+    enters: bool,
+    lists: &mut LiteralLists,
+    alloc: Global,
+    literal: Lit,
+    number: u32,
+) -> Result<(), OutOfMemory>
+    ensures kept { KeepsEach lists.old lists.new }
+    ensures entered { OnOk result (IsTrue enters → IsTrue (has_number number (watchers lists.new literal))) }
+{
+    if enters {
+        return lists.enter(alloc, literal, number);
+    }
+    Ok(())
+}
+
+// What the clause of a number watches.
+fn pair_in(pairs: &[Option<Pair>], number: u32) -> Option<Pair> {
+    match pairs.get(number as usize) {
+        None => None,
+        Some(pair) => *pair,
     }
 }
 
@@ -264,16 +396,20 @@ fn walk(
     literal: Lit,
 ) -> Result<Option<u32>, OutOfMemory>
     requires many { length pairs.old.items ≡ length db.now }
-    requires watched { IsWatched pairs.old.items (watchers_with lists.old literal out.old) db.now }
+    requires pairs { ArePairs pairs.old.items db.now }
     requires falsified { IsTrue (literals_of trail.old.literals literal) }
     ensures many { length pairs.new.items ≡ length db.now }
-    ensures watched { OnOk result (IsWatched pairs.new.items (watchers_with lists.new literal out.new) db.now) }
+    ensures watched { OnOk result ((others : Watchers)
+        → IsWatched pairs.old.items (beside (watchers_with lists.old literal out.old) others) db.now
+        → IsWatched pairs.new.items (beside (watchers_with lists.new literal out.new) others) db.now) }
+    ensures kept { KeepsEach lists.old lists.new }
     ensures moves { OnOk result (MovesWatches pairs.old.items pairs.new.items trail.old.literals) }
     ensures derives { OnOk result (Derives (standing db.now) trail.old.literals trail.new.literals) }
     ensures reasons { OnOk result (KeepsReasons db.now [] trail.old trail.new) }
     ensures conflict { IfOk result (λ conflict. IsSome conflict → has_quiet (standing db.now) trail.old.literals ≡ false) }
     ensures falsified { IfOk result (λ conflict. IfSome conflict (IsFalsified db.now trail.new.literals)) }
-    ensures visited { IfOk result (λ conflict. conflict ≡ None → AreVisited db.now pairs.new.items literal trail.new.literals []) }
+    ensures visited { IfOk result (λ conflict. conflict ≡ None
+        → AreVisited db.now pairs.new.items literal trail.new.literals out.old []) }
 {
     quiet_law();
     propagation_law();

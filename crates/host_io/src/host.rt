@@ -6,6 +6,7 @@ ghost use Rattle.host_io.specs.Files.{Files, Offers, IsInput, IsCreated, IsNamed
 
 use crate::role::Role;
 use crate::source::Failed;
+use crate::trace::Trace;
 
 /// All that the program meets outside itself. A role is opened or created once, under one name, before it is
 /// used; `Out` and `Err` need no name. A call of one role changes nothing of another's, and no file but one that
@@ -56,4 +57,9 @@ pub trait Host {
         requires { IsWritable role (channel self.old role).name }
         ensures flushes { Flushes tells (channel self.old role) (channel self.new role) result }
         ensures kept { Kept role (channel self.old role).name (channel self.old) (channel self.new) (files self.old) (files self.new) };
+
+    /// What is known of this role's calls, where the host keeps that. Nothing is promised of it: it is for a text that a user reads.
+    fn trace(&self, _role: Role) -> Option<Trace> {
+        None
+    }
 }

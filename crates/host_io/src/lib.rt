@@ -27,6 +27,7 @@ mod role;
 mod slice_source;
 mod source;
 mod stream;
+mod trace;
 mod whole;
 
 pub use client::{load, put};
@@ -42,4 +43,5 @@ pub use real_host::RealHost;
 pub use role::Role;
 pub use slice_source::SliceSource;
 pub use source::{Failed, Sink, Source};
+pub use trace::Trace;
 pub use whole::{fill, write_all};

@@ -14,6 +14,7 @@ use crate::port::System;
 use crate::real_role::RealRole;
 use crate::role::{Role, place};
 use crate::source::Failed;
+use crate::trace::Trace;
 use std::env::Args;
 use std::io::ErrorKind;
 use std::marker::Model;
@@ -169,5 +170,9 @@ impl Host for RealHost {
         ensures made { self.new.made ≡ self.old.made }
     {
         self.roles[place(role)].flush()
+    }
+
+    fn trace(&self, role: Role) -> Option<Trace> {
+        Some(self.roles[place(role)].trace())
     }
 }

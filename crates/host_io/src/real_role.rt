@@ -9,6 +9,7 @@ ghost use Rattle.host_io.specs.Port.{traffic_in, traffic_out, name_in, name_out,
 use crate::port::{Input, Output, System, Tally};
 use crate::role::Role;
 use crate::source::Failed;
+use crate::trace::Trace;
 use std::fs::File;
 use std::io::{Read, Stderr, Stdout, Write};
 use std::marker::Model;
@@ -130,6 +131,20 @@ impl RealRole {
             Connection::Stdout(output) => flush(output, &mut self.tally),
             Connection::Stderr(output) => flush(output, &mut self.tally),
             Connection::Input(_) | Connection::Closed => Ok(()),
+        }
+    }
+
+    /// What is known of its calls.
+    pub(crate) fn trace(&self) -> Trace {
+        let (is_open, has_ended) = match &self.connection {
+            Connection::Closed => (false, false),
+            Connection::Input(input) => (true, input.has_ended()),
+            Connection::Output(_) | Connection::Stdout(_) | Connection::Stderr(_) => (true, false),
+        };
+        Trace {
+            is_open,
+            has_ended,
+            fault: self.tally.last_fault(),
         }
     }
 }

@@ -41,6 +41,15 @@ pub fn loaded<H: Host>(
     format!(in alloc; "{counts:?} {first} {second}")
 }
 
+/// What a call gave that opens the formula, and what is kept then of its role and of one that wasn't used.
+pub fn traces<H: Host>(alloc: Global, host: &mut H, name: &str) -> Result<String, AllocError>
+    requires unnamed { (any : Role) → (H.channel host.old any).name ≡ None }
+{
+    let opened = host.open_read(Role::Cnf, name);
+    let (used, unused) = (host.trace(Role::Cnf), host.trace(Role::Order));
+    format!(in alloc; "{opened:?} {used:?} {unused:?}")
+}
+
 /// Creates the file, and puts two pieces into it. Answers whether the first was put.
 pub fn put_twice<H: Host>(
     host: &mut H,

@@ -2,7 +2,7 @@
 ghost use Rattle.std.specs.Prelude.{◌≡◌};
 ghost use Rattle.host_io.specs.Files.{IsCreated};
 
-use crate::calls::{loaded, put_twice, write_once};
+use crate::calls::{loaded, put_twice, traces, write_once};
 use host_io::{Failed, RealHost, Role};
 use std::process::Abort;
 use std::test::Fail;
@@ -61,6 +61,18 @@ fn real_buffers(rt: HostRuntime) -> Result<(), Fail> {
     let len = fs::read(&rt, path.as_str())?.len();
     assert_eq!(rt; (written, len), (Ok(5), 0));
     fs::remove_file(&rt, path.as_str())?;
+    Ok(())
+}
+
+// What is kept of a call that failed, and of a role that wasn't used.
+#[test]
+fn real_traces(rt: HostRuntime) -> Result<(), Fail> {
+    let given = traces(rt.alloc(), &mut RealHost::new(rt), "/tmp/no/such/file")?;
+    assert_eq!(rt;
+        given.as_str(),
+        "Err(Failed) Some(Trace { is_open: false, has_ended: false, fault: Some(NotFound) }) \
+         Some(Trace { is_open: false, has_ended: false, fault: None })"
+    );
     Ok(())
 }
 

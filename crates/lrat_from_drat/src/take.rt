@@ -128,7 +128,10 @@ fn delete_into<S: Sink>(
     ensures beside { S.beside sink.new ≡ S.beside sink.old }
 {
     match judge.find(deletions, clause) {
-        None => Ok(None),
+        None => {
+            judge.postpone(clause);
+            Ok(None)
+        }
         Some(number) => {
             let id = id_of(number);
             let gone = is_gone(judge, line, number)?;

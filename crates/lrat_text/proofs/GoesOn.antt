@@ -7,7 +7,7 @@ use Rattle.std.proofs.lemmas.Int.{to_z-of_z}
 use Rattle.text_scan.specs.Capped.{cap}
 use Rattle.host_io.specs.Channel.{Channel}
 use Rattle.text_scan.specs.Decides.{gained, Decides, Decides-map}
-use Rattle.text_scan.specs.Scan.{block_size}
+use Rattle.text_scan.specs.Near.{is_near as are_near}
 use Rattle.text_scan.specs.Items.{Items, next_word}
 use Rattle.text_scan.specs.Scan.{Scan, TookNumber, TookNumbers, ahead, so_far as scan_so_far, is_reading as is_scanning, is_faulted, fuel}
 use Rattle.lrat_text.specs.declared.reader.ReaderStatus.TheVariants.{Reading}
@@ -187,12 +187,12 @@ module _ {Draft Step : Type 0} (form : Form Draft Step) (law : IsForm form) (num
       ∙ sym (ap (λ is. drafted form is old.draft) (begins.took.gives more)))
       (before_gives form r begins.took.word mid new settles_word begun differs more)
 
-  pub number_spends : length mid.scan.unread ≤ block_size → (more : List ℕ)
+  pub number_spends : (more : List ℕ) → are_near (length more) (ahead mid.scan more) ≡ true
       → Spends r (length more) (wants_ahead form old more) (wants_ahead form new more)
-  number_spends small more = subst (λ w. Spends r (length more) w (wants_ahead form new more))
+  number_spends more near = subst (λ w. Spends r (length more) w (wants_ahead form new more))
       (ap (wants_after form (next_word begins.took.word (ahead mid.scan more))) mid_draft
       ∙ sym (ap (λ is. wants_after form is old.draft) (begins.took.gives more)))
-      (before_spends form r begins.took.word mid new settles_word begun differs small more)
+      (before_spends form r begins.took.word mid new settles_word begun differs more near)
 
   pub number_so_far : (first : ReaderOf Draft) (bytes : List ℕ) → (is_scanning old.scan.status ≡ true → is_scanning first.scan.status ≡ true)
       → (is_scanning old.scan.status ≡ true → (more : List ℕ) → so_far form first (bytes ++ more) ≡ so_far form old more)

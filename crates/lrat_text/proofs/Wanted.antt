@@ -1,57 +1,26 @@
 -- What a reader may want memory for is near, and goes on token by token.
-use Rattle.std.proofs.Common.{◌≡◌, ℕ, ◌+◌, ◌-◌, ◌≤◌, Bool, true, false, ◌||◌, ◌==◌, if◌then◌else◌, List, [], ◌∷◌, ◌++◌, length}
-use Rattle.std.proofs.Common.{length-append, Option, None, Some, Result, Ok, Err, IsTrue, refl, sym, ◌∙◌, ap, subst, arith}
+use Rattle.std.proofs.Common.{◌≡◌, ℕ, ◌+◌, ◌-◌, ◌≤◌, Bool, true, false, ◌||◌, ◌==◌, if◌then◌else◌, List, length}
+use Rattle.std.proofs.Common.{Option, None, Some, Result, Ok, Err, IsTrue, refl, sym, ◌∙◌, ap, subst, arith}
 use Rattle.std.specs.Result.{IsErrAnd}
 use Rattle.std.specs.Prelude.{nat_lt, is_some}
 use Rattle.std.proofs.lemmas.Bool.{and_parts}
 use Rattle.std.proofs.lemmas.Bool.Decides.{nat_tests}
 use Rattle.host_io.specs.Channel.{Channel}
-use Rattle.cnf_base.specs.Text.{Word, is_blank}
-use Rattle.text_scan.specs.declared.scanner.ScanStatus.TheVariants.{Reading as Scanning, Ended as ScanEnded, Overlong, Faulted}
+use Rattle.cnf_base.specs.Text.{Word}
 use Rattle.text_scan.specs.Items.{Items, the_end, too_long, next_word}
-use Rattle.text_scan.specs.Lexer.{Lex, after, word_then, given_at, items_from}
-use Rattle.text_scan.specs.Scan.{Scan, block_size, ahead, ahead_in}
+use Rattle.text_scan.specs.Near.{words_in, is_near as are_near}
+use Rattle.text_scan.specs.Scan.{ahead}
 use Rattle.text_scan.specs.Decides.{Decides, Decides-then}
 use Rattle.lrat_text.specs.declared.error.StepError.{StepError}
 use Rattle.lrat_text.specs.declared.error.StepError.TheVariants.{Syntax, ReadFault, TooLong, OutOfMemory}
 use Rattle.lrat_text.specs.Form.{Form}
-use Rattle.lrat_text.specs.LineReader.{ReaderOf, AnswerOf, with_token, Settles, given, is_under}
+use Rattle.lrat_text.specs.LineSteps.{StepsOf}
+use Rattle.lrat_text.specs.LineReader.{ReaderOf, AnswerOf, with_token, Gives, Settles, given, is_under}
 use Rattle.lrat_text.specs.LineWants.{WantsOf, no_further, for_number, number_then, spelled_then, ended_then, wants_after}
 use Rattle.lrat_text.specs.LineWants.{wants_ahead, numbers_in, is_near, may_want, Spends, Leads}
 use Rattle.lrat_text.proofs.Settled.{same_choice}
 
--- No more numbers are kept than there are tokens, and no more tokens than bytes.
-abbrev words_in : Items → ℕ
-words_in (the_end line) = 0
-words_in (too_long line) = 0
-words_in (next_word word items) = words_in items + 1
-
-word_more : (word : List ℕ) (line : ℕ) (items : Items) → words_in (word_then word line items) ≤ words_in items + 1
-word_more [] line items = omega arith
-word_more (byte ∷ bytes) line items = omega arith
-
-given_more : (lex : Lex) (byte : ℕ) (items : Items) → words_in (given_at lex byte items) ≤ words_in items + 1
-given_more lex byte items = elim (is_blank byte) as (λ b. words_in (if b then word_then lex.word lex.line items else items)
-    ≤ words_in items + 1) [ true ↦ word_more lex.word lex.line items | false ↦ omega arith ]
-
-words_from : (bytes : List ℕ) (lex : Lex) (room : ℕ) → words_in (items_from lex room bytes) ≤ length bytes + 1
-words_from [] lex room = word_more lex.word lex.line (the_end lex.line)
-words_from (byte ∷ bytes) lex room =
-    let rest : Items = items_from (after lex byte) (room - 1) bytes in
-    let later : words_in rest ≤ length bytes + 1 = words_from bytes (after lex byte) (room - 1) in
-    elim (room == 0) as (λ b. words_in (if b then too_long lex.line else given_at lex byte rest) ≤ length (byte ∷ bytes) + 1) [
-      | true ↦ omega arith
-      | false ↦ omega (arith, given_more lex byte rest, later)
-    ]
-
-words_ahead : (scan : Scan) (more : List ℕ) → words_in (ahead scan more) ≤ length (scan.unread ++ more) + 1
-words_ahead scan more = elim scan.status as (λ s. words_in (ahead_in s scan more) ≤ length (scan.unread ++ more) + 1) [
-  | Scanning ↦ words_from (scan.unread ++ more) scan.lex scan.room
-  | ScanEnded ↦ omega arith
-  | Overlong ↦ omega arith
-  | Faulted ↦ words_from (scan.unread ++ more) scan.lex scan.room
-]
-
+-- No more numbers are kept than there are tokens.
 spelled_fewer : {Step : Type 0} (step : Option Step) (wants : WantsOf Step) → numbers_in (spelled_then step wants) ≤ numbers_in wants
 spelled_fewer None wants = omega arith
 spelled_fewer (Some step) wants = omega arith
@@ -86,14 +55,11 @@ module _ {Draft Step : Type 0} (form : Form Draft Step) where
         | false ↦ omega (arith, behind_fewer)
       ]
 
-  pub near_ahead : (scan : Scan) (draft : Draft) (more : List ℕ) → length scan.unread ≤ block_size
-      → is_near (length more) (wants_after form (ahead scan more) draft) ≡ true
-  near_ahead scan draft more small =
-      let count : ℕ = numbers_in (wants_after form (ahead scan more) draft) in
-      let fewer : count ≤ words_in (ahead scan more) = numbers_fewer (ahead scan more) draft in
-      let words : words_in (ahead scan more) ≤ length (scan.unread ++ more) + 1 = words_ahead scan more in
-      let parts : length (scan.unread ++ more) ≡ length scan.unread + length more = length-append scan.unread more in
-      let bound : count ≤ block_size + 1 + length more = omega (arith, fewer, words, parts, small) in
+  pub near_ahead : (items : Items) (draft : Draft) (more : ℕ) → are_near more items ≡ true
+      → is_near more (wants_after form items draft) ≡ true
+  near_ahead items draft more near =
+      let count : ℕ = numbers_in (wants_after form items draft) in
+      let fewer : count ≤ words_in items = numbers_fewer items draft in
       grind (arith, nat_tests)
 
 -- From one moment within a line to a later one.
@@ -151,10 +117,12 @@ module _ {Draft Step : Type 0} (form : Form Draft Step) where
 
   -- at a token of another line
   pub before_spends : (r : AnswerOf Step) (word : Word) (old new : ReaderOf Draft) → Settles form r (form.of_word word) old new → form.is_begun old.draft ≡ true
-      → (form.line old.draft == word.line) ≡ false → length old.scan.unread ≤ block_size
-      → (more : List ℕ) → Spends r (length more) (wants_after form (next_word word (ahead old.scan more)) old.draft) (wants_ahead form new more)
-  before_spends r word old new s begun differs small more =
-      rw (begun, differs) (settled_spends r (form.of_word word) old new s more (near_ahead form old.scan (form.of_word word) more small))
+      → (form.line old.draft == word.line) ≡ false
+      → (more : List ℕ) → are_near (length more) (ahead old.scan more) ≡ true
+      → Spends r (length more) (wants_after form (next_word word (ahead old.scan more)) old.draft) (wants_ahead form new more)
+  before_spends r word old new s begun differs more near =
+      rw (begun, differs) (settled_spends r (form.of_word word) old new s more
+      (near_ahead form (ahead old.scan more) (form.of_word word) (length more) near))
 
 none_near : (Step : Type 0) (more : ℕ) → is_near {Step = Step} more no_further ≡ true
 none_near Step more = grind (arith, nat_tests)
@@ -201,6 +169,11 @@ pub handed_spends : {Step : Type 0} (step : Step) (r : Result (Option ℕ) StepE
     → (more : ℕ) (before after : WantsOf Step) → IsTrue (may_want more before) → Spends (given step r) more before after
 handed_spends step (Ok answer) error is because more before after wants = absurd is
 handed_spends step (Err came) error is because more before after wants = rw (is ∙ because) wants
+
+pub handed_gives : {Step : Type 0} (step : Step) (r : Result (Option ℕ) StepError) (error : StepError) → IsErrAnd r (λ f. f ≡ error)
+    → error ≡ OutOfMemory → (line : ℕ) (before after : StepsOf Step) → Gives (given step r) line before after
+handed_gives step (Ok answer) error is because line before after = absurd is
+handed_gives step (Err came) error is because line before after = rw (is ∙ because) tt
 
 -- Two calls in turn.
 pub led : {Step : Type 0} (r : AnswerOf Step) (more : ℕ) (before middle after : WantsOf Step) → Leads before middle → Spends r more middle after

@@ -174,7 +174,7 @@ impl<F: LineForm> LineReader<F> {
             self.take_numbers();
             match self.number_of_another_line() {
                 Some(number) => {
-                    self.scanner.unread_law();
+                    self.scanner.near_law();
                     return self.give_before_number(number, step);
                 }
                 None => {}
@@ -182,7 +182,7 @@ impl<F: LineForm> LineReader<F> {
             let mut token = Token::blank();
             match self.scanner.next_into(source, &mut token) {
                 Ok(true) => {
-                    self.scanner.unread_law();
+                    self.scanner.near_law();
                     if self.draft.is_begun() && self.draft.line() != token.line() {
                         return self.give_before(&token, step);
                     }
@@ -332,7 +332,7 @@ impl<F: LineForm> LineReader<F> {
     pub fn near_law(&self)
         ensures { (more : List ℕ) → is_near (length more) (wants_ahead F.form self.now more) ≡ true }
     {
-        self.scanner.unread_law();
+        self.scanner.near_law();
     }
 
     // Stops with this error.

@@ -1,5 +1,5 @@
 -- What a run tells behind the sums of the equations, whatever these came to.
-use Rattle.std.proofs.Common.{◌≡◌, ◌⊎◌, ◌∙◌, ◌<◌, ◌≤◌, ◌+◌, ◌*◌, ◌++◌, ℕ, Bool, true, false, List, [], ◌∷◌, length}
+use Rattle.std.proofs.Common.{◌≡◌, ◌⊎◌, ◌∙◌, ◌<◌, ◌≤◌, ◌+◌, ◌*◌, ◌++◌, ℕ, max, Bool, true, false, List, [], ◌∷◌, length}
 use Rattle.std.proofs.Common.{Result, Ok, Err, refl, sym, ap, subst, arith, inl, inr}
 use Rattle.std.specs.Prelude.{IfOk, IsFalse, IsTrue}
 use Rattle.std.specs.List.{list_all}
@@ -58,6 +58,26 @@ origin_kept all old new (Err table.NodeLimit) sums = (sums.keeps nodes_whole).or
 origin_kept all old new (Err table.IdLimit) sums = (sums.keeps ids_whole).origin
 origin_kept all old new (Err table.OutOfMemory) sums = (sums.keeps memory_whole).origin
 origin_kept all old new (Err table.WriteFault) sums = ap (λ b. b.origin) sums.leaves.told.is
+
+-- no number is above the greatest, however the sums end
+module _ {S : Type 0} (old new : Runner S) (result : Result Run RunError)
+    (last : IfOk result (λ run. run.last_id ≤ max (length new.formula.now.clauses) new.limits.max_ids)) where
+  last_kept : Keeps [] old new → IfOk result (λ run. run.last_id ≤ max (length old.formula.now.clauses) old.limits.max_ids)
+  last_kept keeps =
+      subst (λ (limits : Limits). IfOk result (λ run. run.last_id ≤ max (length old.formula.now.clauses) limits.max_ids)) keeps.limits
+      (subst (λ (formula : Formula). IfOk result (λ run. run.last_id ≤ max (length formula.clauses) new.limits.max_ids))
+      (ap (λ f. f.now) keeps.formula) last)
+
+  pub last_within : (tells : Bool) (all : List (List ℕ × Bool)) (mid after : Channel) (moves : List Move) (found : Result Bool TableError)
+      → SumsEnd all old new found → GoesOn tells mid after new moves found result
+      → IfOk result (λ run. run.last_id ≤ max (length old.formula.now.clauses) old.limits.max_ids)
+  last_within tells all mid after moves (Ok refuted) sums goes = last_kept (sums.keeps no_error)
+  last_within tells all mid after moves (Err table.NodeLimit) sums goes = absurd goes
+  last_within tells all mid after moves (Err table.IdLimit) sums goes = last_kept (sums.keeps ids_whole)
+  last_within tells all mid after moves (Err table.OutOfMemory) sums goes = last_kept (sums.keeps memory_whole)
+  last_within tells all mid after moves (Err table.WriteFault) sums goes =
+      subst (λ (r : Result Run RunError). IfOk r (λ run. run.last_id ≤ max (length old.formula.now.clauses) old.limits.max_ids))
+      (sym goes.0) tt
 
 -- another outcome than the limit of nodes
 other_outcome : (P : Type 0) (outcome : Outcome) → (outcome ≡ NodeLimit → ⊥) → (result : Result Run RunError)

@@ -1,5 +1,5 @@
 // What comes behind the sums of the equations.
-ghost use Rattle.std.specs.Prelude.{◌≡◌, ◌≢◌, [], Err, IsTrue, false, length};
+ghost use Rattle.std.specs.Prelude.{◌≡◌, ◌≢◌, ◌≤◌, [], Err, IfOk, IsTrue, false, length, max};
 ghost use Rattle.node_table.specs.declared.error.TableError.TheVariants.{NodeLimit, WriteFault};
 ghost use Rattle.schedule_plan.specs.Plan.{IsAdmissible};
 ghost use Rattle.term_runner.specs.Runner.{IsRunner};
@@ -8,13 +8,14 @@ ghost use Rattle.parity_runs.specs.Behind.{GoesOn, IsClosed, RunsPlan};
 use host_io::Sink;
 use node_table::TableError;
 use schedule_plan::Plan;
-use term_runner::{Outcome, Run, RunError, Runner};
+use term_runner::{Outcome, Run, RunError, Runner, Watch, run};
 
 /// Runs the plan, unless the sums ended the run. The limit of numbers is told at once, where the empty clause didn't come.
 pub(crate) fn go_on<S: Sink + Drop>(
     runner: Runner<'_, S>,
     plan: &Plan,
     found: Result<bool, TableError>,
+    watch: &mut Watch<'_>,
 ) -> (S, Result<Run, RunError>)
     requires runner { found ≢ Err WriteFault → IsRunner runner }
     requires none_out { found ≢ Err WriteFault → length runner.terms.out.items ≡ 0 }
@@ -22,12 +23,15 @@ pub(crate) fn go_on<S: Sink + Drop>(
     requires plan { found ≢ Err WriteFault → IsAdmissible runner.formula.now plan.now }
     requires fresh { IsTrue S.tells → (S.channel runner.terms.table.book.origin).written ≡ [] }
     requires beside { S.beside runner.terms.table.book.sink ≡ S.beside runner.terms.table.book.origin }
+    requires begun { watch.old.moves ≡ 0 }
     ensures goes { GoesOn S.tells (S.channel runner.entry.terms.table.book.sink) (S.channel result.0) runner.entry plan.now found result.1 }
+    ensures last { IfOk result.1 (λ run. run.last_id ≤ max (length runner.entry.formula.now.clauses) runner.entry.limits.max_ids) }
+    ensures counted { watch.new.moves ≤ length plan.now }
     ensures beside { S.beside result.0 ≡ S.beside runner.entry.terms.table.book.origin }
 {
     match found {
-        Ok(_) => runner.run(plan),
-        Err(TableError::IdLimit) => at_limit(runner, plan),
+        Ok(_) => run(runner, plan, watch),
+        Err(TableError::IdLimit) => at_limit(runner, plan, watch),
         Err(TableError::NodeLimit) => unreachable!(),
         Err(TableError::OutOfMemory) => (runner.into_sink(), Err(RunError::OutOfMemory)),
         Err(TableError::WriteFault) => (runner.into_sink(), Err(RunError::WriteFault)),
@@ -35,20 +39,27 @@ pub(crate) fn go_on<S: Sink + Drop>(
 }
 
 // Tells the limit of numbers, where the empty clause didn't come.
-fn at_limit<S: Sink + Drop>(runner: Runner<'_, S>, plan: &Plan) -> (S, Result<Run, RunError>)
+fn at_limit<S: Sink + Drop>(
+    runner: Runner<'_, S>,
+    plan: &Plan,
+    watch: &mut Watch<'_>,
+) -> (S, Result<Run, RunError>)
     requires runner { IsRunner runner }
     requires none_out { length runner.terms.out.items ≡ 0 }
     requires plan { IsAdmissible runner.formula.now plan.now }
     requires fresh { IsTrue S.tells → (S.channel runner.terms.table.book.origin).written ≡ [] }
     requires beside { S.beside runner.terms.table.book.sink ≡ S.beside runner.terms.table.book.origin }
+    requires begun { watch.old.moves ≡ 0 }
     ensures refuted { IsTrue runner.entry.refuted
         → RunsPlan S.tells (S.channel runner.entry.terms.table.book.sink) (S.channel result.0) runner.entry plan.now result.1 }
     ensures closed { runner.entry.refuted ≡ false
         → IsClosed S.tells (S.channel runner.entry.terms.table.book.sink) (S.channel result.0) runner.entry result.1 }
+    ensures last { IfOk result.1 (λ run. run.last_id ≤ max (length runner.entry.formula.now.clauses) runner.entry.limits.max_ids) }
+    ensures counted { watch.new.moves ≤ length plan.now }
     ensures beside { S.beside result.0 ≡ S.beside runner.entry.terms.table.book.origin }
 {
     if runner.is_refuted() {
-        return runner.run(plan);
+        return run(runner, plan, watch);
     }
     let last_id = runner.table().ledger().last_id();
     let mut sink = runner.into_sink();

@@ -3,5 +3,7 @@
 
 mod behind;
 mod run;
+mod trial;
 
 pub use run::run_with_parity;
+pub use trial::try_with_parity;

@@ -1,5 +1,5 @@
 -- What a search finds: an order of the diagrams, and the bucket plan of an order.
-use Rattle.std.specs.Prelude.{◌≡◌, ℕ, List, length, min, ◌+◌}
+use Rattle.std.specs.Prelude.{◌≡◌, ℕ, List, Option, None, Some, length, min, ◌+◌}
 use Rattle.cnf_base.specs.Formula.{Formula}
 use Rattle.cnf_base.specs.Order.{IsOrder}
 use Rattle.schedule_plan.specs.Bucket.{bucket}
@@ -14,6 +14,11 @@ pub record IsBucketPlan (problem : Formula) (plan : List Move) : Type 0 where
   pub variables : length elimination ≡ problem.vars
   pub moves : plan ≡ bucket problem elimination
   pub admissible : IsAdmissible problem plan
+
+-- the moves are the bucket plan over this order, which is made
+abbrev pub IsPlanBy : Formula → Option (List ℕ) → List Move → Type 0
+IsPlanBy problem None plan = ⊥
+IsPlanBy problem (Some elimination) plan = plan ≡ bucket problem elimination
 
 -- The order has the formula's variables, and the moves are a bucket plan.
 pub record IsFound (problem : Formula) (order : List ℕ) (moves : List Move) : Type 0 where

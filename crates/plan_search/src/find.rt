@@ -2,6 +2,7 @@
 ghost use Rattle.std.specs.Prelude.{◌≡◌, length, IfOk, IfSome};
 ghost use Rattle.schedule_plan.specs.Limits.{AreLimits};
 ghost use Rattle.plan_search.specs.Found.{IsBucketPlan, IsFound};
+ghost use Rattle.plan_search.specs.Orders.{IsMade, MakesMore};
 
 use crate::candidates::{Candidates, NATURAL, Next, Pair};
 use crate::estimate::estimate;
@@ -24,7 +25,7 @@ pub struct FoundPlan {
     pub plan: Plan,
 }
 
-/// Looks for a plan that decides a formula soon. `natural` is the order of the variables that is tried beside those that are
+/// Looks for a plan that decides a formula soon, behind the sums of its parity equations where these are added up. `natural` is the order of the variables that is tried beside those that are
 /// found. Where no trial decides the formula within the limits, the plan is the one that is estimated to need the fewest clause
 /// numbers. Where there is no memory for other orders or for trials, it is the one over `natural`; so want of memory is only
 /// answered where there is none for that. The observer is told of each trial that came to an end, and of the pair.
@@ -33,6 +34,7 @@ pub fn find_plan<O: Observer>(
     formula: &Cnf,
     natural: Order,
     limits: Limits,
+    parity: bool,
     observer: &mut O,
 ) -> Result<FoundPlan, OutOfMemory>
     requires order { length natural ≡ formula.now.vars }
@@ -41,7 +43,7 @@ pub fn find_plan<O: Observer>(
     ensures beside { O.beside observer.new ≡ O.beside observer.old }
 {
     let mut orders = Orders::new(formula.vars(), natural);
-    let answer = search(alloc, formula, limits, &mut orders, observer);
+    let answer = search(alloc, formula, limits, parity, &mut orders, observer);
     observer.found(answer.pair);
     let (kind, plan) = settled(alloc, formula, &mut orders, answer)?;
     let order = orders.into_order(kind);
@@ -55,17 +57,20 @@ struct Answer {
     plan: Option<Plan>,
 }
 
+#[tactic(auto, using(crate::proofs::More::more_none, crate::proofs::More::more_then))]
 fn search<O: Observer>(
     alloc: Global,
     formula: &Cnf,
     limits: Limits,
+    parity: bool,
     orders: &mut Orders,
     observer: &mut O,
 ) -> Answer
     requires limits { AreLimits limits }
-    requires orders { orders.old ≡ formula.now.vars }
+    requires orders { orders.old.vars ≡ formula.now.vars }
     ensures plan { IfSome result.plan (IsBucketPlan formula.now) }
-    ensures same { orders.new ≡ orders.old }
+    ensures made { IfSome result.plan (λ _. IsMade result.pair.diagrams orders.new) }
+    ensures more { MakesMore orders.old orders.new }
     ensures beside { O.beside observer.new ≡ O.beside observer.old }
 {
     // With no memory for the hypergraph no other order can be made.
@@ -85,6 +90,7 @@ fn search<O: Observer>(
             alloc,
             formula,
             limits,
+            parity,
             orders,
             &mut candidates,
             &next,
@@ -107,18 +113,20 @@ fn tried<O: Observer>(
     alloc: Global,
     formula: &Cnf,
     limits: Limits,
+    parity: bool,
     orders: &mut Orders,
     candidates: &mut Candidates,
     next: &Next,
     observer: &mut O,
 ) -> Option<Plan>
     requires limits { AreLimits limits }
-    requires orders { orders.old ≡ formula.now.vars }
+    requires orders { orders.old.vars ≡ formula.now.vars }
     ensures plan { IfSome result (IsBucketPlan formula.now) }
-    ensures same { orders.new ≡ orders.old }
+    ensures made { IfSome result (λ _. IsMade next.now.pair.diagrams orders.new) }
+    ensures more { MakesMore orders.old orders.new }
     ensures beside { O.beside observer.new ≡ O.beside observer.old }
 {
-    let Ok(tried) = attempt(alloc, formula, limits, orders, next) else {
+    let Ok(tried) = attempt(alloc, formula, limits, parity, orders, next) else {
         candidates.take_out(next, u64::MAX);
         return None;
     };
@@ -144,16 +152,19 @@ fn tried<O: Observer>(
 }
 
 // The plan of the answer with the kind of its order of the diagrams; the plan over the given order where there is no memory.
+#[tactic(auto, using(crate::proofs::More::more_none, crate::proofs::More::more_then))]
 fn settled(
     alloc: Global,
     formula: &Cnf,
     orders: &mut Orders,
     answer: Answer,
 ) -> Result<(Kind, Plan), OutOfMemory>
-    requires orders { orders.old ≡ formula.now.vars }
+    requires orders { orders.old.vars ≡ formula.now.vars }
     requires plan { IfSome answer.plan (IsBucketPlan formula.now) }
+    requires made { IfSome answer.plan (λ _. IsMade answer.pair.diagrams orders.old) }
     ensures plan { IfOk result (λ found. IsBucketPlan formula.now found.1) }
-    ensures same { orders.new ≡ orders.old }
+    ensures made { IfOk result (λ found. IsMade found.0 orders.new) }
+    ensures more { MakesMore orders.old orders.new }
 {
     let Answer { pair, plan } = answer;
     if let Some(plan) = plan {

@@ -53,6 +53,14 @@ trims_by (Err ReadFault) verdict clauses cut text steps count is cut_is answers 
 trims_by (Err TooLong) verdict clauses cut text steps count is cut_is answers = absurd answers
 trims_by (Err OutOfMemory) verdict clauses cut text steps count is cut_is answers = tt
 
+-- memory is wanted only for a verified text
+pub wanted_verified : (result : Result Trimmed CheckError) (verdict : Verdict) (clauses : ℕ) (cut : CutProof)
+    → AnswersBy clauses cut verdict result → result ≡ Err OutOfMemory → verdict ≡ Verified
+wanted_verified (Ok trimmed) verdict clauses cut answers e = cc
+wanted_verified (Err ReadFault) verdict clauses cut answers e = absurd answers
+wanted_verified (Err TooLong) verdict clauses cut answers e = absurd answers
+wanted_verified (Err OutOfMemory) verdict clauses cut answers e = answers
+
 -- no verdict is told as a failed read
 pub no_fault : (result : Result Trimmed CheckError) (verdict : Verdict) (clauses : ℕ) (cut : CutProof) → AnswersBy clauses cut verdict
     result

@@ -1,11 +1,15 @@
 -- What the answer of trimming says of the text that was read.
-use Rattle.std.specs.Prelude.{◌≡◌, ℕ, ◌+◌, ℤ, Bool, List, [], ◌++◌, reverse, Option, None, Some, Result, Ok, Err, ⊤}
+use Rattle.std.specs.Prelude.{◌≡◌, ◌⊎◌, ℕ, ◌+◌, ℤ, Bool, List, [], ◌++◌, length, reverse, Option, None, Some, Result, Ok, Err, ⊤, IsTrue}
 use Rattle.cnf_base.specs.declared.step.Step.{Step}
 use Rattle.cnf_base.specs.declared.step.Step.TheVariants.{Add, Delete}
+use Rattle.host_io.specs.Channel.{Channel}
+use Rattle.text_scan.specs.Decides.{Decides}
 use Rattle.lrat_rules.specs.State.{State, start}
 use Rattle.lrat_text.specs.Steps.{steps}
 use Rattle.cnf_base.specs.Limits.{max_bytes}
 use Rattle.lrat_checker.specs.declared.uses.Uses.{Uses}
+use Rattle.lrat_checker.specs.Memory.{check_may_want_memory}
+use Rattle.lrat_checker.specs.TextVerdict.{text_verdict}
 use Rattle.lrat_checker.specs.Cuts.{cut_by}
 use Rattle.lrat_checker.specs.declared.verdict.Verdict.{Verdict}
 use Rattle.lrat_checker.specs.declared.verdict.Verdict.TheVariants.{Verified, Refused}
@@ -29,6 +33,13 @@ Trims (Ok (IsRefused line reason)) verdict trimmed numbers count = verdict ≡ S
 Trims (Err TooLong) verdict trimmed numbers count = verdict ≡ None
 Trims (Err ReadFault) verdict trimmed numbers count = ⊤
 Trims (Err OutOfMemory) verdict trimmed numbers count = ⊤
+
+-- What memory was wanted for, by the bytes that were taken: before the first one; to judge the text, where `check` may want it; or, behind
+-- the verdict on a text that is verified, to keep what its refutation needs.
+abbrev pub WantsMemory : List (List ℤ) → Channel → Channel → Type 0
+WantsMemory clauses old new = (new ≡ old)
+    ⊎ (Decides old new (λ bytes more. IsTrue (check_may_want_memory clauses (length more) bytes))
+    ⊎ Decides old new (λ bytes more. text_verdict clauses bytes ≡ Some Verified))
 
 -- what was cut so far, with one good step more; behind the end it is only counted
 abbrev pub with_step : Bool → State → Step → CutProof → CutProof
@@ -55,11 +66,11 @@ IsOfSteps count cut text core kept = (steps : List Step) → cut.steps ≡ pile_
     → (text ≡ text_of (trimmed_of count steps)) × (core ≡ core_text (core_of count (trimmed_of count steps)))
     × (kept ≡ additions (trimmed_of count steps))
 
--- The answer for a proof that was read to its end, by the verdict on it and what was cut of it.
+-- The answer for a proof that was read to its end, by the verdict on it and what was cut of it. Memory is wanted only for a verified one.
 abbrev pub AnswersBy : ℕ → CutProof → Verdict → Result Trimmed CheckError → Type 0
 AnswersBy count cut verdict (Ok (Steps steps core kept total)) =
     (verdict ≡ Verified) × IsOfSteps count cut steps core kept × (total ≡ cut.total)
 AnswersBy count cut verdict (Ok (IsRefused line reason)) = verdict ≡ Refused line reason
-AnswersBy count cut verdict (Err OutOfMemory) = ⊤
+AnswersBy count cut verdict (Err OutOfMemory) = verdict ≡ Verified
 AnswersBy count cut verdict (Err ReadFault) = ⊥
 AnswersBy count cut verdict (Err TooLong) = ⊥

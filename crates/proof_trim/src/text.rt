@@ -1,15 +1,17 @@
 // Trimming a proof text: a reader gives its steps in turn, a judge takes them, and they are cut; at the end of a verified text what
 // the refutation needs is kept.
-ghost use Rattle.std.specs.Prelude.{◌≡◌, ◌≢◌, false, [], length, reverse, None, Err, Ok, IsTrue};
+ghost use Rattle.std.specs.Prelude.{◌≡◌, ◌≢◌, ◌⊎◌, false, [], length, reverse, None, Err, Ok, IsTrue};
 ghost use Rattle.host_io.specs.Channel.{Rose};
 ghost use Rattle.text_scan.specs.Decides.{gained, Decides, OnlyReads};
 ghost use Rattle.lrat_text.specs.declared.reader.ReaderStatus.TheVariants.{Reading};
 ghost use Rattle.lrat_text.specs.Reader.{steps_ahead, so_far};
+ghost use Rattle.lrat_text.specs.Wants.{wants_ahead};
 ghost use Rattle.lrat_checker.specs.declared.verdict.Verdict.TheVariants.{Verified};
-ghost use Rattle.lrat_checker.specs.declared.verdict.CheckError.TheVariants.{ReadFault};
+ghost use Rattle.lrat_checker.specs.declared.verdict.CheckError.TheVariants.{ReadFault, OutOfMemory};
+ghost use Rattle.lrat_checker.specs.Memory.{reading_may_want_memory, check_may_want_memory};
 ghost use Rattle.lrat_checker.specs.TextVerdict.{steps_verdict, text_verdict, verdict_so_far, Answers};
 ghost use Rattle.proof_trim.specs.Trimmed.{additions_ahead, additions_of_text, cut_steps, trimmed};
-ghost use Rattle.proof_trim.specs.Answer.{AnswersBy, Trims, cut_of_text};
+ghost use Rattle.proof_trim.specs.Answer.{AnswersBy, Trims, WantsMemory, cut_of_text};
 ghost use Rattle.proof_trim.specs.Core.{core};
 ghost use Rattle.proof_trim.specs.Sweep.{pile_of};
 
@@ -57,6 +59,10 @@ pub fn trim<S: Source>(alloc: Global, formula: &Cnf, source: &mut S) -> Result<T
     ensures fault { result ≡ Err ReadFault → Rose (S.channel source.old).faults (S.channel source.new).faults }
     // no failed read is told as anything else
     ensures unfailed { result ≢ Err ReadFault → (S.channel source.new).faults ≡ (S.channel source.old).faults }
+    // memory is wanted only before the first byte is taken, or where `check` may want it, or behind the verdict on a verified text
+    ensures memory { IsTrue S.tells → result ≡ Err OutOfMemory → WantsMemory formula.now.clauses (S.channel source.old)
+        (S.channel source.new) }
+
     ensures reads { OnlyReads (S.channel source.old) (S.channel source.new) }
     ensures beside { S.beside source.new ≡ S.beside source.old }
 {
@@ -83,6 +89,9 @@ fn cut_text<S: Source>(
         verdict_so_far formula.now.clauses (gained (S.channel source.old) (S.channel source.new)) ≡ None }
     ensures fault { result ≡ Err ReadFault → Rose (S.channel source.old).faults (S.channel source.new).faults }
     ensures unfailed { result ≢ Err ReadFault → (S.channel source.new).faults ≡ (S.channel source.old).faults }
+    ensures memory { IsTrue S.tells → result ≡ Err OutOfMemory → (S.channel source.new ≡ S.channel source.old)
+        ⊎ Decides (S.channel source.old) (S.channel source.new)
+        (λ bytes more. IsTrue (check_may_want_memory formula.now.clauses (length more) bytes)) }
     ensures reads { OnlyReads (S.channel source.old) (S.channel source.new) }
     ensures beside { S.beside source.new ≡ S.beside source.old }
 {
@@ -126,6 +135,8 @@ fn cut_proof<S: Source>(
         }) }
     ensures undecided { IsTrue S.tells → result ≡ Err ReadFault →
         steps_verdict judge.old false (so_far reader.old (gained (S.channel source.old) (S.channel source.new))) ≡ None }
+    ensures wants { IsTrue S.tells → result ≡ Err OutOfMemory → Decides (S.channel source.old) (S.channel source.new)
+        (λ bytes more. IsTrue (reading_may_want_memory (length more) judge.old (wants_ahead reader.old bytes))) }
     ensures fault { result ≡ Err ReadFault → Rose (S.channel source.old).faults (S.channel source.new).faults }
     ensures unfailed { result ≢ Err ReadFault → (S.channel source.new).faults ≡ (S.channel source.old).faults }
     ensures reads { OnlyReads (S.channel source.old) (S.channel source.new) }
@@ -134,10 +145,13 @@ fn cut_proof<S: Source>(
     let mut has_empty = false;
     'steps: loop {
         match reader.next_into(source, step) {
-            Ok(Some(line)) => match take_step(judge, step, has_empty, uses, live, cut)? {
-                Some(reason) => return Ok(Verdict::Refused { line, reason }),
-                None => has_empty = or_adds_empty(has_empty, step),
-            },
+            Ok(Some(line)) => {
+                reader.near_law();
+                match take_step(judge, step, has_empty, uses, live, cut)? {
+                    Some(reason) => return Ok(Verdict::Refused { line, reason }),
+                    None => has_empty = or_adds_empty(has_empty, step),
+                }
+            }
             Ok(None) => return Ok(verdict_at_end(has_empty, reader.line())),
             Err(error) => return answer_to(error),
         }

@@ -63,7 +63,7 @@ module _ {S : Type 0} (law : StepByStep S) (laws : Cofactors) (growth : Growth) 
   -- no level of the set stands at the node or behind it
   pub answered_itself : drop at before.set.now ≡ [] → IsAnswer quantifying_set old before question old before (Ok (Give question.0))
   answered_itself none =
-      ends_later laws growth old before question.0 can.stands own question.1 at is before.set.now later old before (Ok question.0)
+      ends_later laws growth old can.sound.tied.reduced before question.0 can.stands own question.1 at is before.set.now later old before (Ok question.0)
       (ends_found law old before question.0 can at question.0
       (subst (λ (s : List ℕ). SetQuantified old.graph question.0 s question.0) (sym none) (by_none old.graph question.0 can.stands))
       before.found.now can.right)
@@ -74,7 +74,7 @@ module _ {S : Type 0} (law : StepByStep S) (laws : Cofactors) (growth : Growth) 
       → IsAnswer quantifying_set old before question old (with_found before found) (Ok (Give w))
   answered_found found w same there =
       let right = right_same old.graph before.set.now before.found.now found same can.right in
-      ends_later laws growth old before question.0 can.stands own question.1 at is before.set.now later old
+      ends_later laws growth old can.sound.tied.reduced before question.0 can.stands own question.1 at is before.set.now later old
       (with_found before found) (Ok w)
       (ends_found law old before question.0 can at w (right question.0 at w there).1 found right)
 
@@ -92,7 +92,7 @@ module _ {S : Type 0} (law : StepByStep S) (laws : Cofactors) (growth : Growth) 
         set_opened law laws growth parts keeping old before p can_node sides
             (QuantifiesSet before.set.now old before question.0 question.1)
             (λ new after result ends. subst (λ (n : Node). QuantifiesSet before.set.now old before n question.1 new after result) asked.0
-            (ends_later laws growth old before p.node can_node.stands own question.1 p.place level before.set.now place new after result
+            (ends_later laws growth old can.sound.tied.reduced before p.node can_node.stands own question.1 p.place level before.set.now place new after result
             ends)),
       )
 

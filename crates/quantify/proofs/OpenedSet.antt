@@ -5,7 +5,7 @@ use Rattle.std.specs.Prelude.{IfOk}
 use Rattle.node_table.specs.declared.error.TableError.{TableError}
 use Rattle.node_table.specs.declared.error.TableError.TheVariants.{OutOfMemory}
 use Rattle.node_table.specs.declared.node.Node.{Node}
-use Rattle.node_table.specs.Diagram.{KeepsNodes, is_node, level_of, levels}
+use Rattle.node_table.specs.Diagram.{IsReduced, KeepsNodes, is_node, level_of, levels}
 use Rattle.node_table.specs.HandedOn.{no_error}
 use Rattle.node_table.specs.Laws.{Cofactors, Growth, StepByStep, Subfunctions}
 use Rattle.node_table.specs.Table.{TableState, IsSound, UnlessTorn}
@@ -23,7 +23,7 @@ use Rattle.quantify.specs.SomeValues.{AreLevels, AreRising, IsFromPlace, SetQuan
 use Rattle.quantify.proofs.Lists.{remembers_all}
 use Rattle.quantify.proofs.Running.{Answer}
 use Rattle.quantify.proofs.RunningFor.{for_further, for_kind, for_none, for_refused, function_kept}
-use Rattle.quantify.proofs.SetQuantifications.{high_places, high_side_below, low_places, low_side_below, quantified_later, set_kept}
+use Rattle.quantify.proofs.SetQuantifications.{function_from, high_places, high_side_below, low_places, low_side_below, quantified_later, set_kept}
 use Rattle.quantify.proofs.SetQuantifications.{sides_kept}
 use Rattle.quantify.proofs.SomeValues.{part_later}
 
@@ -46,14 +46,15 @@ same_set before after lent = λ i. (lent.set i).now
 
 module _ {S : Type 0} where
   -- a call for the levels from that of its node on is one for those from an earlier place on
-  pub ends_later : Cofactors → Growth → (old : TableState S) (before : SetCaches) (u : Node) → is_node old.graph u ≡ true
+  pub ends_later : Cofactors → Growth → (old : TableState S) → IsReduced old.graph → (before : SetCaches) (u : Node) → is_node old.graph u ≡ true
       → (own place at : ℕ) → own ≡ level_of old.graph u → (set : List ℕ) → drop at set ≡ from_level own (drop place set)
       → (new : TableState S) (after : SetCaches) (result : Answer)
       → QuantifiesSet set old before u at new after result → QuantifiesSet set old before u place new after result
-  ends_later laws growth old before u stands own place at is set later new after result ends = record {
+  ends_later laws growth old reduced before u stands own place at is set later new after result ends = record {
     runs = for_kind old (disjunctions before.ors.now) (IsFromPlace (function_of old.graph u) (drop place set)) new
         (disjunctions after.ors.now) result (IsFromPlace (function_of old.graph u) (drop at set))
         (λ part one. part_later own (drop place set) (function_of old.graph u) part
+        (function_from laws old.graph reduced own u stands (omega (arith, is)))
         (subst (λ (s : List ℕ). IsFromPlace (function_of old.graph u) s part) later one)) ends.runs;
     remembers = ends.remembers;
     right = ends.right;

@@ -19,7 +19,7 @@ use Rattle.quantify.proofs.RunningFor.{function_kept}
 use Rattle.quantify.proofs.SomeValues.{IsFrom, part_chosen, part_fixed, some_from, some_later, some_sides}
 
 module _ (laws : Cofactors) (graph : Graph) (reduced : IsReduced graph) where
-  function_from : (own : ℕ) (u : Node) → is_node graph u ≡ true → own ≤ level_of graph u → IsFrom own (function_of graph u)
+  pub function_from : (own : ℕ) (u : Node) → is_node graph u ≡ true → own ≤ level_of graph u → IsFrom own (function_of graph u)
   function_from own u stands not_above a b same = laws.below graph reduced a b u stands
       (λ i later. same i (omega (arith, later, not_above)))
 
@@ -98,7 +98,7 @@ module _ (laws : Cofactors) (graph : Graph) (reduced : IsReduced graph) where
         → IsFromPlace (function_of graph p.node) (drop p.place set) part
     high_places parts part is = subst (λ (s : List ℕ). IsFromPlace (function_of graph p.node) s part) (sym sides.next)
         (part_chosen p.chosen p.own (drop p.next set) (function_of graph p.node) part
-        (part_fixed parts (p.own + 1) (levels graph) (drop p.next set) sides.later (function_of graph p.node) (function_of graph p.high)
+        (part_fixed (p.own + 1) (levels graph) (drop p.next set) sides.later (function_of graph p.node) (function_of graph p.high)
         (λ i. true) (λ a. ap (value_of graph a) sides.high
         ∙ parts.high_value graph reduced p.own p.node sides.stands (omega (arith, sides.own)) sides.within a) part is))
 
@@ -106,7 +106,7 @@ module _ (laws : Cofactors) (graph : Graph) (reduced : IsReduced graph) where
         → IsFromPlace (function_of graph p.node) (drop p.place set) part
     low_places parts part is = subst (λ (s : List ℕ). IsFromPlace (function_of graph p.node) s part) (sym sides.next)
         (part_chosen p.chosen p.own (drop p.next set) (function_of graph p.node) part
-        (part_fixed parts (p.own + 1) (levels graph) (drop p.next set) sides.later (function_of graph p.node) (function_of graph p.low)
+        (part_fixed (p.own + 1) (levels graph) (drop p.next set) sides.later (function_of graph p.node) (function_of graph p.low)
         (λ i. false) (λ a. ap (value_of graph a) sides.low
         ∙ parts.low_value graph reduced p.own p.node sides.stands (omega (arith, sides.own)) sides.within a) part is))
 

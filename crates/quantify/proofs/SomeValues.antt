@@ -1,10 +1,9 @@
 -- The quantification by a set of levels, of any function: on what it doesn't depend, by the sides of an earlier level, and what
 -- fixing earlier levels makes of it.
-use Rattle.std.proofs.Common.{◌≡◌, ◌∙◌, ◌+◌, ◌<◌, ◌≤◌, ◌||◌, ◌==◌, ℕ, zero, suc, Bool, true, false, List, [], ◌∷◌, refl, sym, ap, arith}
-use Rattle.std.proofs.Common.{drop, length, nat_lt}
+use Rattle.std.proofs.Common.{◌≡◌, ◌∙◌, ◌+◌, ◌<◌, ◌≤◌, ◌||◌, ◌==◌, ℕ, zero, suc, max, Bool, true, false, List, [], ◌∷◌, refl, sym, ap, arith}
+use Rattle.std.proofs.Common.{drop, length, nat_lt, take, Contains, subst, inl, inr}
 use Rattle.std.specs.Prelude.{if◌then◌else◌}
-use Rattle.std.proofs.lemmas.Bool.{ltb-false, ltb-true}
-use Rattle.node_table.specs.Laws.{Subfunctions}
+use Rattle.std.proofs.lemmas.Bool.{cases_lt, le-ltb, lt-ltb, ltb-false, ltb-true}
 use Rattle.node_table.specs.Value.{Levels, IsSubfunction, fixed_to}
 use Rattle.operations.specs.Results.{with_level}
 use Rattle.quantify.specs.SetQuantification.{from_level}
@@ -121,40 +120,117 @@ first_later own (x ∷ xs) level more is =
       | false ↦ λ before rest. let same : x ≡ level = cc in omega (arith, ltb-false x own before, same)
     ] refl is
 
--- the parts of a function from the places of more levels
-pub part_next : (level : ℕ) (more : List ℕ) (f part : Levels → Bool) → IsFromPlace f more part → IsFromPlace f (level ∷ more) part
-part_next level more f part is = record { place = suc is.place; within = omega (arith, is.within); is_part = is.is_part }
+-- a part from some place on, with so many first levels fixed at least
+abbrev pub IsFromFixed : (Levels → Bool) → List ℕ → (Levels → Bool) → ℕ → Type 0
+IsFromFixed f set part count = (is : IsFromPlace f set part) × (count ≤ is.is_part.level)
 
-pub part_later : (own : ℕ) (set : List ℕ) (f part : Levels → Bool) → IsFromPlace f (from_level own set) part → IsFromPlace f set part
-part_later own [] f part is = is
-part_later own (level ∷ more) f part is =
-    elim (nat_lt level own) as (λ b. IsFromPlace f (if b then from_level own more else (level ∷ more)) part
-    → IsFromPlace f (level ∷ more) part) [
-      | true ↦ λ has. part_next level more f part (part_later own more f part has)
-      | false ↦ λ has. has
-    ] is
-
--- where the set has a level more, or none more
-pub part_chosen : (chosen : Bool) (level : ℕ) (more : List ℕ) (f part : Levels → Bool) → IsFromPlace f more part
-    → IsFromPlace f (if chosen then (level ∷ more) else more) part
-part_chosen true level more f part is = part_next level more f part is
-part_chosen false level more f part is = is
-
--- the parts of a function with levels before the set fixed are those of the function
-pub part_fixed : Subfunctions → (count bound : ℕ) (set : List ℕ) → AreRising count bound set → (f g : Levels → Bool) (fixed : Levels)
-    → ((a : Levels) → g a ≡ f (fixed_to count fixed a)) → (part : Levels → Bool) → IsFromPlace g set part → IsFromPlace f set part
-part_fixed parts count bound set rising f g fixed same part is = record {
-  place = is.place;
-  within = is.within;
-  is_part = parts.further (some_values (drop is.place set) f) (some_values (drop is.place set) g) part (record {
-    level = count;
-    fixed = fixed;
-    same = λ a. (λ k. some_same (drop is.place set) g (λ b. f (fixed_to count fixed b)) same k a)
-        ∙ some_fixed count bound (drop is.place set) (rising_drop count bound set is.place rising) f fixed a;
-  }) is.is_part;
+-- the parts of a function from the places of more levels, where the one before them is fixed
+pub part_next : (level : ℕ) (more : List ℕ) (f part : Levels → Bool) (is : IsFromPlace f more part) → level < is.is_part.level
+    → IsFromPlace f (level ∷ more) part
+part_next level more f part is fixed = record {
+  place = suc is.place;
+  within = omega (arith, is.within);
+  is_part = is.is_part;
+  behind = front;
 }
+  where
+    front : (other : ℕ) → Contains (level ∷ take is.place more) other → other < is.is_part.level
+    front other (zero, small, at) = subst (λ (n : ℕ). n < is.is_part.level) at fixed
+    front other (suc k, small, at) = is.behind other (k, omega (arith, small), at)
+
+-- a level behind those that are fixed has its own value
+behind_fixed : (count : ℕ) (fixed a : Levels) (i : ℕ) → count ≤ i → fixed_to count fixed a i ≡ a i
+behind_fixed count fixed a i later = ap (λ (b : Bool). if b then fixed i else a i) (le-ltb i count later)
+
+-- where the function doesn't depend on the levels before this one, these may be fixed too
+pub part_raised : (own : ℕ) (set : List ℕ) (f part : Levels → Bool) → IsFrom own f → IsFromPlace f set part → IsFromFixed f set part own
+part_raised own set f part from is = elim (cases_lt is.is_part.level own) [
+  | inr fixed ↦ (is, fixed)
+  | inl few ↦ (
+    record {
+      place = is.place;
+      within = is.within;
+      is_part = record {
+        level = own;
+        fixed = is.is_part.fixed;
+        same = λ a. is.is_part.same a ∙ some_from (drop is.place set) f own from (fixed_to is.is_part.level is.is_part.fixed a)
+            (fixed_to own is.is_part.fixed a)
+            (λ i later. behind_fixed is.is_part.level is.is_part.fixed a i (omega (arith, few, later))
+            ∙ sym (behind_fixed own is.is_part.fixed a i later));
+      };
+      behind = λ level there. let before = is.behind level there in omega (arith, before, few);
+    },
+    omega arith,
+  )
+]
+
+part_later_fixed : (own : ℕ) (set : List ℕ) (f part : Levels → Bool) → IsFromFixed f (from_level own set) part own
+    → IsFromFixed f set part own
+unfolding part_next
+part_later_fixed own [] f part is = is
+part_later_fixed own (level ∷ more) f part is =
+    elim (nat_lt level own) as (λ b. nat_lt level own ≡ b → IsFromFixed f (if b then from_level own more else (level ∷ more)) part own
+    → IsFromFixed f (level ∷ more) part own) [
+      | true ↦ λ before has.
+          let rest = part_later_fixed own more f part has in
+          (part_next level more f part rest.0 (omega (arith, ltb-true level own before, rest.1)), rest.1)
+      | false ↦ λ before has. has
+    ] refl is
+
+pub part_later : (own : ℕ) (set : List ℕ) (f part : Levels → Bool) → IsFrom own f → IsFromPlace f (from_level own set) part
+    → IsFromPlace f set part
+part_later own set f part from is = (part_later_fixed own set f part (part_raised own (from_level own set) f part from is)).0
+
+-- where the set has a level more, which is fixed, or none more
+pub part_chosen : (chosen : Bool) (level : ℕ) (more : List ℕ) (f part : Levels → Bool) → IsFromFixed f more part (level + 1)
+    → IsFromPlace f (if chosen then (level ∷ more) else more) part
+part_chosen true level more f part is = part_next level more f part is.0 (omega (arith, is.1))
+part_chosen false level more f part is = is.0
+
+-- levels fixed by one list of values, and then by another
+chosen_twice : (p q r x y z : Bool) → (p ≡ true → r ≡ true) → (p ≡ false → q ≡ r)
+    → (if p then x else (if q then y else z)) ≡ (if r then (if p then x else y) else z)
+chosen_twice true q true x y z first second = refl
+chosen_twice true q false x y z first second = absurd (let e : false ≡ true = first refl in cc)
+chosen_twice false true true x y z first second = refl
+chosen_twice false true false x y z first second = absurd (let e : true ≡ false = second refl in cc)
+chosen_twice false false true x y z first second = absurd (let e : false ≡ true = second refl in cc)
+chosen_twice false false false x y z first second = refl
+
+fixed_twice : (count level : ℕ) (fixed later a : Levels) (i : ℕ) → fixed_to count fixed (fixed_to level later a) i
+    ≡ fixed_to (max count level) (λ j. if nat_lt j count then fixed j else later j) a i
+fixed_twice count level fixed later a i =
+    chosen_twice (nat_lt i count) (nat_lt i level) (nat_lt i (max count level)) (fixed i) (later i) (a i)
+    (λ small. lt-ltb i (max count level) (omega (arith, ltb-true i count small)))
+    (λ large. elim (cases_lt i level) [
+      | inl small ↦ lt-ltb i level small ∙ sym (lt-ltb i (max count level) (omega (arith, small)))
+      | inr above ↦ le-ltb i level above ∙ sym (le-ltb i (max count level) (omega (arith, above, ltb-false i count large)))
+    ])
+
+-- the parts of a function with levels before the set fixed are those of the function, with these fixed
+pub part_fixed : (count bound : ℕ) (set : List ℕ) → AreRising count bound set → (f g : Levels → Bool) (fixed : Levels)
+    → ((a : Levels) → g a ≡ f (fixed_to count fixed a)) → (part : Levels → Bool) → IsFromPlace g set part → IsFromFixed f set part count
+part_fixed count bound set rising f g fixed same part is = (
+  record {
+    place = is.place;
+    within = is.within;
+    is_part = record {
+      level = max count is.is_part.level;
+      fixed = λ j. if nat_lt j count then fixed j else is.is_part.fixed j;
+      same = λ a. is.is_part.same a
+          ∙ (λ k. some_same (drop is.place set) g (λ b. f (fixed_to count fixed b)) same k
+          (fixed_to is.is_part.level is.is_part.fixed a))
+          ∙ some_fixed count bound (drop is.place set) (rising_drop count bound set is.place rising) f fixed
+          (fixed_to is.is_part.level is.is_part.fixed a)
+          ∙ (λ k. some_values (drop is.place set) f (λ i. fixed_twice count is.is_part.level fixed is.is_part.fixed a i k));
+    };
+    behind = λ level there. let before = is.behind level there in omega (arith, before);
+  },
+  omega arith,
+)
 
 -- the function itself is a part of it, where the set has levels
 pub part_whole : (set : List ℕ) → 0 < length set → (f part : Levels → Bool) → IsSubfunction (some_values set f) part
     → IsFromPlace f set part
-part_whole set some f part is = record { place = 0; within = some; is_part = is }
+part_whole set some f part is =
+    record { place = 0; within = some; is_part = is; behind = λ level there. absurd (omega (arith, there.1)) }

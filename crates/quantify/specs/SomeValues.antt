@@ -1,7 +1,7 @@
 -- The existential quantification by the variables of a set of levels: some values of them make the function hold. (Bryant:
 -- Graph-Based Algorithms for Boolean Function Manipulation, 1986, section 4.4: restrict; Bryant, Heule: Generating Extended
 -- Resolution Proofs with a BDD-Based SAT Solver, 2021, section 4.3.)
-use Rattle.std.specs.Prelude.{◌≡◌, ◌≤◌, ◌<◌, ◌+◌, ◌||◌, ◌==◌, ℕ, Bool, true, false, List, [], ◌∷◌, IsTrue, length, drop}
+use Rattle.std.specs.Prelude.{◌≡◌, ◌≤◌, ◌<◌, ◌+◌, ◌||◌, ◌==◌, ℕ, Bool, true, false, List, [], ◌∷◌, Contains, IsTrue, length, drop, take}
 use Rattle.std.specs.Prelude.{⊤}
 use Rattle.std.specs.List.{list_any}
 use Rattle.std.proofs.Common.{arith, refl}
@@ -34,11 +34,13 @@ pub record SetQuantified (graph : Graph) (u : Node) (set : List ℕ) (w : Node) 
   pub not_above : level_of graph u ≤ level_of graph w
   pub value : (a : Levels) → value_of graph a w ≡ some_values set (function_of graph u) a
 
--- A subfunction of what f becomes by the levels of the set from some place on: those before it are not quantified yet.
+-- A subfunction of what f becomes by the levels of the set from some place on: those before it are not quantified yet, and are among those
+-- that are fixed.
 pub record IsFromPlace (f : Levels → Bool) (set : List ℕ) (part : Levels → Bool) : Type 0 where
   pub place : ℕ
   pub within : place < length set
   pub is_part : IsSubfunction (some_values (drop place set) f) part
+  pub behind : (level : ℕ) → Contains (take place set) level → level < is_part.level
 
 -- by no level: the node itself
 pub by_none : (graph : Graph) (u : Node) → is_node graph u ≡ true → SetQuantified graph u [] u

@@ -1,9 +1,11 @@
 -- What a reader of an order keeps, and which answers a text allows.
-use Rattle.std.specs.Prelude.{◌≡◌, ℕ, ◌<◌, ◌≤◌, ◌==◌, Bool, true, false, List, [], Option, None, Some, Result, Ok, Err, ⊤, slice_index_or}
+use Rattle.std.specs.Prelude.{◌≡◌, ℕ, ◌<◌, ◌≤◌, ◌==◌, Bool, true, false, List, [], Option, None, Some, Result, Ok, Err, ⊤, IsTrue}
+use Rattle.std.specs.Prelude.{slice_index_or}
 use Rattle.std.specs.List.{IsDistinct}
 use Rattle.cnf_base.specs.Number.{plain_number}
 use Rattle.cnf_base.specs.Text.{Word}
 use Rattle.text_scan.specs.Items.{Items, next_word}
+use Rattle.text_scan.specs.Near.{is_near}
 use Rattle.text_scan.specs.declared.scanner.ScanError.{ScanError}
 use Rattle.text_scan.specs.declared.scanner.ScanError.TheVariants.{ReadFault as ScanFault, TooLong as ScanTooLong}
 use Rattle.schedule_plan.specs.declared.order_error.OrderError.{OrderError}
@@ -68,10 +70,12 @@ pub data Passes (vars : ℕ) (all : Items) : Items → List ℕ → Type 0 where
   pass_one : {word : Word} {items : Items} {before : List ℕ} → Passes vars all (next_word word items) before
       → offence_of (plain_number word.bytes) vars before ≡ None → Passes vars all items (with_read (plain_number word.bytes) before)
 
--- Memory may be wanted for a text of these items: a number of it offends nothing, nor does any token before it.
-pub record WantsMemory (vars : ℕ) (all : Items) : Type 0 where
+-- Memory may be wanted for a text of these items, where so many bytes follow those taken: a number of it offends nothing, nor does any
+-- token before it, and no more tokens come behind it than a block of the bytes taken can spell, and those that follow.
+pub record WantsMemory (vars more : ℕ) (all : Items) : Type 0 where
   pub word : Word
   pub after : Items
   pub before : List ℕ
   pub passed : Passes vars all (next_word word after) before
   pub unoffending : offence_of (plain_number word.bytes) vars before ≡ None
+  pub near : IsTrue (is_near more after)

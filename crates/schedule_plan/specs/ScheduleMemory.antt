@@ -1,9 +1,11 @@
 -- Where reading a schedule may want memory: before the first byte, for what is kept of the formula; for a number behind a command; and for
--- a move that has no fault. Behind a line that isn't taken nothing is wanted any more.
+-- a move that has no fault, with no more tokens behind than a block of the bytes taken can spell, and those that follow. Behind a line that
+-- isn't taken nothing is wanted any more.
 use Rattle.std.specs.Prelude.{ℕ, Bool, false, ◌&&◌, ◌||◌, List, [], ◌∷◌, Option, None, Some, Result, Ok, Err, is_some, is_none, nat_lt, ◌==◌}
 use Rattle.std.specs.Prelude.{if◌then◌else◌}
 use Rattle.cnf_base.specs.Formula.{Formula}
 use Rattle.text_scan.specs.Items.{Items, the_end, too_long, next_word, items}
+use Rattle.text_scan.specs.Near.{is_near}
 use Rattle.schedule_plan.specs.declared.plan.Move.{Move}
 use Rattle.schedule_plan.specs.declared.schedule.error.PlanKind.{PlanKind}
 use Rattle.schedule_plan.specs.ScheduleText.{max_bytes, fault_behind}
@@ -31,16 +33,16 @@ abbrev pub if_taken : Result (List Move) PlanKind → (List Move → Bool) → B
 if_taken (Ok done) rest = rest done
 if_taken (Err kind) rest = false
 
--- these tokens, behind those moves and the line that isn't ended
-abbrev pub items_may_want_memory : Formula → Items → DraftLine → List Move → Bool
-items_may_want_memory formula (the_end line) draft done = line_may_want_memory formula draft done
-items_may_want_memory formula (too_long line) draft done = nat_lt draft.line line && line_may_want_memory formula draft done
-items_may_want_memory formula (next_word word items) draft done =
+-- these tokens, behind those moves and the line that isn't ended, where so many bytes follow those taken
+abbrev pub items_may_want_memory : ℕ → Formula → Items → DraftLine → List Move → Bool
+items_may_want_memory more formula (the_end line) draft done = line_may_want_memory formula draft done
+items_may_want_memory more formula (too_long line) draft done = nat_lt draft.line line && line_may_want_memory formula draft done
+items_may_want_memory more formula (next_word word items) draft done =
     if is_open draft && draft.line == word.line
-    then has_numbers (draft_with draft word) || items_may_want_memory formula items (draft_with draft word) done
-    else line_may_want_memory formula draft done
-    || if_taken (draft_taken formula draft done) (λ later. items_may_want_memory formula items (draft_of_word word) later)
+    then has_numbers (draft_with draft word) && is_near more items || items_may_want_memory more formula items (draft_with draft word) done
+    else line_may_want_memory formula draft done && is_near more items
+    || if_taken (draft_taken formula draft done) (λ later. items_may_want_memory more formula items (draft_of_word word) later)
 
 -- a whole text (35 is `#`)
-abbrev pub may_want_memory : Formula → List ℕ → Bool
-may_want_memory formula bytes = items_may_want_memory formula (items 35 max_bytes bytes) no_draft []
+abbrev pub may_want_memory : Formula → ℕ → List ℕ → Bool
+may_want_memory formula more bytes = items_may_want_memory more formula (items 35 max_bytes bytes) no_draft []

@@ -159,9 +159,9 @@ impl Order {
         // a read fails only where the bytes taken decide nothing yet
         ensures undecided { IsTrue S.tells → result ≡ Err ReadFault
             → order_so_far vars (gained (S.channel source.old) (S.channel source.new)) ≡ overlong }
-        // memory is wanted only for a number that offends nothing
+        // Memory is wanted only for a number that offends nothing, with no more tokens behind it in the bytes taken than a block can spell.
         ensures memory { IsTrue S.tells → result ≡ Err OutOfMemory → Decides (S.channel source.old) (S.channel source.new)
-            (λ bytes more. WantsMemory vars (items 35 max_bytes bytes)) }
+            (λ bytes more. WantsMemory vars (length more) (items 35 max_bytes bytes)) }
 
         ensures reads { OnlyReads (S.channel source.old) (S.channel source.new) }
         ensures beside { S.beside source.new ≡ S.beside source.old }
@@ -172,6 +172,7 @@ impl Order {
             match scanner.next(source)? {
                 None => return front.finish(scanner.line()),
                 Some(token) => {
+                    scanner.near_law();
                     front.take(&token)?;
                 }
             }

@@ -104,10 +104,11 @@ impl Plan {
         // a read fails only where the bytes taken decide nothing yet
         ensures undecided { IsTrue S.tells → result ≡ Err ReadFault →
             schedule_so_far formula.now (gained (S.channel source.old) (S.channel source.new)) ≡ overlong }
-        // memory is wanted only before the first byte, for what is kept of the formula, or for a number behind a command, or for a move
-        // that has no fault
+        // Memory is wanted only before the first byte, for what is kept of the formula, or for a number behind a command, or for a move
+        // that has no fault, with no more tokens behind in the bytes taken than a block can spell.
         ensures memory { IsTrue S.tells → result ≡ Err NoMemory → (S.channel source.new ≡ S.channel source.old)
-            ⊎ Decides (S.channel source.old) (S.channel source.new) (λ bytes more. IsTrue (may_want_memory formula.now bytes)) }
+            ⊎ Decides (S.channel source.old) (S.channel source.new)
+            (λ bytes more. IsTrue (may_want_memory formula.now (length more) bytes)) }
         ensures admissible { IfOk result (IsAdmissible formula.now) }
 
         ensures reads { OnlyReads (S.channel source.old) (S.channel source.new) }

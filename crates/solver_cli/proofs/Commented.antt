@@ -1,7 +1,8 @@
 -- Lines of comment, one behind another, and what is told by them.
 use Rattle.std.proofs.Common.{◌≡◌, ℕ, Bool, true, false, List, [], ◌∷◌, ◌++◌, refl, sym, ap, ◌∙◌, subst, Ok, Err, IsTrue, arith}
 use Rattle.std.proofs.Common.{append_assoc, append-nil, true≢false}
-use Rattle.std.specs.Prelude.{Result, is_ok, ⊤, ◌==◌, if◌then◌else◌}
+use Rattle.std.specs.Prelude.{Result, OnErr, OnOk, is_ok, ⊤, ◌==◌, if◌then◌else◌}
+use Rattle.arrayvec.specs.ArrayVec.{ArrayVec}
 use Rattle.host_io.specs.Channel.{Channel}
 use Rattle.host_io.specs.declared.source.Failed.{Failed}
 use Rattle.drat_proof.specs.TwoRoles.{added}
@@ -173,3 +174,19 @@ noted_then {asked = asked} {mid = mid} {tells = tells} {new = new} from notes mo
 
 pub notes_name : {before after tells : Bool} {old new : Channel} → Notes before after tells old new → new.name ≡ old.name
 notes_name {after = after} notes = told_name (after, notes)
+
+-- lines that are told only if they are asked for
+pub told_where : {asked is tells : Bool} {old new : Channel} → is ≡ asked → is ≡ true → IsTold true tells old new → IsTold asked tells old new
+told_where {tells = tells} {old = old} {new = new} same on told =
+    subst (λ (asked : Bool). IsTold asked tells old new) (sym on ∙ same) told
+
+-- lines that were put, or a front of them
+pub put_told : {tells : Bool} {old new : Channel} (lines : List ℕ) (result : Result ⊤ Failed) → are_comments lines ≡ true
+    → PutsText tells old new lines result → IsTold true tells old new
+put_told lines result are puts = (is_ok result, notes_told (put lines result are puts))
+
+-- lines behind which a line was put, or for which there was no room
+pub line_pushed : {T E : Type 0} (old new : ArrayVec ℕ) (line : List ℕ) (result : Result T E) → OnOk result (new.items ≡ old.items ++ line)
+    → OnErr result (new ≡ old) → are_comments old.items ≡ true → are_comments line ≡ true → are_comments new.items ≡ true
+line_pushed old new line (Ok x) more _ whole is = ap are_comments more ∙ ap is_start (lines_behind old.items line whole) ∙ is
+line_pushed old new line (Err e) _ same whole is = ap (λ (lines : ArrayVec ℕ). are_comments lines.items) same ∙ whole

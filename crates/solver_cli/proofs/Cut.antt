@@ -4,7 +4,7 @@ use Rattle.std.proofs.Common.{inl, inr}
 use Rattle.std.specs.Prelude.{◌≢◌, Option, Result, IsErr, OnOk, ⊤}
 use Rattle.cnf_base.specs.Formula.{Formula}
 use Rattle.cnf_base.specs.declared.step.Step.{Step}
-use Rattle.host_io.specs.Channel.{Channel, Rose}
+use Rattle.host_io.specs.Channel.{Channel, MayFollow, Rose}
 use Rattle.host_io.specs.Files.{Files, Offers, Opens}
 use Rattle.host_io.specs.declared.role.Role.TheVariants.{ProofIn}
 use Rattle.host_io.specs.declared.source.Failed.{Failed}
@@ -16,7 +16,7 @@ use Rattle.lrat_checker.specs.declared.verdict.Verdict.TheVariants as judgement
 use Rattle.lrat_checker.specs.declared.verdict.CheckError.{CheckError}
 use Rattle.lrat_checker.specs.declared.verdict.CheckError.TheVariants.{ReadFault, TooLong, OutOfMemory}
 use Rattle.drat_proof.specs.TwoRoles.{added}
-use Rattle.proof_trim.specs.Answer.{Trims}
+use Rattle.proof_trim.specs.Answer.{Trims, WantsMemory}
 use Rattle.proof_trim.specs.Core.{core as core_numbers, core_text}
 use Rattle.proof_trim.specs.Trimmed.{additions, additions_of_text, trim, trimmed}
 use Rattle.proof_trim.specs.declared.text.Trimmed.{Trimmed}
@@ -24,23 +24,33 @@ use Rattle.proof_trim.specs.declared.text.Trimmed.TheVariants.{Steps, Refused}
 use Rattle.command_line.specs.declared.format.ProofFormat.TheVariants.{Lrat}
 use Rattle.command_line.specs.Command.{ToTrim, Trim, command}
 use Rattle.solver_cli.specs.Phases.{JudgesProof, PutsText}
-use Rattle.solver_cli.specs.TrimmedProof.{PutsFile, PutsNamed, TrimsBytes, TrimsOpened, TrimsProof, TrimsText}
+use Rattle.solver_cli.specs.TrimmedProof.{PutsFile, PutsNamed, TrimsBytes, TrimsOpened, TrimsProof, TrimsText, WantsTrimming}
 use Rattle.solver_cli.specs.Run.{Run, taken_in, AsksOver, HasVerdict}
 use Rattle.solver_cli.proofs.Facts.{whole_of}
+use Rattle.solver_cli.proofs.Judging.{wanted_by as proof_wanted}
 use Rattle.solver_cli.proofs.Reading.{none_taken, of_content, of_taken, ok_err, rose_since, taken_since}
+
+-- want of memory, as trimming tells it
+wanted_by : (clauses : List (List ℤ)) (old new : Channel) → WantsMemory clauses old new → (more : List ℕ) → MayFollow new more
+    → WantsTrimming clauses (gained old new ++ more) (gained old new)
+wanted_by clauses old new (inl same) more may = inl (proof_wanted Lrat clauses old new (inl same) more may)
+wanted_by clauses old new (inr (inl wants)) more may = inl (proof_wanted Lrat clauses old new (inr wants) more may)
+wanted_by clauses old new (inr (inr verified)) more may = inr (verified.holds more may)
 
 -- an opened proof, as trimming tells it
 seen : (tells : Bool) (old new : Channel) (clauses : List (List ℤ)) (result : Result Trimmed CheckError)
     → (IsTrue tells → Decides old new (λ bytes more. TrimsBytes result clauses bytes))
     → (result ≡ Err ReadFault → Rose old.faults new.faults) → (result ≢ Err ReadFault → new.faults ≡ old.faults)
-    → (IsTrue tells → result ≡ Err ReadFault → verdict_so_far clauses (gained old new) ≡ None) → OnlyReads old new
+    → (IsTrue tells → result ≡ Err ReadFault → verdict_so_far clauses (gained old new) ≡ None)
+    → (IsTrue tells → result ≡ Err OutOfMemory → WantsMemory clauses old new) → OnlyReads old new
     → TrimsOpened tells old new clauses result
-seen tells old new clauses result decides fault unfailed undecided reads = record {
+seen tells old new clauses result decides fault unfailed undecided memory reads = record {
   left = λ t. (decides t).left;
   told = λ t. (decides t).holds;
   fault = fault;
   unfailed = unfailed;
   undecided = undecided;
+  memory = λ t e. wanted_by clauses old new (memory t e);
   written = reads.written;
   name = reads.name;
   faults = reads.faults;
@@ -50,13 +60,14 @@ pub cut : {tells : Bool} {seen_old seen_new old new : Channel} {clauses : List (
     → seen_old ≡ old → new ≡ seen_new
     → (IsTrue tells → Decides seen_old seen_new (λ bytes more. TrimsBytes result clauses bytes))
     → (result ≡ Err ReadFault → Rose seen_old.faults seen_new.faults) → (result ≢ Err ReadFault → seen_new.faults ≡ seen_old.faults)
-    → (IsTrue tells → result ≡ Err ReadFault → verdict_so_far clauses (gained seen_old seen_new) ≡ None) → OnlyReads seen_old seen_new
+    → (IsTrue tells → result ≡ Err ReadFault → verdict_so_far clauses (gained seen_old seen_new) ≡ None)
+    → (IsTrue tells → result ≡ Err OutOfMemory → WantsMemory clauses seen_old seen_new) → OnlyReads seen_old seen_new
     → TrimsOpened tells old new clauses result
 cut {tells = tells} {seen_old = seen_old} {seen_new = seen_new} {old = old} {new = new} {clauses = clauses} {result = result} from to
-    decides fault unfailed undecided reads =
+    decides fault unfailed undecided memory reads =
     subst (λ (o : Channel). TrimsOpened tells o new clauses result) from
     (subst (λ (n : Channel). TrimsOpened tells seen_old n clauses result) (sym to)
-    (seen tells seen_old seen_new clauses result decides fault unfailed undecided reads))
+    (seen tells seen_old seen_new clauses result decides fault unfailed undecided memory reads))
 
 empty_text : (clauses : List (List ℤ)) → verdict_so_far clauses [] ≡ None
 empty_text clauses = refl
@@ -89,6 +100,7 @@ cut_whole {old = old} {opened = opened} {new = new} {files = files} {clauses = c
             stands = found.2;
             told = trims.told t found.0 found.1;
             decided = of_taken (TrimsBytes result clauses) opened new same (trims.told t);
+            memory = λ e. subst (WantsTrimming clauses (gained opened new ++ found.0)) same (trims.memory t e found.0 found.1);
           });
       fault = λ e. rose_since opens.faults.no_less (trims.fault e);
       unfailed = λ no. trims.unfailed no ∙ opens.faults.unfailed ok;

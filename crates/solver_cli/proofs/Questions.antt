@@ -9,7 +9,7 @@ use Rattle.cube_text.specs.declared.error.CubeError.TheVariants as cube_error
 use Rattle.cube_queries.specs.declared.answer.Answer.{Answer}
 use Rattle.cube_queries.specs.declared.answer.Outcome.{Outcome as Replies}
 use Rattle.cube_queries.specs.declared.answer.Outcome.TheVariants as replies
-use Rattle.cube_queries.specs.Ends.{AnyState, Ends as WritesReplies, Says, Shows}
+use Rattle.cube_queries.specs.Ends.{Ends as WritesReplies, IsAnswered as AreAnswers, Says, Shows}
 use Rattle.cube_queries.specs.Width.{IsPaid}
 use Rattle.dimacs_reader.specs.Cnf.{formula}
 use Rattle.host_io.specs.declared.role.Role.TheVariants.{Order, Cubes, ProofOut, Made, Out}
@@ -17,7 +17,7 @@ use Rattle.host_io.specs.declared.source.Failed.{Failed}
 use Rattle.lrat_rules.specs.State.{State}
 use Rattle.lrat_rules.specs.declared.outcome.Reason.{Reason}
 use Rattle.schedule_plan.specs.declared.limits.Limits.{Limits}
-use Rattle.term_runner.specs.Proofs.{IsProofOfKind}
+use Rattle.term_runner.specs.Proofs.{IsProof, IsProofOfKind, KeepsWithin}
 use Rattle.term_runner.specs.declared.error.RunError.{RunError}
 use Rattle.term_runner.specs.declared.error.RunError.TheVariants as run_error
 use Rattle.command_line.specs.Command.{ToAsk, Ask, command, limits_asked}
@@ -218,14 +218,14 @@ unreplied run {task = task} {problem = problem} {order = order} {cubes = cubes} 
           order,
           cubes,
           q.asks t,
-          so_far_of_kind run problem AnyState u.opens.was_idle.written (writes.so_far t),
+          so_far_of_kind run problem (KeepsWithin problem (limits_given run)) u.opens.was_idle.written (writes.so_far t),
         );
         whole = λ differs t. inr (
           problem,
           order,
           cubes,
           q.asks t,
-          whole_of_kind run problem AnyState u.opens.was_idle.written (writes.whole (unharmed differs) t),
+          whole_of_kind run problem (KeepsWithin problem (limits_given run)) u.opens.was_idle.written (writes.whole (unharmed differs) t),
         );
         price = λ t. inr (
           problem,
@@ -393,8 +393,8 @@ replied run {task = task} {problem = problem} {order = order} {cubes = cubes} q 
   shows_as other is t =
       subst (λ (x : Replies). Shows problem order cubes (limits_given run) (written_in run ProofOut) x) is (shows t)
 
-  whole : IsTrue run.tells → IsProofOfKind problem.clauses AnyState (written_in run ProofOut)
-  whole t = whole_of_kind run problem AnyState a.opens.was_idle.written (writes.whole (λ e. ok_err e) t)
+  whole : IsTrue run.tells → IsProof problem (limits_given run) (written_in run ProofOut)
+  whole t = whole_of_kind run problem (KeepsWithin problem (limits_given run)) a.opens.was_idle.written (writes.whole (λ e. ok_err e) t)
 
   stands : AskStands run
   stands = record {
@@ -446,6 +446,11 @@ replied run {task = task} {problem = problem} {order = order} {cubes = cubes} q 
     };
   }
 
+  -- a limit is no answer
+  at_limit : (why : Why) → AreAnswers (replies_at why) → ⊥
+  at_limit NodeLimit is = is
+  at_limit IdLimit is = is
+
   unanswered_by : (IsTrue run.tells → written_in run Out ≡ text) → (why : Why) → found ≡ replies_at why → IsUnanswered run why
   unanswered_by all why is = record {
     given = (task, q.gives);
@@ -453,6 +458,8 @@ replied run {task = task} {problem = problem} {order = order} {cubes = cubes} q 
     order = order;
     cubes = cubes;
     needs = says_as (replies_at why) is;
+    short = λ width price needs has ample. at_limit why
+        (subst (λ (x : Replies). AreAnswers x) is (writes.certain width price needs has ample));
     shown = λ t. record {
       asked = q.asks t;
       reached = shows_as (replies_at why) is t;

@@ -1,6 +1,6 @@
 -- What reading a text says of the run, whichever text it is.
-use Rattle.std.proofs.Common.{◌≡◌, ℕ, ◌≤◌, Bool, List, [], ◌++◌, length, refl, sym, ap, ◌∙◌, subst, arith, Some, Ok, Err, IsTrue, IsOk}
-use Rattle.std.proofs.Common.{inl, inr, append-nil}
+use Rattle.std.proofs.Common.{◌≡◌, ℕ, ◌+◌, ◌-◌, ◌≤◌, Bool, List, [], ◌++◌, length, length-append, refl, sym, ap, ◌∙◌, subst, arith, Some}
+use Rattle.std.proofs.Common.{Ok, Err, IsTrue, IsOk, inl, inr, append-nil}
 use Rattle.std.specs.Prelude.{◌≢◌, ◌⊎◌, Result, IfOk, IsErr, OnOk, ⊤, drop}
 use Rattle.host_io.specs.Channel.{Channel, Leaves, MayFollow, Rose}
 use Rattle.host_io.specs.Files.{Files, Texts, Agrees, Offers, Opens}
@@ -10,17 +10,17 @@ use Rattle.solver_cli.specs.Phases.{ReadsText, ReadsOpened, TakesText, Wanting}
 
 -- want of memory, as the readers tell it
 abbrev pub Wanted : {E : Type 0} → Wanting E → Channel → Channel → Type 0
-Wanted wanting old new = (IsTrue wanting.early × (new ≡ old)) ⊎ Decides old new (λ bytes more. wanting.texts bytes)
+Wanted wanting old new = (IsTrue wanting.early × (new ≡ old)) ⊎ Decides old new (λ bytes more. wanting.texts (length more) bytes)
 
 -- of a reader that may want it before the first byte, and of one that may not
 pub early_or : {E : Type 0} (wanting : Wanting E) (old new : Channel) → IsTrue wanting.early
-    → (new ≡ old) ⊎ Decides old new (λ bytes more. wanting.texts bytes) → Wanted wanting old new
+    → (new ≡ old) ⊎ Decides old new (λ bytes more. wanting.texts (length more) bytes) → Wanted wanting old new
 early_or wanting old new early (inl same) = inl (early, same)
 early_or wanting old new early (inr decides) = inr decides
 
 wanted_by : {E : Type 0} (wanting : Wanting E) (old new : Channel) → Wanted wanting old new
     → (IsTrue wanting.early × (gained old new ≡ []))
-    ⊎ ((more : List ℕ) → MayFollow new more → wanting.texts (gained old new ++ more))
+    ⊎ ((more : List ℕ) → MayFollow new more → wanting.texts (length more) (gained old new ++ more))
 wanted_by wanting old new (inl none) = inl (none.0, ap (gained old) none.1 ∙ gained-none old)
 wanted_by wanting old new (inr decides) = inr decides.holds
 
@@ -96,6 +96,13 @@ pub of_taken : (P : List ℕ → Type 0) (opened new : Channel) {taken : List �
 of_taken P opened new same holds =
     subst P (append-nil (gained opened new) ∙ same) (holds [] (λ _. refl))
 
+-- what follows those bytes is what is behind them
+pub behind_taken : (front more taken : List ℕ) → front ≡ taken → length more ≡ length (front ++ more) - length taken
+behind_taken front more taken same =
+    let parts : length (front ++ more) ≡ length front + length more = length-append front more in
+    let sizes : length front ≡ length taken = ap (λ (l : List ℕ). length l) same in
+    omega (arith, parts, sizes)
+
 -- what is said of an `Ok`, where the result is one
 on_ok : {P : Type 0} (result : Result ⊤ Failed) → IsOk result → OnOk result P → P
 on_ok (Ok x) done holds = holds
@@ -140,8 +147,9 @@ taken {whole = whole} {so_far = so_far} {answers = answers} {wanting = wanting} 
             record {
               bytes = gained opened new ++ found.0;
               stands = found.2;
-              whole = wants found.0 found.1;
-              front = of_taken wanting.texts opened new same wants;
+              whole = subst (λ n. wanting.texts n (gained opened new ++ found.0))
+                  (behind_taken (gained opened new) found.0 (gained old new) same) (wants found.0 found.1);
+              front = subst (wanting.texts 0) (append-nil (gained opened new) ∙ same) (wants [] (λ _. refl));
             })
       ];
       written = reads.written ∙ opens.idle.written ∙ sym opens.was_idle.written;

@@ -7,12 +7,13 @@ use Rattle.command_line.specs.Command.{command, progress_asked}
 use Rattle.solver_cli.specs.Phases.{Complains}
 use Rattle.drat_proof.specs.TwoRoles.{added}
 use Rattle.solver_cli.specs.Comments.{are_comments, are_comments_so_far}
+use Rattle.solver_cli.specs.Explained.{is_explained}
 use Rattle.solver_cli.specs.Progress.{Comments, IsTold}
 use Rattle.solver_cli.specs.Headline.{ErrorStands}
 use Rattle.solver_cli.specs.Run.{Run}
 use Rattle.solver_cli.proofs.Facts.{behind, grown_by}
 
--- what was noted before the text
+-- what was noted, or explained, in front of the text
 record Noted (asked : Bool) (old mid : Channel) (notes : List ℕ) : Type 0 where
   pub written : mid.written ≡ old.written ++ notes
   pub comments : are_comments_so_far notes ≡ true
@@ -55,26 +56,36 @@ noted false tells old mid told t =
       },
     )
 
-pub error_stands : (run : Run) (middle : Channel) → IsTold (progress_asked (command run.words)) run.tells (run.before ErrRole) middle
-    → Complains run.tells middle (run.after ErrRole) run.status → ErrorStands run
-error_stands run middle told complains = record {
-  grows = λ t. grown_by before after (notes t ++ put t) (grown t);
+-- the pieces of a text, one behind another
+in_turn : (start notes reasons said : List ℕ) → ((start ++ notes) ++ reasons) ++ said ≡ start ++ (notes ++ (reasons ++ said))
+in_turn start notes reasons said = append_assoc (start ++ notes) reasons said ∙ append_assoc start notes (reasons ++ said)
+
+pub error_stands : (run : Run) (middle later : Channel) → IsTold (progress_asked (command run.words)) run.tells (run.before ErrRole) middle
+    → IsTold (is_explained run.words run.status) run.tells middle later
+    → Complains run.tells later (run.after ErrRole) run.status → ErrorStands run
+error_stands run middle later told explained complains = record {
+  grows = λ t. grown_by before after (notes t ++ (reasons t ++ put t)) (grown t);
   said = λ t. (
     notes t,
+    reasons t,
     put t,
     record {
-      written = behind before after (notes t ++ put t) (grown t);
+      written = behind before after (notes t ++ (reasons t ++ put t)) (grown t);
       unasked = (at t).unasked;
+      unexplained = (behind_at t).unasked;
       comments = (at t).comments;
+      explanation = (behind_at t).comments;
       rest = (complains.written t).1;
       front = (complains.written t).3;
       whole = λ none. (
-        (at t).whole (λ rose. none (let later = complains.only.faults in omega (arith, rose, later))),
-        (complains.written t).4 (λ rose. none (let earlier = (at t).faults in omega (arith, rose, earlier))),
+        (at t).whole (λ rose. none (let second = (behind_at t).faults in let third = complains.only.faults in omega (arith, rose, second, third))),
+        (behind_at t).whole (λ rose. none (let first = (at t).faults in let third = complains.only.faults in omega (arith, rose, first, third))),
+        (complains.written t).4 (λ rose. none (let first = (at t).faults in let second = (behind_at t).faults in omega (arith, rose, first, second))),
       );
     },
   );
-  flushed = λ t none. complains.flushed t (λ rose. none (let earlier = (at t).faults in omega (arith, rose, earlier)));
+  flushed = λ t none. complains.flushed t
+      (λ rose. none (let first = (at t).faults in let second = (behind_at t).faults in omega (arith, rose, first, second)));
 } where
   before : Channel
   before = run.before ErrRole
@@ -88,8 +99,16 @@ error_stands run middle told complains = record {
   at : (t : IsTrue run.tells) → Noted (progress_asked (command run.words)) before middle (notes t)
   at t = (noted (progress_asked (command run.words)) run.tells before middle told t).1
 
+  reasons : IsTrue run.tells → List ℕ
+  reasons t = (noted (is_explained run.words run.status) run.tells middle later explained t).0
+
+  behind_at : (t : IsTrue run.tells) → Noted (is_explained run.words run.status) middle later (reasons t)
+  behind_at t = (noted (is_explained run.words run.status) run.tells middle later explained t).1
+
   put : IsTrue run.tells → List ℕ
   put t = (complains.written t).0
 
-  grown : (t : IsTrue run.tells) → after.written ≡ before.written ++ (notes t ++ put t)
-  grown t = (complains.written t).2 ∙ ap (λ (l : List ℕ). l ++ put t) (at t).written ∙ append_assoc before.written (notes t) (put t)
+  grown : (t : IsTrue run.tells) → after.written ≡ before.written ++ (notes t ++ (reasons t ++ put t))
+  grown t = (complains.written t).2
+      ∙ ap (λ (l : List ℕ). l ++ put t) ((behind_at t).written ∙ ap (λ (l : List ℕ). l ++ reasons t) (at t).written)
+      ∙ in_turn before.written (notes t) (reasons t) (put t)

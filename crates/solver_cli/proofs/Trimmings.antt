@@ -2,7 +2,7 @@
 use Rattle.std.proofs.Common.{◌≡◌, ◌≤◌, ℕ, false, List, [], ◌++◌, length, append-nil, refl, sym, ap, ap₂, ◌∙◌, subst, Some, None, Ok}
 use Rattle.std.proofs.Common.{Err, IsTrue}
 use Rattle.std.proofs.Common.{inl, inr}
-use Rattle.std.specs.Prelude.{Bool, Option, Result, IsErr, IsOk, ⊤}
+use Rattle.std.specs.Prelude.{◌⊎◌, Bool, Option, Result, IsErr, IsOk, ⊤}
 use Rattle.cnf_base.specs.Formula.{Formula}
 use Rattle.cnf_base.specs.Truth.{AreClausesOf}
 use Rattle.dimacs_reader.specs.Cnf.{formula}
@@ -18,16 +18,19 @@ use Rattle.lrat_checker.specs.declared.verdict.CheckError.TheVariants.{ReadFault
 use Rattle.lrat_rules.specs.declared.outcome.Reason.{Reason}
 use Rattle.proof_trim.specs.Trimmed.{trim}
 use Rattle.proof_trim.specs.declared.text.Trimmed.TheVariants.{Steps, Refused}
+use Rattle.command_line.specs.declared.format.ProofFormat.TheVariants.{Lrat}
 use Rattle.command_line.specs.Command.{Command, ToConvert, ToTrim, Convert, Trim, command}
 use Rattle.solver_cli.specs.declared.status.Status.TheVariants.{WriteFault}
 use Rattle.solver_cli.specs.ErrorText.{is_answer}
 use Rattle.solver_cli.specs.ExitCode.{status_of_check}
 use Rattle.solver_cli.specs.Verdict.{verified_text}
-use Rattle.solver_cli.specs.TrimmedProof.{PutsNamed, TrimsProof}
+use Rattle.solver_cli.specs.Phases.{WantsProof}
+use Rattle.solver_cli.specs.TrimmedProof.{PutsNamed, TrimsProof, TrimsText, WantsTrimming}
 use Rattle.solver_cli.specs.Stages.{streams_of, CameToKeep, Keeps, Rejected, Trimmed, Uncored, Unkept, Untrimmed}
 use Rattle.solver_cli.specs.Headline.{IsFrontOfCore, IsFrontOfTrimmed, MadeStands, TrimStands, WrittenStands}
 use Rattle.solver_cli.specs.Faults.{NamedOutputFailed}
-use Rattle.solver_cli.specs.Run.{Run, name_given, written_in, verdict_text_for, HasFault, OutputFailed, AsksOver, IsCored, IsTrimmed}
+use Rattle.solver_cli.specs.Run.{Run, GivesTrimming, name_given, taken_in, written_in, verdict_text_for, HasFault, OutputFailed, AsksOver}
+use Rattle.solver_cli.specs.Run.{IsCored, IsTrimmed}
 use Rattle.solver_cli.proofs.Cut.{VerifiedBy, judges_of, verified}
 use Rattle.solver_cli.proofs.Facts.{judged_apart, no_answer, same_command}
 use Rattle.solver_cli.proofs.Reading.{ok_err}
@@ -86,10 +89,19 @@ untrimmed laws run task asked u = go u.error u.trims u.ends where
         named = refl;
         problem = u.problem;
         asks = read;
-        wants = λ other t. absurd (other (task, asked));
+        wants = λ t. let text = text_of t in (text.bytes, text.stands, wanted text (text.memory refl));
         before_answer = u.out;
       }))))))))
-      ends
+      ends where
+        text_of : IsTrue run.tells → TrimsText run.texts task.proof u.problem.clauses (taken_in run ProofIn) (Err OutOfMemory)
+        text_of t = elim (trims.read t) [ inl e ↦ cc | inr text ↦ text run.texts (run.fits ProofIn tt task.proof) ]
+
+        wanted : (text : TrimsText run.texts task.proof u.problem.clauses (taken_in run ProofIn) (Err OutOfMemory))
+            → WantsTrimming u.problem.clauses text.bytes (taken_in run ProofIn)
+            → WantsProof Lrat u.problem.clauses text.bytes (taken_in run ProofIn)
+            ⊎ (GivesTrimming run × (text_verdict u.problem.clauses text.bytes ≡ Some judgement.Verified))
+        wanted text (inl wants) = inl wants
+        wanted text (inr verified) = inr ((task, asked), verified)
 
 -- it is not verified
 pub rejected : Laws → (run : Run) (task : ToTrim) → command run.words ≡ Some (Trim task)

@@ -143,7 +143,7 @@ unjudged laws run {problem = problem} j made out = go where
     named = j.named;
     problem = problem;
     asks = j.read;
-    wants = λ _ t. let text = text_of t in (text.bytes, text.stands, text.memory refl);
+    wants = λ t. let text = text_of t in (text.bytes, text.stands, inl (text.memory refl));
     before_answer = out;
   })))))))) ends where
     no_fault : ◌≡◌ {A = Result Verdict CheckError} (Err error.OutOfMemory) (Err error.ReadFault) → ⊥

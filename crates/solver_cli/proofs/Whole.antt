@@ -1,4 +1,4 @@
--- The promises of a whole run, from those of its work and of the line on standard error.
+-- The promises of a whole run, from those of its work, of its explanation and of the line on standard error.
 use Rattle.std.proofs.Common.{◌≡◌, ℕ, List, refl, sym, ap, ◌∙◌, subst, Some, None, inl, inr}
 use Rattle.std.specs.Prelude.{Option}
 use Rattle.host_io.specs.Channel.{Channel}
@@ -12,6 +12,7 @@ use Rattle.command_line.specs.Command.{ToConvert, ToTrim, Solve, Ask, Check, Ben
 use Rattle.solver_cli.specs.Stages.{Streams, FilesBeside, Job, streams_of, Came, CameToAnswer, CameToArrange, CameToBench, CameToCheck}
 use Rattle.solver_cli.specs.Stages.{CameToAsk, CameToConvert, CameToMake, CameToTrim, Stages}
 use Rattle.solver_cli.specs.Headline.{ErrorStands, Promises}
+use Rattle.solver_cli.specs.Explained.{is_explained}
 use Rattle.solver_cli.specs.Progress.{IsTold}
 use Rattle.solver_cli.specs.Run.{Run}
 use Rattle.solver_cli.specs.Faults.{ConvertsAsItReads}
@@ -139,21 +140,28 @@ streams_kept old new beside = λ i. record {
   out = beside Out refl i;
 }
 
-pub promises : Laws → (run : Run) (middle : Role → Channel) (files : Files) → ((role : Role) → (run.before role).name ≡ None)
+pub promises : Laws → (run : Run) (middle later : Role → Channel) (files files_later : Files)
+    → ((role : Role) → (run.before role).name ≡ None)
     → Stages run.tells run.words (streams_of run.before) (streams_of middle) run.files run.status
     → IsTold (progress_asked (command run.words)) run.tells (run.before ErrRole) (middle ErrRole) → FilesBeside (middle ProofOut).name (middle Made).name run.files files
-    → Complains run.tells (middle ErrRole) (run.after ErrRole) run.status
-    → Kept ErrRole (middle ErrRole).name middle run.after files run.files_after → Promises run
-promises law run middle files unnamed stages told beside complains kept = whole law run unnamed
+    → IsTold (is_explained run.words run.status) run.tells (middle ErrRole) (later ErrRole)
+    → Kept ErrRole (middle ErrRole).name middle later files files_later
+    → Complains run.tells (later ErrRole) (run.after ErrRole) run.status
+    → Kept ErrRole (later ErrRole).name later run.after files_later run.files_after → Promises run
+promises law run middle later files files_later unnamed stages told beside explained kept complains kept_last = whole law run unnamed
     (subst (λ (s : Streams). Stages run.tells run.words (streams_of run.before) s run.files run.status)
-    (sym (streams_kept middle run.after kept.others)) stages)
-    (complains.only.name ∙ err_none)
-    (λ file proof made. kept.files file (λ same. none_some (sym err_none ∙ same))
-    ∙ beside file (λ same. proof (ap (λ (c : Channel). c.name) (kept.others ProofOut refl) ∙ same))
-    (λ same. made (ap (λ (c : Channel). c.name) (kept.others Made refl) ∙ same)))
-    (error_stands run (middle ErrRole) told complains) where
+    (sym (streams_kept later run.after kept_last.others ∙ streams_kept middle later kept.others)) stages)
+    (complains.only.name ∙ later_none)
+    (λ file proof made. kept_last.files file (λ same. none_some (sym later_none ∙ same))
+    ∙ kept.files file (λ same. none_some (sym err_none ∙ same))
+    ∙ beside file (λ same. proof (ap (λ (c : Channel). c.name) (kept_last.others ProofOut refl ∙ kept.others ProofOut refl) ∙ same))
+    (λ same. made (ap (λ (c : Channel). c.name) (kept_last.others Made refl ∙ kept.others Made refl) ∙ same)))
+    (error_stands run (middle ErrRole) (later ErrRole) told explained complains) where
       err_none : (middle ErrRole).name ≡ None
       err_none = told_name told ∙ unnamed ErrRole
+
+      later_none : (later ErrRole).name ≡ None
+      later_none = told_name explained ∙ err_none
 
       none_some : {file : List ℕ} → ◌≡◌ {A = Option (List ℕ)} None (Some file) → ⊥
       none_some e = cc

@@ -20,8 +20,8 @@ use Rattle.cube_text.specs.CubeText.{CubeText, cube_text, cubes as given_cubes, 
 use Rattle.cube_queries.specs.declared.answer.Answer.{Answer}
 use Rattle.cube_queries.specs.declared.answer.Outcome.{Outcome as Replies}
 use Rattle.cube_queries.specs.Answers.{AreShown, AreTrue}
-use Rattle.cube_queries.specs.Width.{IsPaid, NeedsAtMost}
-use Rattle.cube_queries.specs.Ends.{AnyState, Says as SaysOfCubes, Shows as ShowsOfCubes}
+use Rattle.cube_queries.specs.Width.{AreAmple, IsPaid, NeedsAtMost}
+use Rattle.cube_queries.specs.Ends.{Says as SaysOfCubes, Shows as ShowsOfCubes}
 use Rattle.schedule_plan.specs.OrderText.{OrderText, order as given_order, refusal as order_refusal, overlong as overlong_order}
 use Rattle.schedule_plan.specs.OrderText.{order_text}
 use Rattle.schedule_plan.specs.ScheduleText.{ScheduleText, refusal as schedule_refusal, overlong as overlong_schedule, schedule}
@@ -31,7 +31,7 @@ use Rattle.term_runner.specs.declared.outcome.Outcome.TheVariants as outcome
 use Rattle.term_runner.specs.Clauses.{has_empty_clause, one_line}
 use Rattle.term_runner.specs.Price.{IsLeanAtEnd, IsMovePrice}
 use Rattle.term_runner.specs.Proofs.{AreUnsatisfiable, IsProof, IsProofOfKind, IsProofSoFar, IsProofSoFarOfKind}
-use Rattle.term_runner.specs.Width.{HasWidth}
+use Rattle.term_runner.specs.Width.{HasWidth, HasWidthWith, keeps_trail}
 use Rattle.term_runner.specs.Ends.{Says, Shows}
 use Rattle.term_runner.specs.Recovered.{IsRecovered}
 use Rattle.answer_text.specs.Status.{refused_text}
@@ -49,6 +49,7 @@ use Rattle.solver_cli.specs.declared.status.Status.TheVariants.{ReadFault, Write
 use Rattle.solver_cli.specs.declared.status.Status.TheVariants.{OutOfMemory}
 use Rattle.solver_cli.specs.Comments.{are_comments, are_comments_so_far}
 use Rattle.solver_cli.specs.ErrorText.{error_text, is_answer}
+use Rattle.solver_cli.specs.Explained.{is_explained}
 use Rattle.solver_cli.specs.Answer.{IsRead, IsOrdered, IsOrderOf, Holds, outcome_at, status_of}
 use Rattle.solver_cli.specs.Format.{verdict_in, RefutesIn, IsRefusedIn}
 use Rattle.solver_cli.specs.Sums.{AreAmpleAs, IsPaidAs, NeedsSums}
@@ -125,13 +126,14 @@ pub record IsUndecided (run : Run) (why : Why) : Type 0 where
   pub moves : List Move
   pub board : IsPlanAsked run problem order moves
   pub needs : Says problem order moves (limits_given run) (outcome_at why)
-  pub short : (width price : ℕ) → HasWidth problem order moves width → IsMovePrice problem.vars (limits_given run).cache width price
+  pub short : (width price : ℕ) → HasWidthWith (keeps_trail (limits_given run).max_nodes) problem order moves width
+      → IsMovePrice problem.vars (limits_given run).cache width price
       → AreAmpleAs (parity_asked (command run.words)) (limits_given run) problem moves width price → ⊥
   pub sums : IsTrue (parity_asked (command run.words)) → why ≡ NodeLimit → NeedsSums (limits_given run) problem
   pub shown : IsTrue run.tells → IsShownUndecided run why problem order moves
 
--- Or the words give `ask`: more nodes are needed than are allowed, where that is the limit. It is the formula that is asked for, by its
--- order and cubes; the proof's bytes show that the limit is reached, and it was printed.
+-- Or the words give `ask`: more nodes are needed than are allowed, where that is the limit, and the limits aren't above what the width
+-- needs. It is the formula that is asked for, by its order and cubes; the proof's bytes show that the limit is reached, and it was printed.
 pub record IsShownUnanswered (run : Run) (why : Why) (problem : Formula) (order : List ℕ) (cubes : List (List ℤ)) : Type 0 where
   pub asked : AsksByCubes run problem order (given_cubes cubes)
   pub reached : ShowsOfCubes problem order cubes (limits_given run) (written_in run ProofOut) (replies_at why)
@@ -143,6 +145,8 @@ pub record IsUnanswered (run : Run) (why : Why) : Type 0 where
   pub order : List ℕ
   pub cubes : List (List ℤ)
   pub needs : SaysOfCubes problem order cubes (limits_given run) (replies_at why)
+  pub short : (width price : ℕ) → NeedsAtMost problem order cubes width → IsMovePrice problem.vars (limits_given run).cache width price
+      → AreAmple (limits_given run) problem cubes width price → ⊥
   pub shown : IsTrue run.tells → IsShownUnanswered run why problem order cubes
 
 abbrev pub LimitsAreReached : Run → Type 0
@@ -350,8 +354,8 @@ pub record DecisionWantsMemory (run : Run) : Type 0 where
   pub created : (run.after ProofOut).name ≢ None
   pub before_answer : run.after Out ≡ run.before Out
 
--- For judging a proof, once the formula was accepted: its text may want it, or none of it was taken yet; `trim` keeps steps besides.
--- Or for making an order.
+-- For judging a proof, once the formula was accepted: its text may want it, or none of it was taken yet; or it is verified, and `trim`
+-- keeps what its refutation needs. Or for making an order.
 pub record VerdictWantsMemory (run : Run) : Type 0 where
   pub asked : Command
   pub given : command run.words ≡ Some asked
@@ -359,8 +363,9 @@ pub record VerdictWantsMemory (run : Run) : Type 0 where
   pub named : name_given ProofIn asked ≡ Some file
   pub problem : Formula
   pub asks : IsTrue run.tells → AsksOver run asked (formula problem)
-  pub wants : (GivesTrimming run → ⊥) → IsTrue run.tells → (bytes : List ℕ) × (run.texts file ≡ Some bytes)
-      × WantsProof (format_of asked) problem.clauses bytes (taken_in run ProofIn)
+  pub wants : IsTrue run.tells → (bytes : List ℕ) × (run.texts file ≡ Some bytes)
+      × (WantsProof (format_of asked) problem.clauses bytes (taken_in run ProofIn)
+      ⊎ (GivesTrimming run × (verdict_in (format_of asked) problem.clauses bytes ≡ Some judgement.Verified)))
   pub before_answer : run.after Out ≡ run.before Out
 
 pub record ArrangingWantsMemory (run : Run) : Type 0 where
@@ -454,7 +459,7 @@ pub record AreRepliesTo (run : Run) (problem : Formula) (order : List ℕ) (cube
   pub asked : AsksByCubes run problem order (given_cubes cubes)
   pub says : SaysOfCubes problem order cubes (limits_given run) found
   pub shows : ShowsOfCubes problem order cubes (limits_given run) (written_in run ProofOut) found
-  pub proof : IsProofOfKind problem.clauses AnyState (written_in run ProofOut)
+  pub proof : IsProof problem (limits_given run) (written_in run ProofOut)
   pub flushed : (run.after ProofOut).flushed ≡ length (run.after ProofOut).written
 
 -- it is true, and is what the words ask for
@@ -499,21 +504,24 @@ pub record OutputStands (run : Run) : Type 0 where
       ≡ length (run.after Out).written
   pub silent : IsFalse (is_answer run.status) → run.status ≢ Help → run.status ≢ WriteFault → IsTrue run.tells → written_in run Out ≡ []
 
--- What was said on standard error: notes, which are lines of comment, none where the words ask for none, and behind them a front of
--- the status's text. Only where a call of it failed the last note may be cut short, and a rest of the text missing.
-pub record IsSaid (run : Run) (notes said : List ℕ) : Type 0 where
-  pub written : written_in run Err ≡ notes ++ said
+-- What was said on standard error: notes of the progress, and reasons why the run ended so, all of them lines of comment, none where the
+-- words ask for none, and no reasons where the run came to what it was asked for; and behind them a front of the status's text. Only where
+-- a call of it failed the last note and the last reason may be cut short, and a rest of the text missing.
+pub record IsSaid (run : Run) (notes reasons said : List ℕ) : Type 0 where
+  pub written : written_in run Err ≡ notes ++ (reasons ++ said)
   pub unasked : IsFalse (progress_asked (command run.words)) → notes ≡ []
+  pub unexplained : IsFalse (is_explained run.words run.status) → reasons ≡ []
   pub comments : IsTrue (are_comments_so_far notes)
+  pub explanation : IsTrue (are_comments_so_far reasons)
   pub rest : List ℕ
   pub front : error_text run.status ≡ said ++ rest
-  pub whole : (HasFault run Err → ⊥) → IsTrue (are_comments notes) × (rest ≡ [])
+  pub whole : (HasFault run Err → ⊥) → IsTrue (are_comments notes) × IsTrue (are_comments reasons) × (rest ≡ [])
 
--- Standard error: notes, and a front of the status's text, the whole of it and flushed where no call of it failed; no text for an
+-- Standard error: notes, reasons, and a front of the status's text, the whole of it and flushed where no call of it failed; no text for an
 -- answer and for help.
 pub record ErrorStands (run : Run) : Type 0 where
   pub grows : IsTrue run.tells → (run.after Err).written ≡ (run.before Err).written ++ written_in run Err
-  pub said : IsTrue run.tells → (notes : List ℕ) × (said : List ℕ) × IsSaid run notes said
+  pub said : IsTrue run.tells → (notes : List ℕ) × (reasons : List ℕ) × (said : List ℕ) × IsSaid run notes reasons said
   pub flushed : IsTrue run.tells → (HasFault run Err → ⊥) → (run.after Err).flushed ≡ length (run.after Err).written
 
 -- The proof: nothing, or exactly the lines of good steps from the clauses of the formula that is asked for, whose deletions
@@ -568,15 +576,15 @@ pub record TrimStands (run : Run) : Type 0 where
   pub whole : run.status ≢ WriteFault → IsTrue run.tells → (written_in run ProofOut ≡ [])
       ⊎ ((trimmed : IsFrontOfTrimmed run) × (trimmed.rest ≡ []))
 
--- The proof that `ask` writes: nothing, or exactly the lines of good steps from the clauses of the formula that is asked for. A front of
--- one more such line may stand behind them only after a failed write. However the run ends, its numbers keep within the price of conjoining
--- the clauses and of each cube, by the width.
+-- The proof that `ask` writes: nothing, or exactly the lines of good steps from the clauses of the formula that is asked for, within the
+-- limits. A front of one more such line may stand behind them only after a failed write. However the run ends, its numbers keep within the
+-- price of conjoining the clauses and of each cube, by the width.
 pub record AskStands (run : Run) : Type 0 where
   pub so_far : IsTrue run.tells → (written_in run ProofOut ≡ []) ⊎ ((problem : Formula) × (order : List ℕ) × (cubes : List (List ℤ))
-      × AsksByCubes run problem order (given_cubes cubes) × IsProofSoFarOfKind problem.clauses AnyState (written_in run ProofOut))
+      × AsksByCubes run problem order (given_cubes cubes) × IsProofSoFar problem (limits_given run) (written_in run ProofOut))
   pub whole : run.status ≢ WriteFault → IsTrue run.tells → (written_in run ProofOut ≡ [])
       ⊎ ((problem : Formula) × (order : List ℕ) × (cubes : List (List ℤ)) × AsksByCubes run problem order (given_cubes cubes)
-      × IsProofOfKind problem.clauses AnyState (written_in run ProofOut))
+      × IsProof problem (limits_given run) (written_in run ProofOut))
   pub price : IsTrue run.tells → (written_in run ProofOut ≡ []) ⊎ ((problem : Formula) × (order : List ℕ) × (cubes : List (List ℤ))
       × AsksByCubes run problem order (given_cubes cubes) × ((width price : ℕ) → NeedsAtMost problem order cubes width
       → IsMovePrice problem.vars (limits_given run).cache width price

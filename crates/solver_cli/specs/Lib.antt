@@ -20,3 +20,4 @@ pub mod SolveThenCheck
 pub mod ConvertThenCheck
 pub mod Comments
 pub mod Progress
+pub mod Explained

@@ -46,7 +46,7 @@ use Rattle.schedule_plan.specs.declared.limits.Limits.{Limits}
 use Rattle.term_runner.specs.Ends.{Says, Shows}
 use Rattle.term_runner.specs.Price.{IsDecision, IsMovePrice}
 use Rattle.term_runner.specs.Proofs.{IsProof, IsProofSoFar, IsProofSoFarOfKind}
-use Rattle.term_runner.specs.Width.{HasWidth}
+use Rattle.term_runner.specs.Width.{HasWidth, HasWidthWith, keeps_trail}
 use Rattle.term_runner.specs.declared.outcome.Run.{Run as Ending}
 use Rattle.term_runner.specs.declared.outcome.Outcome.TheVariants.{NodeLimit}
 use Rattle.term_runner.specs.declared.error.RunError.{RunError}
@@ -63,18 +63,20 @@ pub record ReadsText {Text R : Type 0} (whole : List ℕ → Text) (answers : R 
   pub told : answers result (whole bytes)
   pub decided : answers result (whole taken)
 
--- Memory was wanted for a text: by the whole that stands in the file of this name, and already by the bytes taken.
-pub record WantsRead (wants : List ℕ → Type 0) (texts : Texts) (file taken : List ℕ) : Type 0 where
+-- Memory was wanted for a text: at a place of the whole that stands in the file of this name, and already of the bytes taken. The place is
+-- near their end: so many bytes of the text follow them.
+pub record WantsRead (wants : ℕ → List ℕ → Type 0) (texts : Texts) (file taken : List ℕ) : Type 0 where
   pub bytes : List ℕ
   pub stands : texts file ≡ Some bytes
-  pub whole : wants bytes
-  pub front : wants taken
+  pub whole : wants (length bytes - length taken) bytes
+  pub front : wants 0 taken
 
--- Where reading a text may want memory: whether it may before the first byte, the answer that says so, and the texts that may.
+-- Where reading a text may want memory: whether it may before the first byte, the answer that says so, and the texts that may, where so
+-- many of their bytes follow those taken.
 pub record Wanting (E : Type 0) : Type 1 where
   pub early : Bool
   pub answer : E
-  pub texts : List ℕ → Type 0
+  pub texts : ℕ → List ℕ → Type 0
 
 -- The text of an opened file was read: the answer is that of the bytes taken with whatever may follow them. `whole` is what a text is,
 -- `so_far` what its front decides, `unread` where that is nothing yet; `answers` says which answers a text allows, `fit` what is promised
@@ -90,7 +92,7 @@ pub record ReadsOpened {Text T E : Type 0} (whole so_far : List ℕ → Text) (u
   pub unfailed : result ≢ Err fault → new.faults ≡ old.faults
   pub undecided : IsTrue tells → result ≡ Err fault → so_far (gained old new) ≡ unread
   pub memory : IsTrue tells → result ≡ Err wanting.answer → (IsTrue wanting.early × (gained old new ≡ []))
-      ⊎ ((more : List ℕ) → MayFollow new more → wanting.texts (gained old new ++ more))
+      ⊎ ((more : List ℕ) → MayFollow new more → wanting.texts (length more) (gained old new ++ more))
   pub written : new.written ≡ old.written
   pub name : new.name ≡ old.name
   pub faults : old.faults ≤ new.faults
@@ -112,19 +114,19 @@ pub record TakesText {Text T E : Type 0} (whole so_far : List ℕ → Text) (unr
   pub name : (new.name ≡ Some file) ⊎ (new.name ≡ None)
   pub faults : old.faults ≤ new.faults
 
--- which texts of a formula in a mode may want memory, of an order of so many variables, of cubes over them, and of a schedule (99 is
--- `c`, 35 `#`)
-abbrev pub cnf_wants : Mode → List ℕ → Type 0
-cnf_wants mode bytes = CnfWantsMemory mode (items 99 max_bytes bytes)
+-- which texts of a formula in a mode may want memory, of an order of so many variables, of cubes over them, and of a schedule, where so
+-- many of their bytes follow those taken (99 is `c`, 35 `#`)
+abbrev pub cnf_wants : Mode → ℕ → List ℕ → Type 0
+cnf_wants mode more bytes = CnfWantsMemory mode more (items 99 max_bytes bytes)
 
-abbrev pub order_wants : ℕ → List ℕ → Type 0
-order_wants vars bytes = OrderWantsMemory vars (items 35 max_bytes bytes)
+abbrev pub order_wants : ℕ → ℕ → List ℕ → Type 0
+order_wants vars more bytes = OrderWantsMemory vars more (items 35 max_bytes bytes)
 
-abbrev pub cubes_wants : ℕ → List ℕ → Type 0
-cubes_wants vars bytes = CubesWantMemory vars (items 35 max_bytes bytes)
+abbrev pub cubes_wants : ℕ → ℕ → List ℕ → Type 0
+cubes_wants vars more bytes = CubesWantMemory vars more (items 35 max_bytes bytes)
 
-abbrev pub schedule_wants : Formula → List ℕ → Type 0
-schedule_wants problem bytes = IsTrue (may_want_memory problem bytes)
+abbrev pub schedule_wants : Formula → ℕ → List ℕ → Type 0
+schedule_wants problem more bytes = IsTrue (may_want_memory problem more bytes)
 
 -- reading a schedule may want memory for what is kept of its formula, before the first byte
 abbrev pub cnf_wanting : Mode → Wanting CnfError
@@ -293,7 +295,8 @@ pub record OnlyWritten (old new : Channel) : Type 0 where
 pub record WritesProof (parity tells : Bool) (old new : Channel) (problem : Formula) (order : List ℕ) (moves : List Move) (limits : Limits)
     (result : Result Ending RunError) : Type 0 where
   pub says : IfOk result (λ ending. Says problem order moves limits ending.outcome)
-  pub certain : (width price : ℕ) → HasWidth problem order moves width → IsMovePrice problem.vars limits.cache width price
+  pub certain : (width price : ℕ) → HasWidthWith (keeps_trail limits.max_nodes) problem order moves width
+      → IsMovePrice problem.vars limits.cache width price
       → AreAmpleAs parity limits problem moves width price → IfOk result (λ ending. IsDecision ending.outcome)
   pub shows : IsTrue tells → IfOk result (λ ending. Shows problem limits new.written ending.outcome)
   pub last : IsTrue tells → IfOk result (λ ending. ending.last_id ≡ last_identifier problem.clauses new.written)

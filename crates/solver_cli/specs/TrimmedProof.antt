@@ -5,17 +5,24 @@ use Rattle.host_io.specs.Channel.{Channel, Leaves, MayFollow, Rose}
 use Rattle.host_io.specs.Files.{Files, Texts}
 use Rattle.text_scan.specs.Decides.{gained, Fits}
 use Rattle.lrat_checker.specs.TextVerdict.{text_verdict, verdict_so_far}
+use Rattle.lrat_checker.specs.declared.verdict.Verdict.TheVariants.{Verified}
 use Rattle.lrat_checker.specs.declared.verdict.CheckError.{CheckError}
-use Rattle.lrat_checker.specs.declared.verdict.CheckError.TheVariants.{ReadFault}
+use Rattle.lrat_checker.specs.declared.verdict.CheckError.TheVariants.{ReadFault, OutOfMemory}
 use Rattle.drat_proof.specs.TwoRoles.{added}
 use Rattle.proof_trim.specs.Answer.{Trims}
 use Rattle.proof_trim.specs.Core.{core}
 use Rattle.proof_trim.specs.Trimmed.{additions_of_text, trimmed}
 use Rattle.proof_trim.specs.declared.text.Trimmed.{Trimmed}
+use Rattle.command_line.specs.declared.format.ProofFormat.TheVariants.{Lrat}
+use Rattle.solver_cli.specs.Phases.{WantsProof}
 
 -- the answer is what trimming this text gives
 abbrev pub TrimsBytes : Result Trimmed CheckError → List (List ℤ) → List ℕ → Type 0
 TrimsBytes result clauses bytes = Trims result (text_verdict clauses bytes) (trimmed clauses bytes) (core clauses bytes) (additions_of_text bytes)
+
+-- Memory was wanted for trimming a proof: to judge its text, or behind the verdict on it, where it is verified.
+abbrev pub WantsTrimming : List (List ℤ) → List ℕ → List ℕ → Type 0
+WantsTrimming clauses bytes taken = WantsProof Lrat clauses bytes taken ⊎ (text_verdict clauses bytes ≡ Some Verified)
 
 -- The answer is that of the bytes taken of an opened proof's file, with whatever may follow them; where a call on it failed, these decide
 -- nothing yet.
@@ -25,6 +32,8 @@ pub record TrimsOpened (tells : Bool) (old new : Channel) (clauses : List (List 
   pub fault : result ≡ Err ReadFault → Rose old.faults new.faults
   pub unfailed : result ≢ Err ReadFault → new.faults ≡ old.faults
   pub undecided : IsTrue tells → result ≡ Err ReadFault → verdict_so_far clauses (gained old new) ≡ None
+  pub memory : IsTrue tells → result ≡ Err OutOfMemory → (more : List ℕ) → MayFollow new more
+      → WantsTrimming clauses (gained old new ++ more) (gained old new)
   pub written : new.written ≡ old.written
   pub name : new.name ≡ old.name
   pub faults : old.faults ≤ new.faults
@@ -36,6 +45,7 @@ pub record TrimsText (texts : Texts) (file : List ℕ) (clauses : List (List ℤ
   pub stands : texts file ≡ Some bytes
   pub told : TrimsBytes result clauses bytes
   pub decided : TrimsBytes result clauses taken
+  pub memory : result ≡ Err OutOfMemory → WantsTrimming clauses bytes taken
 
 -- the proof's file was opened, and its text trimmed
 pub record TrimsProof (tells : Bool) (old new : Channel) (files : Files) (file : List ℕ) (clauses : List (List ℤ))

@@ -10,6 +10,7 @@ ghost use Rattle.schedule_plan.specs.Limits.{AreLimits};
 ghost use Rattle.solver_cli.specs.Stages.{CameToAsk, CameToReply, ask_of, job_of, streams_of};
 
 use crate::cubes::take_cubes;
+use crate::excerpt::Excerpt;
 use crate::formula::take_formula;
 use crate::job::Job;
 use crate::order::take_order;
@@ -26,7 +27,12 @@ use term_runner::RunError;
 
 /// Reads the formula, the order and the cubes, and answers. All reading is over before the proof's file is created, so that none is where
 /// a text is refused or memory runs out by then.
-pub fn ask<H: Host>(alloc: Global, asked: &AskTask<'_>, host: &mut H) -> Status
+pub fn ask<H: Host>(
+    alloc: Global,
+    asked: &AskTask<'_>,
+    host: &mut H,
+    excerpt: &mut Excerpt,
+) -> Status
     requires unnamed { (role : Role) → (H.channel host.old role).name ≡ None }
     requires limits { AreLimits asked.now.limits }
     ensures came { CameToAsk H.tells (streams_of (H.channel host.old)) (streams_of (H.channel host.new)) (H.files host.old)
@@ -34,15 +40,15 @@ pub fn ask<H: Host>(alloc: Global, asked: &AskTask<'_>, host: &mut H) -> Status
     ensures error { H.channel host.new ErrRole ≡ H.channel host.old ErrRole }
     ensures files { FilesBut (H.channel host.new ProofOut).name (H.files host.old) (H.files host.new) }
 {
-    let formula = match take_formula(alloc, host, asked.files.formula, asked.mode) {
+    let formula = match take_formula(alloc, host, asked.files.formula, asked.mode, excerpt) {
         Ok(formula) => formula,
         Err(error) => return Status::from(error),
     };
-    let order = match take_order(alloc, host, formula.vars(), asked.order) {
+    let order = match take_order(alloc, host, formula.vars(), asked.order, excerpt) {
         Ok(order) => order,
         Err(error) => return Status::from(error),
     };
-    let cubes = match take_cubes(alloc, host, formula.vars(), asked.cubes) {
+    let cubes = match take_cubes(alloc, host, formula.vars(), asked.cubes, excerpt) {
         Ok(cubes) => cubes,
         Err(error) => return Status::from(error),
     };

@@ -9,6 +9,9 @@ use itoa::{Buffer, Integer};
 // The most bytes of a line, with its end.
 const MOST: usize = 200;
 
+// The most bytes of a text that are shown.
+const SHOWN: usize = 100;
+
 /// A line of comment that is still open. Line feeds in its pieces are left out, and so is what makes it longer than 200 bytes.
 #[derive(Drop)]
 pub struct Comment {
@@ -32,6 +35,38 @@ impl Comment {
             self.push(*byte);
         }
         self
+    }
+
+    /// With this name behind it, in quotes. A question mark stands for each of its control characters.
+    pub fn name(self, name: &str) -> Comment {
+        let mut comment = self.text("\"");
+        for byte in name.as_bytes() {
+            let shown = if *byte < b' ' || *byte == 127 {
+                b'?'
+            } else {
+                *byte
+            };
+            comment.push(shown);
+        }
+        comment.text("\"")
+    }
+
+    /// With these bytes behind it, in quotes, a hundred at the most. A question mark stands for each that isn't a printable one of ASCII.
+    pub fn shown(self, bytes: &[u8]) -> Comment {
+        let mut comment = self.text("\"");
+        for byte in &bytes[..bytes.len().min(SHOWN)] {
+            let shown = if *byte < b' ' || *byte > b'~' {
+                b'?'
+            } else {
+                *byte
+            };
+            comment.push(shown);
+        }
+        if bytes.len() > SHOWN {
+            comment.text("\" ..")
+        } else {
+            comment.text("\"")
+        }
     }
 
     /// With this number behind it.

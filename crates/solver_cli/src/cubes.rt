@@ -5,8 +5,9 @@ ghost use Rattle.host_io.specs.declared.role.Role.TheVariants.{Cubes as CubesRol
 ghost use Rattle.host_io.specs.Files.{Kept};
 ghost use Rattle.solver_cli.specs.Phases.{ReadsCubes, TakesCubes};
 
+use crate::excerpt::{Excerpt, NotedSource};
 use cube_text::{CubeError, Cubes, read_cubes};
-use host_io::{Host, HostSource, Role, beside_kept};
+use host_io::{Host, Role, beside_kept};
 use std::alloc::Global;
 
 /// Opens the file of this name and reads cubes over so many variables.
@@ -15,6 +16,7 @@ pub fn take_cubes<H: Host>(
     host: &mut H,
     vars: u32,
     name: &str,
+    excerpt: &mut Excerpt,
 ) -> Result<Cubes, CubeError>
     requires few { vars ≤ max_vars }
     requires unnamed { (H.channel host.old CubesRole).name ≡ None }
@@ -24,16 +26,21 @@ pub fn take_cubes<H: Host>(
     if host.open_read(Role::Cubes, name).is_err() {
         return Err(CubeError::ReadFault);
     }
-    read_opened(alloc, host, vars)
+    read_opened(alloc, host, vars, excerpt)
 }
 
-fn read_opened<H: Host>(alloc: Global, host: &mut H, vars: u32) -> Result<Cubes, CubeError>
+fn read_opened<H: Host>(
+    alloc: Global,
+    host: &mut H,
+    vars: u32,
+    excerpt: &mut Excerpt,
+) -> Result<Cubes, CubeError>
     requires few { vars ≤ max_vars }
     requires opened { (H.channel host.old CubesRole).name ≢ None }
     ensures reads { ReadsCubes vars H.tells (H.channel host.old CubesRole) (H.channel host.new CubesRole) result }
     ensures kept { Kept CubesRole None (H.channel host.old) (H.channel host.new) (H.files host.old) (H.files host.new) }
 {
     beside_kept::<H>();
-    let mut source = HostSource::new(host, Role::Cubes);
+    let mut source = NotedSource::new(host, Role::Cubes, excerpt);
     read_cubes(alloc, vars, &mut source)
 }

@@ -11,16 +11,18 @@ ghost use Rattle.solver_cli.specs.Format.{may_want_memory_in, so_far_in, verdict
 ghost use Rattle.solver_cli.specs.Phases.{ChecksProof, JudgesProof};
 ghost use Rattle.solver_cli.specs.Progress.{IsTold};
 
+use crate::excerpt::{Excerpt, NotedSource};
 use crate::reporting_source::ReportingSource;
 use cnf_base::Cnf;
 use command_line::ProofFormat;
 use drat_checker::{check_drat, check_drat_by};
 use drat_rules::Deletions;
-use host_io::{Host, HostSource, Role, Source, beside_kept};
+use host_io::{Host, Role, Source, beside_kept};
 use lrat_checker::{CheckError, Verdict, check};
 use std::alloc::Global;
 
-/// Opens the file of this name and judges the proof in it over the formula. Tells of the progress where that is asked for.
+/// Opens the file of this name and judges the proof in it over the formula. Tells of the progress where that is asked for; else the excerpt
+/// is that of the proof.
 pub fn judge<H: Host>(
     alloc: Global,
     host: &mut H,
@@ -28,6 +30,7 @@ pub fn judge<H: Host>(
     name: &str,
     format: ProofFormat,
     progress: bool,
+    excerpt: &mut Excerpt,
 ) -> Result<Verdict, CheckError>
     requires unread { (H.channel host.old ProofIn).name ≡ None }
     requires unnamed { (H.channel host.old ErrRole).name ≡ None }
@@ -40,9 +43,10 @@ pub fn judge<H: Host>(
         return Err(CheckError::ReadFault);
     }
     if progress {
+        excerpt.begin();
         check_telling(alloc, host, formula, format)
     } else {
-        check_opened(alloc, host, formula, format)
+        check_opened(alloc, host, formula, format, excerpt)
     }
 }
 
@@ -70,13 +74,14 @@ fn check_opened<H: Host>(
     host: &mut H,
     formula: &Cnf,
     format: ProofFormat,
+    excerpt: &mut Excerpt,
 ) -> Result<Verdict, CheckError>
     requires { (H.channel host.old ProofIn).name ≢ None }
     ensures checks { ChecksProof format H.tells (H.channel host.old ProofIn) (H.channel host.new ProofIn) formula.now.clauses result }
     ensures kept { Kept ProofIn None (H.channel host.old) (H.channel host.new) (H.files host.old) (H.files host.new) }
 {
     beside_kept::<H>();
-    let mut source = HostSource::new(host, Role::ProofIn);
+    let mut source = NotedSource::new(host, Role::ProofIn, excerpt);
     check_in(alloc, formula, format, &mut source)
 }
 

@@ -8,7 +8,8 @@ ghost use Rattle.schedule_plan.specs.declared.order_error.OrderError.TheVariants
 ghost use Rattle.command_line.specs.Reading.{text_of};
 ghost use Rattle.solver_cli.specs.Phases.{HasBuckets, HasOrder, ReadsOrder, TakesOrder};
 
-use host_io::{Host, HostSource, Role, beside_kept};
+use crate::excerpt::{Excerpt, NotedSource};
+use host_io::{Host, Role, beside_kept};
 use schedule_plan::{Order, OrderError};
 use std::alloc::Global;
 
@@ -18,6 +19,7 @@ pub fn take_order<H: Host>(
     host: &mut H,
     vars: u32,
     name: Option<&str>,
+    excerpt: &mut Excerpt,
 ) -> Result<Order, OrderError>
     requires { (H.channel host.old OrderRole).name ≡ None }
     ensures takes { HasOrder vars (text_of name.entry) H.tells (H.channel host.old OrderRole) (H.channel host.new OrderRole)
@@ -26,7 +28,7 @@ pub fn take_order<H: Host>(
     ensures kept { Kept OrderRole None (H.channel host.old) (H.channel host.new) (H.files host.old) (H.files host.new) }
 {
     match name {
-        Some(name) => take_named(alloc, host, Role::Order, vars, name),
+        Some(name) => take_named(alloc, host, Role::Order, vars, name, excerpt),
         None => natural_order(alloc, vars),
     }
 }
@@ -37,6 +39,7 @@ pub fn take_buckets<H: Host>(
     host: &mut H,
     vars: u32,
     name: Option<&str>,
+    excerpt: &mut Excerpt,
 ) -> Result<Option<Order>, OrderError>
     requires { (H.channel host.old BucketsRole).name ≡ None }
     ensures takes { HasBuckets vars (text_of name.entry) H.tells (H.channel host.old BucketsRole) (H.channel host.new BucketsRole)
@@ -45,7 +48,7 @@ pub fn take_buckets<H: Host>(
     ensures kept { Kept BucketsRole None (H.channel host.old) (H.channel host.new) (H.files host.old) (H.files host.new) }
 {
     match name {
-        Some(name) => match take_named(alloc, host, Role::Buckets, vars, name) {
+        Some(name) => match take_named(alloc, host, Role::Buckets, vars, name, excerpt) {
             Ok(order) => Ok(Some(order)),
             Err(error) => Err(error),
         },
@@ -69,6 +72,7 @@ fn take_named<H: Host>(
     role: Role,
     vars: u32,
     name: &str,
+    excerpt: &mut Excerpt,
 ) -> Result<Order, OrderError>
     requires input { IsInput role }
     requires unnamed { (H.channel host.old role).name ≡ None }
@@ -78,7 +82,7 @@ fn take_named<H: Host>(
     if host.open_read(role, name).is_err() {
         return Err(OrderError::ReadFault);
     }
-    read_order(alloc, host, role, vars)
+    read_order(alloc, host, role, vars, excerpt)
 }
 
 fn read_order<H: Host>(
@@ -86,6 +90,7 @@ fn read_order<H: Host>(
     host: &mut H,
     role: Role,
     vars: u32,
+    excerpt: &mut Excerpt,
 ) -> Result<Order, OrderError>
     requires input { IsInput role }
     requires opened { (H.channel host.old role).name ≢ None }
@@ -93,6 +98,6 @@ fn read_order<H: Host>(
     ensures kept { Kept role None (H.channel host.old) (H.channel host.new) (H.files host.old) (H.files host.new) }
 {
     beside_kept::<H>();
-    let mut source = HostSource::new(host, role);
+    let mut source = NotedSource::new(host, role, excerpt);
     Order::read(alloc, vars, &mut source)
 }

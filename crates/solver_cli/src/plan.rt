@@ -14,10 +14,11 @@ ghost use Rattle.solver_cli.specs.Phases.{Finds, HasPlan, ReadsSchedule, Schedul
 ghost use Rattle.solver_cli.specs.Progress.{Comments, Notes};
 
 use crate::basis::Basis;
+use crate::excerpt::{Excerpt, NotedSource};
 use crate::reporting_search::ReportingSearch;
 use cnf_base::Cnf;
 use command_line::{PlanName, PlanSource};
-use host_io::{Host, HostSource, Role, beside_kept};
+use host_io::{Host, Role, beside_kept};
 use plan_search::{FoundPlan, NoObserver, Observer, find_plan};
 use schedule_plan::{Limits, Order, Plan, PlanError};
 use std::alloc::Global;
@@ -33,7 +34,8 @@ pub fn buckets_name<'a>(asked: &PlanSource<'a>) -> Option<&'a str>
 }
 
 /// The plan that is asked for, over the formula, with the order of the diagrams: the given one, or where both are to be found,
-/// the one that is found. The buckets' order is there where its file is named. A search is told, if progress is.
+/// the one that is found. The buckets' order is there where its file is named. A search is told, if progress is; its trials add up
+/// the parity equations first, where the run does.
 pub fn take_plan<H: Host>(
     alloc: Global,
     host: &mut H,
@@ -42,6 +44,8 @@ pub fn take_plan<H: Host>(
     buckets: Option<Order>,
     asked: &PlanSource<'_>,
     limits: Limits,
+    parity: bool,
+    excerpt: &mut Excerpt,
     is_telling: &mut bool,
 ) -> Result<Basis, PlanError>
     requires unnamed { (H.channel host.old ScheduleRole).name ≡ None }
@@ -58,9 +62,11 @@ pub fn take_plan<H: Host>(
 {
     match asked {
         PlanSource::Search if *is_telling => {
-            search_telling(alloc, host, formula, given, limits, is_telling)
+            search_telling(alloc, host, formula, given, limits, parity, is_telling)
         }
-        _ => take_silently(alloc, host, formula, given, buckets, asked, limits),
+        _ => take_silently(
+            alloc, host, formula, given, buckets, asked, limits, parity, excerpt,
+        ),
     }
 }
 
@@ -71,6 +77,7 @@ fn search_telling<H: Host>(
     formula: &Cnf,
     given: Order,
     limits: Limits,
+    parity: bool,
     is_telling: &mut bool,
 ) -> Result<Basis, PlanError>
     requires unnamed_error { (H.channel host.old ErrRole).name ≡ None }
@@ -83,7 +90,7 @@ fn search_telling<H: Host>(
     ensures kept { KeptButTwo ScheduleRole ErrRole None (H.channel host.old) (H.channel host.new) (H.files host.old) (H.files host.new) }
 {
     let mut search = ReportingSearch::new(host);
-    let result = plan_found(alloc, formula, given, limits, &mut search);
+    let result = plan_found(alloc, formula, given, limits, parity, &mut search);
     *is_telling = search.is_telling;
     let _host = search.close();
     result
@@ -98,6 +105,8 @@ fn take_silently<H: Host>(
     buckets: Option<Order>,
     asked: &PlanSource<'_>,
     limits: Limits,
+    parity: bool,
+    excerpt: &mut Excerpt,
 ) -> Result<Basis, PlanError>
     requires unnamed { (H.channel host.old ScheduleRole).name ≡ None }
     requires one_each { length given ≡ formula.now.vars }
@@ -111,12 +120,12 @@ fn take_silently<H: Host>(
 {
     match asked {
         PlanSource::Name(name) => plan_named(alloc, *name, formula, given),
-        PlanSource::Schedule(file) => take_schedule(alloc, host, formula, given, file),
+        PlanSource::Schedule(file) => take_schedule(alloc, host, formula, given, file, excerpt),
         PlanSource::Buckets(_) => match buckets {
             Some(order) => plan_by(alloc, formula, given, &order),
             None => plan_named(alloc, PlanName::Bucket, formula, given),
         },
-        PlanSource::Search => plan_found(alloc, formula, given, limits, &mut NoObserver),
+        PlanSource::Search => plan_found(alloc, formula, given, limits, parity, &mut NoObserver),
     }
 }
 
@@ -156,6 +165,7 @@ fn plan_found<O: Observer>(
     formula: &Cnf,
     given: Order,
     limits: Limits,
+    parity: bool,
     observer: &mut O,
 ) -> Result<Basis, PlanError>
     requires one_each { length given ≡ formula.now.vars }
@@ -165,7 +175,7 @@ fn plan_found<O: Observer>(
     ensures refused { IfErr result (λ error. error ≡ OutOfMemory) }
     ensures beside { O.beside observer.new ≡ O.beside observer.old }
 {
-    let FoundPlan { order, plan } = find_plan(alloc, formula, given, limits, observer)?;
+    let FoundPlan { order, plan } = find_plan(alloc, formula, given, limits, parity, observer)?;
     let _variables = order.as_slice();
     Ok(Basis { order, plan })
 }
@@ -177,13 +187,14 @@ fn take_schedule<H: Host>(
     formula: &Cnf,
     given: Order,
     name: &str,
+    excerpt: &mut Excerpt,
 ) -> Result<Basis, PlanError>
     requires { (H.channel host.old ScheduleRole).name ≡ None }
     ensures takes { Schedules formula.now given H.tells (H.channel host.old ScheduleRole) (H.channel host.new ScheduleRole)
         (H.files host.old) name.now result }
     ensures kept { Kept ScheduleRole None (H.channel host.old) (H.channel host.new) (H.files host.old) (H.files host.new) }
 {
-    match take_moves(alloc, host, formula, name) {
+    match take_moves(alloc, host, formula, name, excerpt) {
         Ok(plan) => Ok(Basis { order: given, plan }),
         Err(error) => Err(error),
     }
@@ -194,6 +205,7 @@ fn take_moves<H: Host>(
     host: &mut H,
     formula: &Cnf,
     name: &str,
+    excerpt: &mut Excerpt,
 ) -> Result<Plan, PlanError>
     requires { (H.channel host.old ScheduleRole).name ≡ None }
     ensures takes { TakesSchedule formula.now H.tells (H.channel host.old ScheduleRole) (H.channel host.new ScheduleRole)
@@ -203,15 +215,20 @@ fn take_moves<H: Host>(
     if host.open_read(Role::Schedule, name).is_err() {
         return Err(PlanError::ReadFault);
     }
-    read_schedule(alloc, host, formula)
+    read_schedule(alloc, host, formula, excerpt)
 }
 
-fn read_schedule<H: Host>(alloc: Global, host: &mut H, formula: &Cnf) -> Result<Plan, PlanError>
+fn read_schedule<H: Host>(
+    alloc: Global,
+    host: &mut H,
+    formula: &Cnf,
+    excerpt: &mut Excerpt,
+) -> Result<Plan, PlanError>
     requires { (H.channel host.old ScheduleRole).name ≢ None }
     ensures reads { ReadsSchedule formula.now H.tells (H.channel host.old ScheduleRole) (H.channel host.new ScheduleRole) result }
     ensures kept { Kept ScheduleRole None (H.channel host.old) (H.channel host.new) (H.files host.old) (H.files host.new) }
 {
     beside_kept::<H>();
-    let mut source = HostSource::new(host, Role::Schedule);
+    let mut source = NotedSource::new(host, Role::Schedule, excerpt);
     Plan::read(alloc, formula, &mut source)
 }

@@ -30,6 +30,8 @@ use crate::arrangement::{order_by, put_order};
 use crate::asking::ask;
 use crate::complaint::complain;
 use crate::conversion::rewrite;
+use crate::excerpt::Excerpt;
+use crate::explaining::explain;
 use crate::formula::take_formula;
 use crate::job::Job;
 use crate::judgement::judge;
@@ -44,7 +46,7 @@ use crate::verdict::{put_trimmed, put_verdict, verdict_status};
 use cnf_base::Cnf;
 use command_line::{
     Asked, BenchTask, CheckTask, ConvertTask, MakeTask, OrderTask, Refusal, SolveTask, TrimTask,
-    gather, read_words,
+    asks_to_explain, gather, read_words,
 };
 use drat_checker::check_drat_law;
 use host_io::{Host, MemoryHost, Role as HostRole};
@@ -57,7 +59,7 @@ use std::io::ErrorKind;
 use std::process::ExitCode;
 use workload::board;
 
-fn work<H: Host>(alloc: Global, words: &[String], host: &mut H) -> Status
+fn work<H: Host>(alloc: Global, words: &[String], host: &mut H, excerpt: &mut Excerpt) -> Status
     requires unnamed { (role : Role) → (H.channel host.old role).name ≡ None }
     ensures stages { Stages H.tells (map string_bytes words.now) (streams_of (H.channel host.old)) (streams_of (H.channel host.new))
         (H.files host.old) result }
@@ -66,14 +68,14 @@ fn work<H: Host>(alloc: Global, words: &[String], host: &mut H) -> Status
     ensures files { FilesBeside (H.channel host.new ProofOut).name (H.channel host.new Made).name (H.files host.old) (H.files host.new) }
 {
     match read_words(alloc, words) {
-        Ok(Asked::Solve(task)) => solve(alloc, &task, host),
-        Ok(Asked::Check(task)) => check(alloc, &task, host),
+        Ok(Asked::Solve(task)) => solve(alloc, &task, host, excerpt),
+        Ok(Asked::Check(task)) => check(alloc, &task, host, excerpt),
         Ok(Asked::Bench(task)) => bench(alloc, &task, host),
         Ok(Asked::Make(task)) => make(alloc, &task, host),
-        Ok(Asked::Order(task)) => arrange(alloc, &task, host),
-        Ok(Asked::Ask(task)) => ask(alloc, &task, host),
-        Ok(Asked::Convert(task)) => convert(alloc, &task, host),
-        Ok(Asked::Trim(task)) => trim(alloc, &task, host),
+        Ok(Asked::Order(task)) => arrange(alloc, &task, host, excerpt),
+        Ok(Asked::Ask(task)) => ask(alloc, &task, host, excerpt),
+        Ok(Asked::Convert(task)) => convert(alloc, &task, host, excerpt),
+        Ok(Asked::Trim(task)) => trim(alloc, &task, host, excerpt),
         Err(Refusal::Help(text)) => show_help(&text, host),
         Err(Refusal::Usage) => Status::Usage,
         Err(Refusal::OutOfMemory) => Status::OutOfMemory,
@@ -93,7 +95,12 @@ fn show_help<H: Host>(text: &str, host: &mut H) -> Status
 
 // Reads the formula, the order and the plan, and answers. All reading is over before the proof's file is created, so that
 // none is where a text is refused or memory runs out by then.
-fn solve<H: Host>(alloc: Global, asked: &SolveTask<'_>, host: &mut H) -> Status
+fn solve<H: Host>(
+    alloc: Global,
+    asked: &SolveTask<'_>,
+    host: &mut H,
+    excerpt: &mut Excerpt,
+) -> Status
     requires unnamed { (role : Role) → (H.channel host.old role).name ≡ None }
     requires limits { AreLimits asked.now.limits }
     ensures came { Came H.tells (streams_of (H.channel host.old)) (streams_of (H.channel host.new)) (H.files host.old)
@@ -101,15 +108,21 @@ fn solve<H: Host>(alloc: Global, asked: &SolveTask<'_>, host: &mut H) -> Status
     ensures told { IsTold asked.now.progress H.tells (H.channel host.old ErrRole) (H.channel host.new ErrRole) }
     ensures files { FilesBut (H.channel host.new ProofOut).name (H.files host.old) (H.files host.new) }
 {
-    let formula = match take_formula(alloc, host, asked.files.formula, asked.mode) {
+    let formula = match take_formula(alloc, host, asked.files.formula, asked.mode, excerpt) {
         Ok(formula) => formula,
         Err(error) => return Status::from(error),
     };
-    let order = match take_order(alloc, host, formula.vars(), asked.order) {
+    let order = match take_order(alloc, host, formula.vars(), asked.order, excerpt) {
         Ok(order) => order,
         Err(error) => return Status::from(error),
     };
-    let buckets = match take_buckets(alloc, host, formula.vars(), buckets_name(&asked.plan)) {
+    let buckets = match take_buckets(
+        alloc,
+        host,
+        formula.vars(),
+        buckets_name(&asked.plan),
+        excerpt,
+    ) {
         Ok(buckets) => buckets,
         Err(error) => return buckets_status(error),
     };
@@ -122,6 +135,8 @@ fn solve<H: Host>(alloc: Global, asked: &SolveTask<'_>, host: &mut H) -> Status
         buckets,
         &asked.plan,
         asked.limits,
+        asked.parity,
+        excerpt,
         &mut is_telling,
     ) {
         Ok(basis) => basis,
@@ -226,14 +241,19 @@ fn make<H: Host>(alloc: Global, asked: &MakeTask<'_>, host: &mut H) -> Status
 }
 
 // Reads the formula, makes an order of its variables, and writes its text to the file that is named.
-fn arrange<H: Host>(alloc: Global, asked: &OrderTask<'_>, host: &mut H) -> Status
+fn arrange<H: Host>(
+    alloc: Global,
+    asked: &OrderTask<'_>,
+    host: &mut H,
+    excerpt: &mut Excerpt,
+) -> Status
     requires unnamed { (role : Role) → (H.channel host.old role).name ≡ None }
     ensures came { CameToArrange H.tells (streams_of (H.channel host.old)) (streams_of (H.channel host.new)) (H.files host.old)
         (arrange_of asked.now) result }
     ensures error { H.channel host.new ErrRole ≡ H.channel host.old ErrRole }
     ensures files { FilesBut (H.channel host.new Made).name (H.files host.old) (H.files host.new) }
 {
-    let formula = match take_formula(alloc, host, asked.formula, asked.mode) {
+    let formula = match take_formula(alloc, host, asked.formula, asked.mode, excerpt) {
         Ok(formula) => formula,
         Err(error) => return Status::from(error),
     };
@@ -249,14 +269,19 @@ fn arrange<H: Host>(alloc: Global, asked: &OrderTask<'_>, host: &mut H) -> Statu
 }
 
 // Reads the formula, judges the proof over it by the rules of its format and prints the verdict.
-fn check<H: Host>(alloc: Global, asked: &CheckTask<'_>, host: &mut H) -> Status
+fn check<H: Host>(
+    alloc: Global,
+    asked: &CheckTask<'_>,
+    host: &mut H,
+    excerpt: &mut Excerpt,
+) -> Status
     requires unnamed { (role : Role) → (H.channel host.old role).name ≡ None }
     ensures came { CameToCheck H.tells (streams_of (H.channel host.old)) (streams_of (H.channel host.new)) (H.files host.old)
         (check_of asked.now) result }
     ensures told { IsTold asked.now.progress H.tells (H.channel host.old ErrRole) (H.channel host.new ErrRole) }
     ensures files { FilesBut None (H.files host.old) (H.files host.new) }
 {
-    let problem = match take_formula(alloc, host, asked.files.formula, asked.mode) {
+    let problem = match take_formula(alloc, host, asked.files.formula, asked.mode, excerpt) {
         Ok(problem) => problem,
         Err(error) => return Status::from(error),
     };
@@ -267,6 +292,7 @@ fn check<H: Host>(alloc: Global, asked: &CheckTask<'_>, host: &mut H) -> Status
         asked.files.proof,
         asked.format,
         asked.progress,
+        excerpt,
     ) {
         Ok(verdict) => verdict,
         Err(error) => return Status::from(error),
@@ -275,18 +301,24 @@ fn check<H: Host>(alloc: Global, asked: &CheckTask<'_>, host: &mut H) -> Status
     ended_by(verdict_status(verdict), printed)
 }
 
-// Reads the formula, judges the proof over it, writes it in the other format and prints the verdict.
-fn convert<H: Host>(alloc: Global, asked: &ConvertTask<'_>, host: &mut H) -> Status
+// Reads the formula, judges the proof over it, writes it in the other format and prints the verdict. The proof gives no excerpt.
+fn convert<H: Host>(
+    alloc: Global,
+    asked: &ConvertTask<'_>,
+    host: &mut H,
+    excerpt: &mut Excerpt,
+) -> Status
     requires unnamed { (role : Role) → (H.channel host.old role).name ≡ None }
     ensures came { CameToConvert H.tells (streams_of (H.channel host.old)) (streams_of (H.channel host.new)) (H.files host.old)
         (convert_of asked.now) result }
     ensures error { H.channel host.new ErrRole ≡ H.channel host.old ErrRole }
     ensures files { FilesBut (H.channel host.new ProofOut).name (H.files host.old) (H.files host.new) }
 {
-    let problem = match take_formula(alloc, host, asked.files.formula, asked.mode) {
+    let problem = match take_formula(alloc, host, asked.files.formula, asked.mode, excerpt) {
         Ok(problem) => problem,
         Err(error) => return Status::from(error),
     };
+    excerpt.begin();
     let verdict = match rewrite(
         alloc,
         host,
@@ -304,18 +336,18 @@ fn convert<H: Host>(alloc: Global, asked: &ConvertTask<'_>, host: &mut H) -> Sta
 
 // Reads the formula, judges the proof over it, and writes what the refutation needs of a verified one, and its core, where a file is named
 // for it. All growth is over before a file is created, so that a run out of memory leaves none.
-fn trim<H: Host>(alloc: Global, asked: &TrimTask<'_>, host: &mut H) -> Status
+fn trim<H: Host>(alloc: Global, asked: &TrimTask<'_>, host: &mut H, excerpt: &mut Excerpt) -> Status
     requires unnamed { (role : Role) → (H.channel host.old role).name ≡ None }
     ensures came { CameToTrim H.tells (streams_of (H.channel host.old)) (streams_of (H.channel host.new)) (H.files host.old)
         (trim_of asked.now) result }
     ensures error { H.channel host.new ErrRole ≡ H.channel host.old ErrRole }
     ensures files { FilesBeside (H.channel host.new ProofOut).name (H.channel host.new Made).name (H.files host.old) (H.files host.new) }
 {
-    let problem = match take_formula(alloc, host, asked.files.formula, asked.mode) {
+    let problem = match take_formula(alloc, host, asked.files.formula, asked.mode, excerpt) {
         Ok(problem) => problem,
         Err(error) => return Status::from(error),
     };
-    let trimmed = match trim_proof(alloc, host, &problem, asked.files.proof) {
+    let trimmed = match trim_proof(alloc, host, &problem, asked.files.proof, excerpt) {
         Ok(trimmed) => trimmed,
         Err(error) => return Status::from(error),
     };
@@ -392,7 +424,9 @@ pub fn run<H: Host>(alloc: Global, words: &[String], host: &mut H) -> Status
     check_law();
     check_drat_law();
     trim_law();
-    let status = work(alloc, words, host);
+    let mut excerpt = Excerpt::new(asks_to_explain(words));
+    let status = work(alloc, words, host, &mut excerpt);
+    explain(alloc, words, host, status, &excerpt);
     complain(host, status);
     status
 }

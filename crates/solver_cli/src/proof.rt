@@ -16,7 +16,7 @@ use lrat_rules::derivation_law;
 use parity_runs::run_with_parity;
 use schedule_plan::{Order, Plan};
 use std::alloc::Global;
-use term_runner::{Gauge, Limits, Run, RunError, run_plan_shown};
+use term_runner::{Gauge, Limits, Run, RunError, Watch, run_plan_into};
 
 /// Decides the formula and writes the proof of the answer in the role that was created for it. Tells of the progress, if it is told.
 pub fn prove<H: Host>(
@@ -73,9 +73,10 @@ fn prove_telling<H: Host>(
         (H.files host.old) (H.files host.new) }
 {
     let gauge = Gauge::new(plan.len());
+    let mut watch = Watch::on(&gauge);
     let mut sink = ReportingSink::new(host, &gauge, formula.len() as u64);
     let result = decide(
-        alloc, formula, order, plan, limits, parity, &mut sink, &gauge,
+        alloc, formula, order, plan, limits, parity, &mut sink, &mut watch,
     );
     report_end(&mut sink, &gauge, &result);
     *is_telling = sink.is_telling;
@@ -121,10 +122,10 @@ fn prove_silently<H: Host>(
         (H.files host.new) }
 {
     beside_kept::<H>();
-    let gauge = Gauge::new(plan.len());
+    let mut watch = Watch::new();
     let mut sink = HostSink::new(host, Role::ProofOut);
     decide(
-        alloc, formula, order, plan, limits, parity, &mut sink, &gauge,
+        alloc, formula, order, plan, limits, parity, &mut sink, &mut watch,
     )
 }
 
@@ -136,19 +137,20 @@ fn decide<S: Sink + Drop>(
     limits: Limits,
     parity: bool,
     sink: &mut S,
-    gauge: &Gauge,
+    watch: &mut Watch<'_>,
 ) -> Result<Run, RunError>
     requires fresh { (S.channel sink.old).written ≡ [] }
     requires order { length order.now ≡ formula.now.vars }
     requires plan { IsAdmissible formula.now plan.now }
     requires limits { AreLimits limits }
+    requires begun { watch.old.moves ≡ 0 }
     ensures writes { WritesProof parity S.tells (S.channel sink.old) (S.channel sink.new) formula.now order.now plan.now limits result }
     ensures beside { S.beside sink.new ≡ S.beside sink.old }
 {
     derivation_law();
     if parity {
-        run_with_parity(alloc, formula, order, plan, limits, sink)
+        run_with_parity(alloc, formula, order, plan, limits, sink, watch)
     } else {
-        run_plan_shown(alloc, formula, order, plan, limits, sink, gauge)
+        run_plan_into(alloc, formula, order, plan, limits, sink, watch)
     }
 }

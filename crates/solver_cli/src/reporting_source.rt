@@ -4,6 +4,7 @@ ghost use Rattle.host_io.specs.declared.role.Role.TheVariants.{ProofIn, Err as E
 ghost use Rattle.solver_cli.specs.Progress.{Comments, beside_reported, serves_read};
 
 use crate::comment::Comment;
+use crate::excerpt::line_ends;
 use crate::notes::line_note;
 use crate::telling::tell;
 use host_io::{Failed, Host, Role, Source};
@@ -104,14 +105,4 @@ impl<H: Host> Source for ReportingSource<'_, H> {
         self.pass(&buf[..read]);
         Ok(read)
     }
-}
-
-fn line_ends(bytes: &[u8]) -> u64 {
-    let mut ends: u64 = 0;
-    for byte in bytes {
-        if *byte == b'\n' {
-            ends = ends.wrapping_add(1);
-        }
-    }
-    ends
 }

@@ -21,7 +21,8 @@ pub fn tell<H: Host>(host: &mut H, is_telling: &mut bool, comment: Comment)
     }
 }
 
-fn put_line<H: Host>(host: &mut H, line: &[u8]) -> Result<(), Failed>
+/// Writes these lines on standard error and flushes it.
+pub(crate) fn put_line<H: Host>(host: &mut H, line: &[u8]) -> Result<(), Failed>
     ensures puts { PutsText H.tells (H.channel host.old ErrRole) (H.channel host.new ErrRole) line.now result }
     ensures kept { Kept ErrRole (H.channel host.old ErrRole).name (H.channel host.old) (H.channel host.new) (H.files host.old)
         (H.files host.new) }

@@ -30,11 +30,11 @@ use Rattle.term_runner.specs.Opened.{BreaksKind, Decides, HasEmpty, LeavesKind}
 use Rattle.term_runner.specs.Price.{IsLeanAtEnd, IsMovePrice, IsPaid, IsPaidSince}
 use Rattle.term_runner.specs.Recovered.{IsRecovered}
 use Rattle.term_runner.specs.Tidy.{LeavesReached}
-use Rattle.term_runner.specs.Width.{HasWidth}
+use Rattle.term_runner.specs.Width.{HasWidth, keeps_trail}
 use Rattle.term_runner.proofs.FirstEmpty.{full_at}
 use Rattle.term_runner.proofs.Listed.{key_at, listed, some_of}
 use Rattle.term_runner.proofs.NoEmpty.{fewer_empty, fewer_left, further_empty, no_change, same_empty}
-use Rattle.term_runner.proofs.OneLine.{Unused, empty_is_open, some_price}
+use Rattle.term_runner.proofs.AtStart.{Unused, empty_is_open, some_price}
 use Rattle.term_runner.proofs.Opening.{StartClauses}
 use Rattle.term_runner.proofs.Paid.{InUse, Lean, kind_behind, lean_here, none_added, paid_there}
 
@@ -336,7 +336,7 @@ module _ {S : Type 0} (lean : Lean S) (uses : InUse) (formula : Formula) (moves 
         → ((width price : ℕ) → HasWidth formula mid.graph.order moves width → IsMovePrice (levels mid.graph) size width price
         → LeavesKind mid new (IsPaid (levels mid.graph) mid.inputs mid.book.state.top (length moves) size width price) (error_of result))
         → IfOk result (λ found. IsSome found → IsLeanAtEnd (levels mid.graph) mid.inputs size new.book.state)
-        → (result ≡ Err NodeLimit → RunsShort formula mid.graph.order moves new.graph)
+        → (result ≡ Err NodeLimit → RunsShort (keeps_trail mid.max_nodes) formula mid.graph.order moves new.graph)
         → IfErr result (λ e. e ≢ WriteFault → AddsNoEmpty mid new) → Decides formula moves size old new result
     decides_moves result found leaves paid lean_at_end short no_empty = record {
       found = found_of result leaves found;
@@ -352,6 +352,7 @@ module _ {S : Type 0} (lean : Lean S) (uses : InUse) (formula : Formula) (moves 
           (paid width price (subst (λ (order : List ℕ). HasWidth formula order moves width) (sym more.order) has)
           (subst (λ (vars : ℕ). IsMovePrice vars size width price) (sym (ap length more.order)) is));
       lean = lean_of result lean_at_end;
-      short = λ e. subst (λ (order : List ℕ). RunsShort formula order moves new.graph) more.order (short e);
+      short = λ e. subst (λ (most : ℕ). RunsShort (keeps_trail most) formula old.graph.order moves new.graph) more.max_nodes
+          (subst (λ (order : List ℕ). RunsShort (keeps_trail mid.max_nodes) formula order moves new.graph) more.order (short e));
       no_empty = none_came result no_empty;
     }

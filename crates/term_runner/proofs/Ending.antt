@@ -22,9 +22,9 @@ use Rattle.term_runner.specs.declared.outcome.Run.{Run}
 use Rattle.term_runner.specs.Clauses.{is_tautology}
 use Rattle.term_runner.specs.Price.{AreAmpleFrom, IsDecision, IsMovePrice, IsPaidFor, IsPaidFrom}
 use Rattle.term_runner.specs.Proofs.{IsProof, IsProofOfKind, IsProofSoFarOfKind, LeadsTo, UsesVariables}
-use Rattle.term_runner.specs.Width.{HasWidth}
+use Rattle.term_runner.specs.Width.{HasWidth, HasWidthWith, keeps_trail}
 use Rattle.term_runner.specs.Ends.{Ends, EndsFrom, Says, Shows, ShowsFrom, outcome_of}
-use Rattle.term_runner.specs.Opened.{EndsWithin, EndsWithinFrom, IsBehind, IsFlushed, Leads}
+use Rattle.term_runner.specs.Opened.{EndsWithinFrom, IsBehind, IsFlushed, Leads}
 
 -- in step the bytes are a proof of what is live
 pub written_of : {S : Type 0} (tells : Bool) (before after : Channel) (clauses : List (List ℤ)) (book : Book S)
@@ -111,7 +111,8 @@ module _ (first : ℕ) (tells : Bool) (before mid after : Channel) (formula : Fo
   -- what stands of a run before the flush
   pub record Shown (run : Run) : Type 0 where
     pub says : Says formula order moves limits run.outcome
-    pub certain : (width price : ℕ) → HasWidth formula order moves width → IsMovePrice formula.vars limits.cache width price
+    pub certain : (width price : ℕ) → HasWidthWith (keeps_trail limits.max_nodes) formula order moves width
+        → IsMovePrice formula.vars limits.cache width price
         → AreAmpleFrom first limits moves width price → IsDecision run.outcome
     pub shows : IsTrue tells → ShowsFrom first formula limits mid.written run.outcome
     pub last : IsTrue tells → LeadsTo formula limits mid.written run.last_id
@@ -292,10 +293,6 @@ module _ (tells : Bool) (before after : Channel) (formula : Formula) (order : Li
     name = ends.name;
     faults = ends.faults;
   }
-
-  pub within_at_start : (result : Result Run RunError) → EndsWithinFrom start_is tells before after formula order moves limits result
-      → EndsWithin tells before after formula order moves limits result
-  within_at_start result within = record { ends = ends_at_start result within.ends; last = within.last }
 
 -- the end where memory ran out before the moves
 pub nothing_ends : (tells : Bool) (before after : Channel) (formula : Formula) (order : List ℕ) (moves : List Move) (limits : Limits)

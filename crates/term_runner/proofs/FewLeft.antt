@@ -1,11 +1,10 @@
--- A reclamation leaves no more nodes than there are parts in hand at the move before it, or behind it.
-use Rattle.std.proofs.Common.{◌≡◌, ◌≤◌, ◌<◌, ◌⊎◌, ◌-◌, ◌++◌, ℕ, Bool, true, zero, suc, List, [], ◌∷◌, map, take, length, Some, Contains}
+-- A reclamation that keeps no term of the trail leaves no more nodes than there are parts in hand at the move before it, or behind it.
+use Rattle.std.proofs.Common.{◌≡◌, ◌≤◌, ◌<◌, ◌⊎◌, ◌-◌, ◌++◌, ℕ, Bool, true, false, zero, suc, List, [], ◌∷◌, take, length, Some, Contains}
 use Rattle.std.proofs.Common.{is_some, refl, sym, ap, ◌∙◌}
 use Rattle.std.proofs.Common.{subst, arith, inl, inr}
 use Rattle.std.specs.FinMap as finmap
 use Rattle.std.proofs.lemmas.Bool.{cases_lt}
-use Rattle.std.proofs.lemmas.List.{length-append, map-append}
-use Rattle.std.proofs.lemmas.List.Elements.{Contains-append_cases, Contains-append_right}
+use Rattle.std.proofs.lemmas.List.{length-append}
 use Rattle.cnf_base.specs.Formula.{Formula}
 use Rattle.node_table.specs.declared.node.Branch.{Branch}
 use Rattle.node_table.specs.Diagram.{IsOrder, branch_at}
@@ -15,28 +14,27 @@ use Rattle.schedule_plan.specs.declared.plan.Move.{Move}
 use Rattle.schedule_plan.specs.declared.plan.Move.TheVariants.{Push, And, Exists, ExistsAll}
 use Rattle.schedule_plan.specs.Plan.{Stage, Term, after_move}
 use Rattle.term_runner.specs.Tidy.{WereLeft}
-use Rattle.schedule_plan.specs.SetMove.{IsGiven}
 use Rattle.term_runner.specs.Nodes.{IsGivenPart}
 use Rattle.term_runner.specs.Width.{HoldsAtMost, IsInHand, IsPartInHand, part_at, term_function}
-use Rattle.term_runner.proofs.InHand.{IsThere, in_hand_before, left_part}
+use Rattle.term_runner.proofs.InHand.{left_part}
 use Rattle.term_runner.proofs.Listed.{differ_at, essential_at, function_at, functions_of, key_at, length-functions, listed, some_of}
 use Rattle.term_runner.proofs.SetStages.{after_set, none_quantified}
 use Rattle.term_runner.proofs.Taking.{and_of, exists_of, push_of}
 
 module _ (law : Subfunctions) (canonical : Canonical) (formula : Formula) (order : List ℕ) (ordered : IsOrder order)
-    (first last stage : Stage) (in_hand : (term : Term) → IsThere stage term → IsInHand first last term)
-    (left : ℕ) (were : WereLeft formula order stage left) where
+    (first last stage : Stage) (in_hand : (term : Term) → Contains stage.stack term → IsInHand false first last term)
+    (left : ℕ) (were : WereLeft false formula order stage left) where
   abbrev es : List (ℕ × Branch)
   es = finmap.entries were.graph.nodes
 
   stands : (place : ℕ) → place < length es → is_some (branch_at were.graph (key_at es place)) ≡ true
   stands place small = finmap.contains_key-keys were.graph.nodes (key_at es place) ∙ listed es place small
 
-  part : (place : ℕ) → place < length es → IsPartInHand formula order first last (part_at (functions_of were.graph es) place)
+  part : (place : ℕ) → place < length es → IsPartInHand false formula order first last (part_at (functions_of were.graph es) place)
   part place small =
       let found = some_of (branch_at were.graph (key_at es place)) (stands place small) in
-      subst (IsPartInHand formula order first last) (sym (function_at were.graph es place small))
-      (left_part formula order ordered stage left were law first last in_hand (key_at es place) found.0 found.1)
+      subst (IsPartInHand false formula order first last) (sym (function_at were.graph es place small))
+      (inl (left_part false formula order ordered stage left were law false first last in_hand (key_at es place) found.0 found.1))
 
   pub few_left : (width : ℕ) → HoldsAtMost formula order first last width → left ≤ width
   few_left width most = elim (cases_lt width left) [
@@ -70,89 +68,61 @@ first_or x xs y (suc k, small, at) = inr (k, omega (arith, small), at)
 pub in_front : (first second : Term) (rest : List Term) → Contains (first ∷ second ∷ rest) second
 in_front first second rest = (1, omega arith, refl)
 
--- a move's result is what it gives, and so is what it puts on the trail
-pub result_given : (before after : Stage) (top : Term) (rest : List Term) → after.stack ≡ top ∷ rest → IsGiven before after top
-result_given before after top rest same =
-    subst (λ (s : List Term). Contains (take 1 s ++ map (λ (k : ℕ × Term). k.1)
-    (take (length after.trail - length before.trail) after.trail)) top) (sym same) (zero, omega arith, refl)
+-- a move's result
+pub result_given : (after : Stage) (top : Term) (rest : List Term) → after.stack ≡ top ∷ rest → Contains (take 1 after.stack) top
+result_given after top rest same = subst (λ (s : List Term). Contains (take 1 s) top) (sym same) (zero, omega arith, refl)
 
 pub result_part : (formula : Formula) (order : List ℕ) (before after : Stage) (top : Term) (rest : List Term) → after.stack ≡ top ∷ rest
     → (part : Levels → Bool) → IsSubfunction (term_function formula order top) part → IsGivenPart formula order before after part
 result_part formula order before after top rest same part is =
-    record { term = top; is_given = result_given before after top rest same; is_part = is }
+    inl (record { term = top; is_result = result_given after top rest same; is_part = is })
 
 take_front : (xs ys : List (ℕ × Term)) → take (length xs) (xs ++ ys) ≡ xs
 take_front [] ys = refl
 take_front (x ∷ xs) ys = ap (λ (l : List (ℕ × Term)). x ∷ l) (take_front xs ys)
 
-pub fresh_given : (before after : Stage) (fresh : List (ℕ × Term)) (term : Term) → after.trail ≡ fresh ++ before.trail
-    → Contains (map (λ (k : ℕ × Term). k.1) fresh) term → IsGiven before after term
-fresh_given before after fresh term same there =
+-- what a move puts on the trail
+pub fresh_given : (before after : Stage) (fresh : List (ℕ × Term)) (kept : ℕ × Term) → after.trail ≡ fresh ++ before.trail
+    → Contains fresh kept → Contains (take (length after.trail - length before.trail) after.trail) kept
+fresh_given before after fresh kept same there =
     let count : length (fresh ++ before.trail) - length before.trail ≡ length fresh = omega (arith, length-append fresh before.trail) in
     let front : take (length after.trail - length before.trail) after.trail ≡ fresh =
     (λ k. take (length (same k) - length before.trail) (same k))
     ∙ ap (λ (n : ℕ). take n (fresh ++ before.trail)) count ∙ take_front fresh before.trail in
-    Contains-append_right (take 1 after.stack) (map (λ (k : ℕ × Term). k.1)
-    (take (length after.trail - length before.trail) after.trail)) term
-    (subst (λ (l : List (ℕ × Term)). Contains (map (λ (k : ℕ × Term). k.1) l) term) (sym front) there)
+    subst (λ (l : List (ℕ × Term)). Contains l kept) (sym front) there
 
--- a term behind a move is in hand at it
+-- a term that is stacked behind a move is in hand at it
 pub in_hand_behind : (formula : Formula) (before after : Stage) (step : Move) → after_move formula before step ≡ Some after → (term : Term)
-    → IsThere after term → IsInHand before after term
+    → Contains after.stack term → IsInHand false before after term
 in_hand_behind formula before after (Push i) leads term there =
     let push = push_of formula before after (Push i) i refl leads in
-    elim there [
-      | inl stacked ↦ elim (first_or _ before.stack term (subst (λ (s : List Term). Contains s term) push.stack stacked)) [
-        | inl is ↦ inr (inr (subst (IsGiven before after) is (result_given before after _ before.stack push.stack)))
-        | inr was ↦ inl was
-      ]
-      | inr kept ↦ inr (inl (subst (λ (t : List (ℕ × Term)). Contains (map (λ (k : ℕ × Term). k.1) t) term) push.trail kept))
+    elim (first_or _ before.stack term (subst (λ (s : List Term). Contains s term) push.stack there)) [
+      | inl is ↦ inr (subst (Contains (take 1 after.stack)) is (result_given after _ before.stack push.stack))
+      | inr was ↦ inl was
     ]
 in_hand_behind formula before after And leads term there =
     let conjoined = and_of formula before after And refl leads in
-    elim there [
-      | inl stacked ↦ elim (first_or _ conjoined.rest term (subst (λ (s : List Term). Contains s term) conjoined.after stacked)) [
-        | inl is ↦ inr (inr (subst (IsGiven before after) is (result_given before after _ conjoined.rest conjoined.after)))
-        | inr was ↦ inl (subst (λ (s : List Term). Contains s term) (sym conjoined.before)
-            (behind conjoined.other (conjoined.one ∷ conjoined.rest) term (behind conjoined.one conjoined.rest term was)))
-      ]
-      | inr kept ↦ inr (inl (subst (λ (t : List (ℕ × Term)). Contains (map (λ (k : ℕ × Term). k.1) t) term) conjoined.trail kept))
+    elim (first_or _ conjoined.rest term (subst (λ (s : List Term). Contains s term) conjoined.after there)) [
+      | inl is ↦ inr (subst (Contains (take 1 after.stack)) is (result_given after _ conjoined.rest conjoined.after))
+      | inr was ↦ inl (subst (λ (s : List Term). Contains s term) (sym conjoined.before)
+          (behind conjoined.other (conjoined.one ∷ conjoined.rest) term (behind conjoined.one conjoined.rest term was)))
     ]
 in_hand_behind formula before after (Exists x) leads term there =
     let quantified = exists_of formula before after (Exists x) x refl leads in
     let stack = ap (λ (s : Stage). s.stack) quantified.after in
-    let trail = ap (λ (s : Stage). s.trail) quantified.after in
-    elim there [
-      | inl stacked ↦ elim (first_or _ quantified.rest term (subst (λ (s : List Term). Contains s term) stack stacked)) [
-        | inl is ↦ inr (inr (subst (IsGiven before after) is (result_given before after _ quantified.rest stack)))
-        | inr was ↦ inl (subst (λ (s : List Term). Contains s term) (sym quantified.stacked)
-            (behind quantified.top quantified.rest term was))
-      ]
-      | inr kept ↦ elim (first_or quantified.top (map (λ (k : ℕ × Term). k.1) before.trail) term
-          (subst (λ (t : List (ℕ × Term)). Contains (map (λ (k : ℕ × Term). k.1) t) term) trail kept)) [
-            | inl is ↦ inl (subst (λ (s : List Term). Contains s term) (sym quantified.stacked) (zero, omega arith, is))
-            | inr was ↦ inr (inl was)
-          ]
+    elim (first_or _ quantified.rest term (subst (λ (s : List Term). Contains s term) stack there)) [
+      | inl is ↦ inr (subst (Contains (take 1 after.stack)) is (result_given after _ quantified.rest stack))
+      | inr was ↦ inl (subst (λ (s : List Term). Contains s term) (sym quantified.stacked) (behind quantified.top quantified.rest term was))
     ]
 in_hand_behind formula before after (ExistsAll xs) leads term there = by_stack before.stack refl
   where
-    by_stack : (stack : List Term) → before.stack ≡ stack → IsInHand before after term
+    by_stack : (stack : List Term) → before.stack ≡ stack → IsInHand false before after term
     by_stack [] bare =
         let same = none_quantified formula before after xs bare leads in
-        in_hand_before before after term (subst (λ (s : Stage). IsThere s term) (sym same) there)
+        inl (subst (λ (s : Stage). Contains s.stack term) (sym same) there)
     by_stack (top ∷ rest) stacked =
         let set = after_set formula before after xs top rest stacked leads in
-        elim there [
-          | inl on_stack ↦ elim (first_or _ rest term (subst (λ (s : List Term). Contains s term) set.stack on_stack)) [
-            | inl is ↦ inr (inr (subst (IsGiven before after) is (result_given before after _ rest set.stack)))
-            | inr was ↦ inl (subst (λ (s : List Term). Contains s term) (sym stacked) (behind top rest term was))
-          ]
-          | inr kept ↦
-              let parted : Contains (map (λ (k : ℕ × Term). k.1) set.fresh ++ map (λ (k : ℕ × Term). k.1) before.trail) term =
-              subst (λ (l : List Term). Contains l term) (ap (map (λ (k : ℕ × Term). k.1)) set.trail
-              ∙ map-append (λ (k : ℕ × Term). k.1) set.fresh before.trail) kept in
-              elim (Contains-append_cases (map (λ (k : ℕ × Term). k.1) set.fresh) (map (λ (k : ℕ × Term). k.1) before.trail) term parted) [
-                | inl came ↦ inr (inr (fresh_given before after set.fresh term set.trail came))
-                | inr was ↦ inr (inl was)
-              ]
+        elim (first_or _ rest term (subst (λ (s : List Term). Contains s term) set.stack there)) [
+          | inl is ↦ inr (subst (Contains (take 1 after.stack)) is (result_given after _ rest set.stack))
+          | inr was ↦ inl (subst (λ (s : List Term). Contains s term) (sym stacked) (behind top rest term was))
         ]

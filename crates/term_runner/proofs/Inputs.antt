@@ -1,6 +1,6 @@
 -- The clause of a number, as it is pushed.
-use Rattle.std.proofs.Common.{◌≡◌, ◌≢◌, ℕ, ◌+◌, ◌-◌, ◌<◌, ◌≤◌, ℤ, List, [], length, Some, sym, ap, ◌∙◌, arith}
-use Rattle.std.specs.Prelude.{IsFalse, IsTrue, slice_index_or}
+use Rattle.std.proofs.Common.{◌≡◌, ℕ, ◌+◌, ◌-◌, ◌<◌, ◌≤◌, ℤ, List, [], length, Some, sym, ap, ◌∙◌, arith}
+use Rattle.std.specs.Prelude.{IsTrue, slice_index_or}
 use Rattle.std.specs.List.{list_all}
 use Rattle.cnf_base.specs.Truth.{is_literal_of, AreClausesOf}
 use Rattle.cnf_base.specs.Formula.{Formula}
@@ -9,9 +9,7 @@ use Rattle.node_table.specs.Diagram.{levels}
 use Rattle.node_table.specs.Table.{TableState}
 use Rattle.operations.specs.Entries.{Entry}
 use Rattle.term_runner.specs.Held.{IsOver}
-use Rattle.term_runner.specs.Clauses.{has_empty_clause}
 use Rattle.term_runner.proofs.Plans.{at_each}
-use Rattle.term_runner.proofs.FirstEmpty.{full_at}
 
 module _ {S : Type 0} (formula : Formula) (table : TableState S) (kept : List Entry) (over : IsOver formula table kept) (number : ℕ)
     (from_one : 1 ≤ number) (to_len : number ≤ length formula.clauses)
@@ -28,9 +26,3 @@ module _ {S : Type 0} (formula : Formula) (table : TableState S) (kept : List En
   pub input_literals : AreClausesOf formula.vars formula.clauses → IsTrue (list_all (is_literal_of (levels table.graph)) clause)
   input_literals all = (λ k. list_all (is_literal_of (over.vars k)) (is k))
       ∙ at_each (list_all (is_literal_of formula.vars)) formula.clauses all (number - 1) place
-
--- no clause is empty, where the formula has no empty one
-pub input_some : (formula : Formula) (number : ℕ) → 1 ≤ number → number ≤ length formula.clauses
-    → IsFalse (has_empty_clause formula.clauses) → slice_index_or formula.clauses (number - 1) [] ≢ []
-input_some formula number from_one to_len none empty =
-    full_at formula.clauses (number - 1) none (omega (arith, from_one, to_len)) empty

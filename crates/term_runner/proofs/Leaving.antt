@@ -76,6 +76,15 @@ origin_left old new (Some IdLimit) leaves = told_origin leaves.0.told
 origin_left old new (Some OutOfMemory) leaves = told_origin leaves.told
 origin_left old new (Some WriteFault) leaves = told_origin leaves.told
 
+-- however a call ends, as many nodes are allowed
+pub most_left : {S : Type 0} (old new : TableState S) (error : Option TableError) → Leaves old new error
+    → new.max_nodes ≡ old.max_nodes
+most_left old new None leaves = leaves.max_nodes
+most_left old new (Some NodeLimit) leaves = leaves.0.max_nodes
+most_left old new (Some IdLimit) leaves = leaves.0.max_nodes
+most_left old new (Some OutOfMemory) leaves = leaves.max_nodes
+most_left old new (Some WriteFault) leaves = leaves.max_nodes
+
 pub formula_left : {S : Type 0} (old new : TableState S) (error : Option TableError) → Leaves old new error
     → new.book.formula ≡ old.book.formula
 formula_left old new None leaves = told_formula leaves.told

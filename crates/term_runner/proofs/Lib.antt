@@ -1,5 +1,5 @@
 pub mod Ending
-pub mod OneLine
+pub mod AtStart
 pub mod FirstEmpty
 pub mod Tautologies
 pub mod Plans

@@ -19,6 +19,7 @@ use Rattle.term_runner.specs.Nodes.{IsGivenPart, KeepsOrMakes}
 use Rattle.term_runner.specs.Price.{AddsFew}
 use Rattle.term_runner.specs.Terms.{HasOwnUnits, IsAtStage, IsOpen}
 use Rattle.term_runner.specs.Tidy.{IsByRule, IsTidy, LeavesReached, WereLeft, held_nodes}
+use Rattle.term_runner.specs.Width.{keeps_trail}
 use Rattle.term_runner.proofs.Due.{due_behind}
 use Rattle.term_runner.proofs.FewLeft.{few_left, in_hand_behind}
 use Rattle.term_runner.proofs.NoEmpty.{fewer_empty, fewer_left, further_empty, no_true}
@@ -56,12 +57,12 @@ module _ {S : Type 0} (canonical : Canonical) (steps : StepByStep S) (formula : 
         (sym graph) own.made;
     lacks = λ limit. absurd (no_limit_here limit);
     full = λ limit. absurd (no_limit_here limit);
-    left = subst (λ (n : ℕ). (n ≡ old.left) ⊎ (WereLeft formula old.table.graph.order stage n
-        ⊎ WereLeft formula old.table.graph.order next n)) (sym left) own.left;
+    left = subst (λ (n : ℕ). (n ≡ old.left) ⊎ (WereLeft (keeps_trail old.table.max_nodes) formula old.table.graph.order stage n
+        ⊎ WereLeft (keeps_trail old.table.max_nodes) formula old.table.graph.order next n)) (sym left) own.left;
     rule = by_rule mid.left;
     price = λ size width price have paid most. let once = own.price size width price have paid most in omega (arith, once, top);
-    few = λ width most. subst (λ (graph : Graph). AddsFew (live_nodes old.table.graph) (live_nodes graph) width) (sym graph)
-        (own.few width most);
+    few = λ none width most. subst (λ (graph : Graph). AddsFew (live_nodes old.table.graph) (live_nodes graph) width) (sym graph)
+        (own.few none width most);
     sizes = same ∙ own.sizes;
   }
     where
@@ -75,11 +76,11 @@ module _ {S : Type 0} (canonical : Canonical) (steps : StepByStep S) (formula : 
   pub moved_back : Subfunctions → IsOrder old.table.graph.order → Continues one.table mid.table → IsAtStage formula mid next
       → IsOpen formula mid → mid.table.retired ≡ [] → HasOwnUnits mid
       → LeavesReached one.table.graph mid.table.graph (held_nodes mid.out.items mid.trail.recent) → mid.left ≡ live_nodes mid.table.graph
-      → Moved formula stage next old mid (Ok false)
-  moved_back law ordered so_far at ready none units reached count =
+      → mid.trail.recent ≡ [] → Moved formula stage next old mid (Ok false)
+  moved_back law ordered so_far at ready none units reached count gone =
       let continues = steps.go_on old.table one.table mid.table own.leaves so_far in
-      let were = were_left formula one.table.graph mid.table.graph mid.table.book.state.live mid.out.items mid.trail next
-      old.table.graph.order _ at reached continues.order count in
+      let were : (keeps : Bool) → WereLeft keeps formula old.table.graph.order next mid.left = λ keeps. were_left keeps formula one.table.graph mid.table.graph mid.table.book.state.live mid.out.items mid.trail next
+      old.table.graph.order _ at reached continues.order count (λ _. gone) in
       record {
         held = λ is. at;
         refuted = λ is. absurd (let e : false ≡ true = is in cc);
@@ -94,12 +95,12 @@ module _ {S : Type 0} (canonical : Canonical) (steps : StepByStep S) (formula : 
             (none_made mid.table.graph (IsGivenPart formula old.table.graph.order stage next));
         lacks = λ limit. absurd (no_error limit);
         full = λ limit. absurd (no_error limit);
-        left = inr (inr were);
+        left = inr (inr (were (keeps_trail old.table.max_nodes)));
         rule = by_rule mid.left;
         price = λ size width price have paid most. let once = own.price size width price have paid most in omega (arith, once, top);
-        few = λ width most.
+        few = λ _ width most.
             let left = few_left law canonical formula old.table.graph.order ordered stage next next
-            (in_hand_behind formula stage next step leads) _ were width most in
+            (in_hand_behind formula stage next step leads) _ (were false) width most in
             inr (omega (arith, left, count));
         sizes = same ∙ own.sizes;
       }

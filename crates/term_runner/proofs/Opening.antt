@@ -34,9 +34,10 @@ use Rattle.term_runner.specs.Recovered.{IsRecovered}
 use Rattle.term_runner.specs.Ends.{Says, ShowsFrom, outcome_of}
 use Rattle.term_runner.specs.Held.{IsOver}
 use Rattle.term_runner.specs.Price.{IsDecision, IsLeanAtEnd, IsMovePrice, IsPaidFrom, IsPaidSince}
-use Rattle.term_runner.specs.Width.{HasWidth}
+use Rattle.term_runner.specs.Nodes.{RunsShort}
+use Rattle.term_runner.specs.Width.{HasWidth, keeps_trail}
 use Rattle.term_runner.specs.Opened.{Decides, HasEmpty, IsBehind, IsWithinLimits, Leads, LeavesKind}
-use Rattle.term_runner.proofs.FurtherParts.{is_wider, wider_less}
+use Rattle.term_runner.proofs.FurtherParts.{is_wider, wider_less, width_beside}
 use Rattle.term_runner.proofs.Leaving.{went_on}
 use Rattle.term_runner.proofs.Ending.{by_outcome, torn_of, whole_of, written_of}
 use Rattle.term_runner.proofs.EmptyAdded.{NoneAbove, adds_empty, no_step}
@@ -238,6 +239,10 @@ module _ {S : Type 0} (canonical : Canonical) (unsatisfied : DerivedEmpty) (refu
   found_in : (found : Option (List Bool)) → result ≡ Ok found → Found found
   found_in found is = subst (λ (r : Result (Option (List Bool)) TableError). IfOk r Found) is decides.found
 
+  -- the limit of the table is that of the run
+  short_here : result ≡ Err NodeLimit → RunsShort (keeps_trail limits.max_nodes) formula order moves new.graph
+  short_here is = subst (λ (n : ℕ). RunsShort (keeps_trail n) formula order moves new.graph) limited.max_nodes (decides.short is)
+
   says : IfOk (outcome_of result) (Says formula order moves limits)
   says = by_outcome (Says formula order moves limits) result
       (λ is.
@@ -246,7 +251,7 @@ module _ {S : Type 0} (canonical : Canonical) (unsatisfied : DerivedEmpty) (refu
       (λ values is. found_in (Some values) is)
       (λ is.
       let more = grown (not_torn (Err NodeLimit) is (λ e. cc)) in
-      is_wider canonical formula order moves new.graph more.sound.tied.reduced (decides.short is) limits.max_nodes
+      is_wider canonical (keeps_trail limits.max_nodes) formula order moves new.graph more.sound.tied.reduced (short_here is) limits.max_nodes
       (omega (arith, at_node_limit is, few_nodes, more.max_nodes, limited.max_nodes)))
       (λ _. tt)
 
@@ -322,12 +327,13 @@ module _ {S : Type 0} (canonical : Canonical) (unsatisfied : DerivedEmpty) (refu
         by_outcome IsDecision result (λ _. tt) (λ values is. tt)
         (λ is.
         let more = grown (not_torn (Err NodeLimit) is (λ e. cc)) in
-        let wider = is_wider canonical formula order moves new.graph more.sound.tied.reduced (decides.short is) limits.max_nodes
+        let wider = is_wider canonical (keeps_trail limits.max_nodes) formula order moves new.graph more.sound.tied.reduced (short_here is)
+        limits.max_nodes
         (omega (arith, at_node_limit is, few_nodes, more.max_nodes, limited.max_nodes)) in
-        has (wider_less formula order moves width limits.max_nodes ample.0 wider))
+        has (wider_less (keeps_trail limits.max_nodes) formula order moves width limits.max_nodes ample.0 wider))
         (λ is.
         let whole = not_torn (Err IdLimit) is (λ e. cc) in
-        let last = (paid width price has is_price whole).numbers in
+        let last = (paid width price (width_beside (keeps_trail limits.max_nodes) formula order moves width has) is_price whole).numbers in
         omega (arith, at_id_limit is, (grown whole).limit, limited.max_ids, last, ample.1));
     says = says;
     shows = shows;

@@ -1,5 +1,5 @@
 -- How many clauses a call within a move adds beside definitions, where the caches have room for all pairs of its operands' parts.
-use Rattle.std.proofs.Common.{◌≡◌, ℕ, ◌*◌, ◌≤◌, Bool, true, List, length, refl, subst, arith}
+use Rattle.std.proofs.Common.{◌≡◌, ℕ, ◌*◌, ◌≤◌, Bool, true, false, List, length, refl, subst, arith, inl}
 use Rattle.std.proofs.Math.Nat.{mul-le-mul_left, mul-le-mul_right}
 use Rattle.cnf_base.specs.Formula.{Formula}
 use Rattle.node_table.specs.declared.node.Node.{Node}
@@ -20,14 +20,14 @@ pub at_most_same : (one other : Levels → Bool) → ((a : Levels) → one a ≡
 at_most_same one other same number few = subst (λ (function : Levels → Bool). HasAtMost function number) (λ i a. same a i) few
 
 -- a term in hand has no more parts than are in hand
-pub few_of_term : (formula : Formula) (order : List ℕ) (before after : Stage) (term : Term) → IsInHand before after term → (width : ℕ)
+pub few_of_term : (formula : Formula) (order : List ℕ) (before after : Stage) (term : Term) → IsInHand false before after term → (width : ℕ)
     → HoldsAtMost formula order before after width
     → HasAtMost (term_function formula order term) width
 few_of_term formula order before after term there width most more =
     most (record {
       parts = more.parts;
       more = more.more;
-      are = λ place small. record { term = term; in_hand = there; is_part = more.are place small };
+      are = λ place small. inl (record { term = term; in_hand = there; is_part = more.are place small });
       essential = more.essential;
       differ = more.differ;
     })

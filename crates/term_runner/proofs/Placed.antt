@@ -80,7 +80,7 @@ module _ {S : Type 0} (growth : Growth) (steps : StepByStep S) (fitting : Fittin
       taken old.table mid old.caches caches r → (width : ℕ) → HaveRoom old.caches width
       → HoldsAtMost formula old.table.graph.order stage next width → AddsAtMost (2 * (width * width) + 1) old.table mid
   pairs_of r found width room most = found.pairs width room (few width most)
-      (few_of_term formula old.table.graph.order stage next term (inr (inr (result_given stage next term terms stack))) width most)
+      (few_of_term formula old.table.graph.order stage next term (inr (result_given next term terms stack)) width most)
 
   -- it was refused
   pub not_found : (came : TableError) → Finds kind (term_function formula old.table.graph.order term) (λ a. term_holds formula a term) taken

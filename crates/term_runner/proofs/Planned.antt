@@ -2,7 +2,7 @@
 use Rattle.std.proofs.Common.{◌≡◌, ℕ, zero, suc, ◌<◌, Bool, true, ◌&&◌, List, [], ◌∷◌, take, Option, None, Some, is_some}
 use Rattle.std.proofs.Common.{refl, sym, ap, ◌∙◌, arith, inl, inr, eq-eqb, ne_eqb}
 use Rattle.std.specs.Prelude.{◌==◌, if◌then◌else◌}
-use Rattle.std.specs.List.{slice_get}
+use Rattle.std.specs.List.{position_or_len, slice_get}
 use Rattle.std.specs.Option.{option_and_then}
 use Rattle.std.proofs.lemmas.List.Sums.{position_or_len_is}
 use Rattle.cnf_base.specs.Truth.{Assignment}
@@ -26,12 +26,16 @@ use Rattle.term_runner.proofs.Listed.{some_of}
 
 -- the nodes look at no other levels than those of the order
 module _ (graph : Graph) (reduced : IsReduced graph) (ordered : IsOrder graph.order) where
-  pub value_there : (a : Levels) (level : ℕ) → level < levels graph → by_variable graph.order a (variable_at graph level) ≡ a level
-  value_there a level small =
-      ap a (position_or_len_is (λ x. x == variable_at graph level) graph.order level 0 (omega (arith, small))
+  pub place_of_variable : (level : ℕ) → level < levels graph
+      → position_or_len (λ x. x == variable_at graph level) graph.order ≡ level
+  place_of_variable level small =
+      position_or_len_is (λ x. x == variable_at graph level) graph.order level 0 (omega (arith, small))
       (λ k before. ne_eqb (variable_at graph k) (variable_at graph level)
       (λ same. omega (arith, before, ordered.apart k level (omega (arith, before, small)) small same)))
-      (λ _. eq-eqb (variable_at graph level) (variable_at graph level) refl))
+      (λ _. eq-eqb (variable_at graph level) (variable_at graph level) refl)
+
+  pub value_there : (a : Levels) (level : ℕ) → level < levels graph → by_variable graph.order a (variable_at graph level) ≡ a level
+  value_there a level small = ap a (place_of_variable level small)
 
   pub agree_within : (steps : ℕ) (a b : Levels) (node : Node) → is_node graph node ≡ true
       → ((level : ℕ) → level < levels graph → a level ≡ b level) → value_within steps graph a node ≡ value_within steps graph b node

@@ -1,5 +1,5 @@
 -- How many numbers a try of a move gives, and a move in two tries.
-use Rattle.std.proofs.Common.{◌≡◌, ℕ, zero, suc, ◌+◌, ◌*◌, ◌^◌, ◌≤◌, ◌∙◌, Bool, List, Option, None, Some, refl, sym, ap, subst}
+use Rattle.std.proofs.Common.{◌≡◌, ℕ, zero, suc, ◌+◌, ◌*◌, ◌^◌, ◌≤◌, ◌∙◌, Bool, false, List, Option, None, Some, refl, sym, ap, subst}
 use Rattle.std.proofs.Common.{arith, inl, inr}
 use Rattle.std.specs.FinMap as map
 use Rattle.std.proofs.Math.Nat.{add-mul, mul-add, mul-one, one-mul, two-pow-succ}
@@ -96,16 +96,16 @@ module _ {S : Type 0} (growth : Growth) (canonical : Canonical) (formula : Formu
     (made : KeepsOrMakes old.graph new.graph (IsGivenPart formula order before after)) (width : ℕ)
     (most : HoldsAtMost formula order before after width) where
   makes_parts : (key : ℕ) (branch : Branch) → branch_at new.graph key ≡ Some branch → branch_at old.graph key ≡ None
-      → IsPartInHand formula order before after (λ a. value_of new.graph a (inner key))
+      → IsPartInHand false formula order before after (λ a. value_of new.graph a (inner key))
   makes_parts key branch at none = elim (made.each key branch at) [
     | inl there ↦ absurd (let wrong : Some branch ≡ None = sym there.0 ∙ none in cc)
-    | inr part ↦ given_part formula order before after _ part
+    | inr part ↦ given_part false formula order before after _ part
   ]
 
   pub tried_few : live_nodes new.graph ≤ live_nodes old.graph + width
-  tried_few = few_tried growth canonical old new error leaves keeps (IsPartInHand formula order before after) makes_parts width most
+  tried_few = few_tried growth canonical old new error leaves keeps (IsPartInHand false formula order before after) makes_parts width most
 
   pub tried : (vars size price : ℕ) → levels old.graph ≡ vars → IsMovePrice vars size width price
       → AddsAtMost (most_additions (levels old.graph) + 1) old new
       → (width * width ≤ size → AddsAtMost (2 * (width * width) + 1) old new) → 2 * new.book.state.top ≤ 2 * old.book.state.top + price
-  tried = price_tried growth canonical old new error leaves keeps (IsPartInHand formula order before after) makes_parts width most
+  tried = price_tried growth canonical old new error leaves keeps (IsPartInHand false formula order before after) makes_parts width most

@@ -1,23 +1,24 @@
 -- The terms between those of a set of variables that is quantified at once, and their functions by levels.
 use Rattle.std.proofs.Common.{◌≡◌, ◌∙◌, ◌++◌, ◌+◌, ◌<◌, ◌||◌, ℕ, zero, suc, Bool, true, false, List, [], ◌∷◌, Contains, drop, length}
-use Rattle.std.proofs.Common.{map, reverse, refl, sym, ap, subst, arith}
-use Rattle.std.specs.Prelude.{◌==◌, if◌then◌else◌}
+use Rattle.std.proofs.Common.{map, reverse, take, refl, sym, ap, arith, inl, inr}
+use Rattle.std.specs.Prelude.{◌==◌, if◌then◌else◌, slice_index_or}
+use Rattle.std.specs.List.{position_or_len}
 use Rattle.std.proofs.lemmas.List.{length-map, reverse-append}
 use Rattle.cnf_base.specs.Truth.{Assignment, with_value}
 use Rattle.cnf_base.specs.Formula.{Formula}
 use Rattle.clause_terms.specs.Term.{by_variable}
 use Rattle.node_table.specs.declared.node.Node.{Node}
 use Rattle.node_table.specs.Diagram.{Graph, IsOrder, IsReduced, is_node, levels, variable_at}
-use Rattle.node_table.specs.Value.{IsSubfunction, Levels, by_level, value_of}
+use Rattle.node_table.specs.Value.{IsSubfunction, Levels, by_level, fixed_to, value_of}
 use Rattle.operations.specs.Results.{with_level}
 use Rattle.quantify.specs.SomeValues.{AreRising, IsFromPlace, SetMeaning, function_of, some_values}
 use Rattle.reconstruction.specs.SetsBack.{holds_by}
 use Rattle.schedule_plan.specs.Plan.{Stage, Term, some_value, term_holds}
-use Rattle.schedule_plan.specs.SetMove.{IsGiven, quantified_by, trail_by}
+use Rattle.schedule_plan.specs.SetMove.{quantified_by, trail_by}
 use Rattle.term_runner.specs.Nodes.{IsGivenPart}
 use Rattle.term_runner.specs.Width.{term_function}
 use Rattle.term_runner.proofs.FewLeft.{fresh_given, result_given}
-use Rattle.term_runner.proofs.Planned.{agree_within, value_there}
+use Rattle.term_runner.proofs.Planned.{agree_within, place_of_variable, value_there}
 use Rattle.term_runner.proofs.Quantified.{set_there}
 
 -- where a function holds it does for some values of any variables
@@ -58,14 +59,34 @@ holds_without formula [] top a = refl
 holds_without formula (x ∷ xs) top a = λ k. holds_without formula xs top (with_value a x true) k
     || holds_without formula xs top (with_value a x false) k
 
--- each term from the second on stands between
+-- each term from the second on stands between, with the variable that is quantified from it
 pub there_between : (xs : List ℕ) (top : Term) (place : ℕ) → place < length xs
-    → Contains (map (λ (k : ℕ × Term). k.1) (between xs top)) (without (drop (suc place) xs) top)
+    → Contains (between xs top) (slice_index_or xs place 0, without (drop (suc place) xs) top)
 there_between [] top place small = absurd (omega (arith, small))
 there_between (x ∷ xs) top zero small = (zero, omega arith, refl)
 there_between (x ∷ xs) top (suc place) small =
     let further = there_between xs top place (omega (arith, small)) in
     (suc further.0, omega (arith, further.1), further.2)
+
+-- a level of the set that stands before a place
+before_place : (set : List ℕ) (place : ℕ) → place < length set → Contains (take (suc place) set) (slice_index_or set place 0)
+before_place [] place small = absurd (omega (arith, small))
+before_place (level ∷ more) zero small = (zero, omega arith, refl)
+before_place (level ∷ more) (suc place) small =
+    let further = before_place more place (omega (arith, small)) in
+    (suc further.0, omega (arith, further.1), further.2)
+
+variable_is : (f : ℕ → ℕ) (set : List ℕ) (place : ℕ) → place < length set → slice_index_or (map f set) place 0 ≡ f (slice_index_or set place 0)
+variable_is f [] place small = absurd (omega (arith, small))
+variable_is f (level ∷ more) zero small = refl
+variable_is f (level ∷ more) (suc place) small = variable_is f more place (omega (arith, small))
+
+below_levels : (first bound : ℕ) (set : List ℕ) → AreRising first bound set → (place : ℕ) → place < length set
+    → slice_index_or set place 0 < bound
+below_levels first bound [] rising place small = absurd (omega (arith, small))
+below_levels first bound (level ∷ more) rising zero small = rising.1.0
+below_levels first bound (level ∷ more) rising (suc place) small =
+    below_levels (level + 1) bound more rising.1.1 place (omega (arith, small))
 
 pub below_bound : (first bound : ℕ) (set : List ℕ) → AreRising first bound set → (place : ℕ) → AreRising 0 bound (drop place set)
 below_bound first bound [] rising zero = tt
@@ -102,22 +123,44 @@ module _ (graph : Graph) (reduced : IsReduced graph) (ordered : IsOrder graph.or
   function_without set first rising = λ k a. value_without set first rising (by_variable graph.order a) a
       (λ i small. sym (value_there graph reduced ordered a i small)) k
 
-  -- a part of it without those from some place on is a part of what the move gives
+  -- a part of it without those from some place on, with those before fixed, is one that the move makes
   pub part_given : (set : List ℕ) → AreRising 0 (levels graph) set → (before after : Stage) (rest : List Term)
       → after.stack ≡ without (map (variable_at graph) set) top ∷ rest
       → after.trail ≡ between (map (variable_at graph) set) top ++ before.trail
       → (part : Levels → Bool) → IsFromPlace (function_of graph u) set part → IsGivenPart formula graph.order before after part
-  part_given set rising before after rest stack trail part from = record {
-    term = without (map (variable_at graph) (drop from.place set)) top;
-    is_given = given from.place from.within;
-    is_part = subst (λ (function : Levels → Bool). IsSubfunction function part)
-        (function_without (drop from.place set) 0 (below_bound 0 (levels graph) set rising from.place)) from.is_part;
-  }
+  part_given set rising before after rest stack trail part from = by_place from.place from.within from.is_part from.behind
     where
-      given : (place : ℕ) → place < length set → IsGiven before after (without (map (variable_at graph) (drop place set)) top)
-      given zero small = result_given before after _ rest stack
-      given (suc place) small =
-          fresh_given before after (between (map (variable_at graph) set) top) _ trail
-          (subst (λ (xs : List ℕ). Contains (map (λ (k : ℕ × Term). k.1) (between (map (variable_at graph) set) top)) (without xs top))
-          (sym (drop_map (variable_at graph) (suc place) set))
-          (there_between (map (variable_at graph) set) top place (omega (arith, small, length-map set (variable_at graph)))))
+      is_part_of : (place : ℕ) (is_part : IsSubfunction (some_values (drop place set) (function_of graph u)) part)
+          → (a : Levels) → part a ≡ term_function formula graph.order (without (map (variable_at graph) (drop place set)) top)
+          (fixed_to is_part.level is_part.fixed a)
+      is_part_of place is_part a =
+          is_part.same a ∙ (λ k. function_without (drop place set) 0 (below_bound 0 (levels graph) set rising place) k
+          (fixed_to is_part.level is_part.fixed a))
+
+      by_place : (place : ℕ) → place < length set → (is_part : IsSubfunction (some_values (drop place set) (function_of graph u)) part)
+          → ((level : ℕ) → Contains (take place set) level → level < is_part.level) → IsGivenPart formula graph.order before after part
+      by_place zero small is_part behind = inl (record {
+        term = without (map (variable_at graph) set) top;
+        is_result = result_given after _ rest stack;
+        is_part = record { level = is_part.level; fixed = is_part.fixed; same = is_part_of zero is_part };
+      })
+      by_place (suc place) small is_part behind =
+          let few : place < length set = omega (arith, small) in
+          let level = slice_index_or set place 0 in
+          inr (record {
+            kept = (slice_index_or (map (variable_at graph) set) place 0, without (drop (suc place) (map (variable_at graph) set)) top);
+            fresh = fresh_given before after (between (map (variable_at graph) set) top) _ trail
+                (there_between (map (variable_at graph) set) top place (omega (arith, few, length-map set (variable_at graph))));
+            is_part = record {
+              level = is_part.level;
+              fixed = is_part.fixed;
+              same = λ a. is_part_of (suc place) is_part a
+                  ∙ (λ k. term_function formula graph.order (without (drop_map (variable_at graph) (suc place) set k) top)
+                  (fixed_to is_part.level is_part.fixed a));
+            };
+            behind =
+                let own = behind level (before_place set place few) in
+                let there = (λ k. position_or_len (λ (x : ℕ). x == variable_is (variable_at graph) set place few k) graph.order)
+                ∙ place_of_variable graph reduced ordered level (below_levels 0 (levels graph) set rising place few) in
+                omega (arith, own, there);
+          })

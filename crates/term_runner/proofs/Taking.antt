@@ -1,5 +1,5 @@
 -- What a possible move needs, and what it leaves on the stack.
-use Rattle.std.proofs.Common.{◌≡◌, ℕ, ◌<◌, ◌≤◌, List, [], ◌∷◌, length, Some, refl, sym, ap, subst}
+use Rattle.std.proofs.Common.{◌≡◌, ℕ, ◌<◌, ◌≤◌, false, List, [], ◌∷◌, length, Some, refl, sym, ap, subst}
 use Rattle.cnf_base.specs.Formula.{Formula}
 use Rattle.node_table.specs.Table.{IsSound, TableState}
 use Rattle.node_table.specs.Value.{value_of}
@@ -79,7 +79,7 @@ own_listed table entries items list same has = subst (λ (l : List HeldTerm). Ha
 
 -- a held term has few parts where few are in hand
 pub few_held : {S : Type 0} (formula : Formula) (table : TableState S) (stage next : Stage) (held : HeldTerm) (term : Term) → IsSound table
-    → IsHeld formula table.graph table.book.state.live held term → IsInHand stage next term → (width : ℕ)
+    → IsHeld formula table.graph table.book.state.live held term → IsInHand false stage next term → (width : ℕ)
     → HoldsAtMost formula table.graph.order stage next width → HasAtMost (λ a. value_of table.graph a held.node) width
 few_held formula table stage next held term sound is there width most =
     at_most_same (term_function formula table.graph.order term) (λ a. value_of table.graph a held.node)

@@ -1,5 +1,5 @@
 -- Nodes that a reclamation left, and those that a move makes before it and behind it.
-use Rattle.std.proofs.Common.{◌≡◌, ◌∙◌, ℕ, List, Ok, Err, Result, is_some, refl, sym, ap, subst, inl, inr}
+use Rattle.std.proofs.Common.{◌≡◌, ◌∙◌, ℕ, Bool, false, List, [], Ok, Err, Result, is_some, refl, sym, ap, subst, inl, inr}
 use Rattle.std.specs.Prelude.{◌≢◌, OnOk}
 use Rattle.cnf_base.specs.Formula.{Formula}
 use Rattle.lrat_rules.specs.State.{Live}
@@ -39,10 +39,11 @@ made_behind old one two new roots kind before left behind = record {
   ];
 }
 
-abbrev pub were_left : (formula : Formula) (old new : Graph) (live : Live) (stack : List HeldTerm) (trail : Stack) (stage : Stage)
+abbrev pub were_left : (keeps : Bool) (formula : Formula) (old new : Graph) (live : Live) (stack : List HeldTerm) (trail : Stack) (stage : Stage)
     (order : List ℕ) (left : ℕ) → IsAt formula new live stack trail stage
-    → LeavesReached old new (held_nodes stack trail.recent) → new.order ≡ order → left ≡ live_nodes new → WereLeft formula order stage left
-were_left formula old new live stack trail stage order left at reached same count = record {
+    → LeavesReached old new (held_nodes stack trail.recent) → new.order ≡ order → left ≡ live_nodes new → (keeps ≡ false → trail.recent ≡ [])
+    → WereLeft keeps formula order stage left
+were_left keeps formula old new live stack trail stage order left at reached same count gone = record {
   graph = new;
   live = live;
   stack = stack;
@@ -51,6 +52,7 @@ were_left formula old new live stack trail stage order left at reached same coun
   order_is = same;
   reduced = reached.reduced;
   count = sym count;
+  gone = gone;
   reached = reached.reached;
 }
 

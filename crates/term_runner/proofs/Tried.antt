@@ -25,11 +25,10 @@ use Rattle.term_runner.specs.Nodes.{IsGivenPart, KeepsOrMakes}
 use Rattle.term_runner.specs.Price.{AddsFew, IsMovePrice}
 use Rattle.term_runner.specs.Terms.{HasOwnUnits, IsAtStage, IsOpen}
 use Rattle.term_runner.specs.Tidy.{LeavesReached, WasDue, WereLeft, held_nodes}
-use Rattle.term_runner.specs.Width.{HoldsAtMost}
+use Rattle.term_runner.specs.Width.{HoldsAtMost, keeps_trail}
 use Rattle.term_runner.proofs.Due.{due_at_limit}
 use Rattle.term_runner.proofs.FewLeft.{few_left}
 use Rattle.term_runner.proofs.Giving.{units_settled}
-use Rattle.term_runner.proofs.InHand.{in_hand_before}
 use Rattle.term_runner.proofs.NoEmpty.{fewer_empty, fewer_left, further_empty}
 use Rattle.term_runner.proofs.OwnUnits.{held_settled, ready_settled}
 use Rattle.term_runner.proofs.Priced.{tried, tried_few}
@@ -185,7 +184,7 @@ moved_at_once growth canonical formula stage next step leads old new r none open
       let once = half growth canonical formula old.table.graph.order stage next step leads old new r own refl size width price have is most
       in
       omega (arith, once);
-  few = λ width most. inl (few growth canonical formula old.table.graph.order stage next step leads old new r own refl width most);
+  few = λ none width most. inl (few growth canonical formula old.table.graph.order stage next step leads old new r own refl width most);
   sizes = own.sizes;
 }
 
@@ -229,7 +228,7 @@ module _ {S : Type 0} (growth : Growth) (canonical : Canonical) (steps : StepByS
     left = inl (left ∙ first.left);
     rule = inr due;
     price = λ size width price have paid most. let once = begun size width price have paid most in omega (arith, once, top);
-    few = λ width most. subst (λ (graph : Graph). AddsFew (live_nodes old.table.graph) (live_nodes graph) width) (sym graph)
+    few = λ none width most. subst (λ (graph : Graph). AddsFew (live_nodes old.table.graph) (live_nodes graph) width) (sym graph)
         (inl (few growth canonical formula old.table.graph.order stage next step leads old one (Err NodeLimit) first refl width most));
     sizes = same ∙ first.sizes;
   }
@@ -243,7 +242,8 @@ module _ {S : Type 0} (growth : Growth) (canonical : Canonical) (steps : StepByS
   -- and the move is tried once more
   module _ (law : Subfunctions) (ordered : IsOrder old.table.graph.order) (so_far : Continues one.table mid.table)
       (at : IsAtStage formula mid stage) (reached : LeavesReached one.table.graph mid.table.graph (held_nodes mid.out.items mid.trail.recent))
-      (count : mid.left ≡ live_nodes mid.table.graph) (new : Terms S) (r : Result Bool TableError)
+      (count : mid.left ≡ live_nodes mid.table.graph)
+      (gone : keeps_trail old.table.max_nodes ≡ false → mid.trail.recent ≡ []) (new : Terms S) (r : Result Bool TableError)
       (second : Tried formula stage next mid new r) where
     continues : Continues old.table mid.table
     continues = steps.go_on old.table one.table mid.table first.leaves.0 so_far
@@ -251,9 +251,9 @@ module _ {S : Type 0} (growth : Growth) (canonical : Canonical) (steps : StepByS
     made_last : KeepsOrMakes mid.table.graph new.table.graph (IsGivenPart formula old.table.graph.order stage next)
     made_last = made_at growth canonical formula old.table.graph.order stage next step leads mid new r second continues.order
 
-    abbrev were : WereLeft formula old.table.graph.order stage new.left
-    were = were_left formula one.table.graph mid.table.graph mid.table.book.state.live mid.out.items mid.trail stage
-        old.table.graph.order _ at reached continues.order (second.left ∙ count)
+    abbrev were : WereLeft (keeps_trail old.table.max_nodes) formula old.table.graph.order stage new.left
+    were = were_left (keeps_trail old.table.max_nodes) formula one.table.graph mid.table.graph mid.table.book.state.live mid.out.items mid.trail stage
+        old.table.graph.order _ at reached continues.order (second.left ∙ count) gone
 
     pub moved_again : ((r ≡ Ok false) ⊎ (r ≡ Err NodeLimit) → new.table.retired ≡ []) → Moved formula stage next old new r
     moved_again none = record {
@@ -278,10 +278,10 @@ module _ {S : Type 0} (growth : Growth) (canonical : Canonical) (steps : StepByS
           let twice = half growth canonical formula old.table.graph.order stage next step leads mid new r second continues.order size width
           price (same ∙ first.sizes ∙ have) paid most in
           omega (arith, once, twice, top);
-      few = λ width most.
+      few = λ none width most.
           let made = few growth canonical formula old.table.graph.order stage next step leads mid new r second continues.order width most in
-          let left = few_left law canonical formula old.table.graph.order ordered stage next stage (in_hand_before stage next) _ were width
-          most in
+          let left = few_left law canonical formula old.table.graph.order ordered stage next stage (λ term stacked. inl stacked) _
+          (subst (λ (keeps : Bool). WereLeft keeps formula old.table.graph.order stage new.left) none were) width most in
           inr (omega (arith, made, left, second.left, count));
       sizes = second.sizes ∙ same ∙ first.sizes;
     }

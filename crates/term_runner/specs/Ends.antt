@@ -18,14 +18,14 @@ use Rattle.term_runner.specs.Proofs.{AreUnsatisfiable, IsProof, IsProofOfKind, I
 use Rattle.term_runner.specs.Proofs.{NodesAreUsed, NumbersAreUsed, NumbersAreUsedFrom, RefutationFrom, UsesVariables}
 use Rattle.term_runner.specs.Recovered.{IsRecovered}
 use Rattle.term_runner.specs.Price.{AreAmple, AreAmpleFrom, IsDecision, IsLeanAtEnd, IsMovePrice, IsPaidFor, IsPaidFrom}
-use Rattle.term_runner.specs.Width.{HasWidth, IsWider}
+use Rattle.term_runner.specs.Width.{HasWidth, HasWidthWith, IsWiderWith, keeps_trail}
 
 -- What an outcome says of the formula: no assignment satisfies it; these values, which are recovered, do; or the plan
 -- is wider than the nodes that are allowed.
 abbrev pub Says : Formula → List ℕ → List Move → Limits → Outcome → Type 0
 Says formula order moves limits Unsat = AreUnsatisfiable formula.clauses
 Says formula order moves limits (Sat values) = IsRecovered formula order moves values
-Says formula order moves limits NodeLimit = IsWider formula order moves limits.max_nodes
+Says formula order moves limits NodeLimit = IsWiderWith (keeps_trail limits.max_nodes) formula order moves limits.max_nodes
 Says formula order moves limits IdLimit = ⊤
 
 -- What the very bytes of the proof show of it: a refutation, that few clauses are left, or that the limit is reached.
@@ -63,8 +63,8 @@ pub record EndsAs (tells : Bool) (before after : Channel) (formula : Formula) (o
     (evidence : List ℕ → Outcome → Type 0) (paid : ℕ → ℕ → State → Type 0) (ample : ℕ → ℕ → Type 0)
     (result : Result Run RunError) : Type 0 where
   pub says : IfOk result (λ run. Says formula order moves limits run.outcome)
-  pub certain : (width price : ℕ) → HasWidth formula order moves width → IsMovePrice formula.vars limits.cache width price
-      → ample width price → IfOk result (λ run. IsDecision run.outcome)
+  pub certain : (width price : ℕ) → HasWidthWith (keeps_trail limits.max_nodes) formula order moves width
+      → IsMovePrice formula.vars limits.cache width price → ample width price → IfOk result (λ run. IsDecision run.outcome)
   pub shows : IsTrue tells → IfOk result (λ run. evidence after.written run.outcome)
   pub last : IsTrue tells → IfOk result (λ run. LeadsTo formula limits after.written run.last_id)
   pub whole : result ≢ Err WriteFault → IsTrue tells → IsProof formula limits after.written

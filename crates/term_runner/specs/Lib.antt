@@ -24,3 +24,4 @@ pub mod Sets
 pub mod Derived
 pub mod Full
 pub mod Takes
+pub mod WholeWidth

@@ -19,7 +19,7 @@ use Rattle.term_runner.specs.Nodes.{IsGivenPart, KeepsOrMakes}
 use Rattle.term_runner.specs.Price.{AddsFew, IsMovePrice}
 use Rattle.term_runner.specs.Terms.{HasOwnUnits, IsAtStage, IsOpen}
 use Rattle.term_runner.specs.Tidy.{IsByRule, WereLeft}
-use Rattle.term_runner.specs.Width.{HoldsAtMost}
+use Rattle.term_runner.specs.Width.{HoldsAtMost, keeps_trail}
 
 -- Between two moves: no clause waits for its deletion, and the terms are those of a stage, from which the move leads on. The variables
 -- of a set are quantified in the reversed order.
@@ -57,7 +57,7 @@ pub record Tried {S : Type 0} (formula : Formula) (stage next : Stage) (old new 
 
 -- A move that was taken from this stage to the next. At the limit of nodes there are but those that the terms reached, and the
 -- move's own. Nothing is given back but at the limit, or where there are many. However it ends, it gave so many numbers at most,
--- and made so few nodes, by the parts in hand at the move.
+-- and, where the trail's terms don't stand among the nodes, made so few nodes, by the parts in hand at the move.
 pub record Moved {S : Type 0} (formula : Formula) (stage next : Stage) (old new : Terms S) (result : Result Bool TableError) : Type 0 where
   pub held : IfOk result (λ refuted. refuted ≡ false → IsAtStage formula new next)
   pub refuted : IfOk result (λ refuted. IsTrue refuted → (id : ℕ) × (clause_at new.table.book.state.live id ≡ Some []))
@@ -68,14 +68,14 @@ pub record Moved {S : Type 0} (formula : Formula) (stage next : Stage) (old new 
   pub no_empty : IsUnrefuted old.table new.table result
   pub made : KeepsOrMakes old.table.graph new.table.graph (IsGivenPart formula old.table.graph.order stage next)
   pub lacks : result ≡ Err NodeLimit → LacksOneOf new.table.graph (IsGivenPart formula old.table.graph.order stage next)
-  pub full : result ≡ Err NodeLimit → (were : WereLeft formula old.table.graph.order stage new.left)
+  pub full : result ≡ Err NodeLimit → (were : WereLeft (keeps_trail old.table.max_nodes) formula old.table.graph.order stage new.left)
       × KeepsOrMakes were.graph new.table.graph (IsGivenPart formula old.table.graph.order stage next)
-  pub left : (new.left ≡ old.left) ⊎ (WereLeft formula old.table.graph.order stage new.left
-      ⊎ WereLeft formula old.table.graph.order next new.left)
+  pub left : (new.left ≡ old.left) ⊎ (WereLeft (keeps_trail old.table.max_nodes) formula old.table.graph.order stage new.left
+      ⊎ WereLeft (keeps_trail old.table.max_nodes) formula old.table.graph.order next new.left)
   pub rule : IsByRule old.table.graph new.table.graph (IsGivenPart formula old.table.graph.order stage next) old.table.max_nodes
       old.left new.left
   pub price : (size width price : ℕ) → HaveSize old.caches size → IsMovePrice (levels old.table.graph) size width price
       → HoldsAtMost formula old.table.graph.order stage next width → new.table.book.state.top ≤ old.table.book.state.top + price
-  pub few : (width : ℕ) → HoldsAtMost formula old.table.graph.order stage next width
+  pub few : keeps_trail old.table.max_nodes ≡ false → (width : ℕ) → HoldsAtMost formula old.table.graph.order stage next width
       → AddsFew (live_nodes old.table.graph) (live_nodes new.table.graph) width
   pub sizes : sizes new.caches ≡ sizes old.caches

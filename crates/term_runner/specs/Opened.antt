@@ -25,12 +25,12 @@ use Rattle.term_runner.specs.declared.error.RunError.TheVariants.{WriteFault}
 use Rattle.term_runner.specs.declared.caches.Caches.{Caches}
 use Rattle.term_runner.specs.Caches.{HaveSize}
 use Rattle.term_runner.specs.Clauses.{first_empty, has_empty_clause, is_tautology}
-use Rattle.term_runner.specs.Ends.{Ends, EndsFrom, Says, ShowsFrom}
+use Rattle.term_runner.specs.Ends.{EndsFrom, Says, ShowsFrom}
 use Rattle.term_runner.specs.Nodes.{RunsShort}
 use Rattle.term_runner.specs.Price.{AreAmpleFrom, IsDecision, IsLeanAtEnd, IsMovePrice, IsPaidFrom, IsPaidSince}
 use Rattle.term_runner.specs.Proofs.{IsBroken, IsBrokenOfKind, KeepsWithin, UsesVariables}
 use Rattle.term_runner.specs.Recovered.{IsRecovered}
-use Rattle.term_runner.specs.Width.{HasWidth}
+use Rattle.term_runner.specs.Width.{HasWidth, HasWidthWith, keeps_trail}
 
 -- a ledger as it was opened over a formula: its clauses, over its variables, are live, and no step was told
 pub record IsOpened {S : Type 0} (formula : Formula) (max_ids : ℕ) (book : Book S) : Type 0 where
@@ -118,7 +118,7 @@ pub record Decides {S : Type 0} (formula : Formula) (moves : List Move) (size : 
       → LeavesKind old new (IsPaidSince (levels old.graph) old.inputs old.book.state.top (length moves) size width price) (error_of result)
   pub lean : IfOk result (λ found. IsSome found → (old.book.state.top ≡ old.inputs) ⊎ IsFalse (list_all is_tautology formula.clauses)
       → IsLeanAtEnd (levels old.graph) old.inputs size new.book.state)
-  pub short : result ≡ Err table.NodeLimit → RunsShort formula old.graph.order moves new.graph
+  pub short : result ≡ Err table.NodeLimit → RunsShort (keeps_trail old.max_nodes) formula old.graph.order moves new.graph
   pub no_empty : IfErr result (λ e. e ≢ table.WriteFault → AddsNoEmpty old new)
 
 -- What the moves led to, before the proof is flushed: each outcome is true, and shown by what was written. Other calls gave numbers up
@@ -136,8 +136,8 @@ pub record Leads {S : Type 0} (first : ℕ) (tells : Bool) (before after : Chann
   pub broken_paid : (width price : ℕ) → HasWidth formula order moves width → IsMovePrice formula.vars limits.cache width price → found
       ≡ Err WriteFault → IsTrue tells
       → IsBrokenOfKind formula.clauses (IsPaidFrom first formula limits moves width price) after.written
-  pub certain : (width price : ℕ) → HasWidth formula order moves width → IsMovePrice formula.vars limits.cache width price
-      → AreAmpleFrom first limits moves width price → IfOk found IsDecision
+  pub certain : (width price : ℕ) → HasWidthWith (keeps_trail limits.max_nodes) formula order moves width
+      → IsMovePrice formula.vars limits.cache width price → AreAmpleFrom first limits moves width price → IfOk found IsDecision
   pub says : IfOk found (Says formula order moves limits)
   pub shows : IsTrue tells → IfOk found (ShowsFrom first formula limits after.written)
   pub fault : found ≡ Err WriteFault → Rose before.faults after.faults
@@ -146,13 +146,7 @@ pub record Leads {S : Type 0} (first : ℕ) (tells : Bool) (before after : Chann
   pub name : after.name ≡ before.name
   pub faults : before.faults ≤ after.faults
 
--- A run ends so, and with an outcome its last number is not above those of the formula and the greatest allowed.
-pub record EndsWithin (tells : Bool) (before after : Channel) (formula : Formula) (order : List ℕ) (moves : List Move) (limits : Limits)
-    (result : Result Run RunError) : Type 0 where
-  pub ends : Ends tells before after formula order moves limits result
-  pub last : IfOk result (λ run. run.last_id ≤ max (length formula.clauses) limits.max_ids)
-
--- the same behind other calls
+-- A run behind other calls ends so, and with an outcome its last number is not above those of the formula and the greatest allowed.
 pub record EndsWithinFrom (first : ℕ) (tells : Bool) (before after : Channel) (formula : Formula) (order : List ℕ) (moves : List Move)
     (limits : Limits) (result : Result Run RunError) : Type 0 where
   pub ends : EndsFrom first tells before after formula order moves limits result

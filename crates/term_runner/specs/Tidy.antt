@@ -1,6 +1,6 @@
 -- How many nodes a run keeps: between two moves fewer than a thousand, or fewer than twice those that the last reclamation
 -- left, which its terms reached.
-use Rattle.std.specs.Prelude.{◌≡◌, ◌⊎◌, ◌<◌, ◌≤◌, ◌++◌, ◌*◌, ℕ, List, Contains, Some, IsTrue, map}
+use Rattle.std.specs.Prelude.{◌≡◌, ◌⊎◌, ◌<◌, ◌≤◌, ◌++◌, ◌*◌, ℕ, Bool, false, List, [], Contains, Some, IsTrue, map}
 use Rattle.cnf_base.specs.Formula.{Formula}
 use Rattle.lrat_rules.specs.State.{Live}
 use Rattle.node_table.specs.declared.node.Node.{Node}
@@ -47,8 +47,9 @@ pub record LeavesReached (old new : Graph) (roots : List Node) : Type 0 where
   pub stand : (root : Node) → Contains roots root → IsTrue (is_node new root)
   pub value : (a : Levels) (node : Node) → IsTrue (is_node new node) → value_of new a node ≡ value_of old a node
 
--- So many nodes were left by a reclamation where the run was at this stage: those that its terms reach.
-pub record WereLeft (formula : Formula) (order : List ℕ) (stage : Stage) (left : ℕ) : Type 0 where
+-- So many nodes were left by a reclamation where the run was at this stage: those that its stacked terms reach, and those of the trail,
+-- where its terms may stand among the nodes.
+pub record WereLeft (keeps : Bool) (formula : Formula) (order : List ℕ) (stage : Stage) (left : ℕ) : Type 0 where
   pub graph : Graph
   pub live : Live
   pub stack : List HeldTerm
@@ -57,4 +58,5 @@ pub record WereLeft (formula : Formula) (order : List ℕ) (stage : Stage) (left
   pub order_is : graph.order ≡ order
   pub reduced : IsReduced graph
   pub count : live_nodes graph ≡ left
+  pub gone : keeps ≡ false → trail.recent ≡ []
   pub reached : (key : ℕ) (branch : Branch) → branch_at graph key ≡ Some branch → IsReached graph (held_nodes stack trail.recent) (inner key)

@@ -16,7 +16,7 @@ ghost use Rattle.schedule_plan.specs.SetMove.{in_order};
 ghost use Rattle.term_runner.specs.Caches.{HaveSize, all_entries};
 ghost use Rattle.term_runner.specs.Recovered.{IsRecovered};
 ghost use Rattle.term_runner.specs.Price.{IsLeanAtEnd, IsMovePrice, IsPaid};
-ghost use Rattle.term_runner.specs.Width.{HasWidth};
+ghost use Rattle.term_runner.specs.Width.{HasWidth, keeps_trail};
 ghost use Rattle.term_runner.specs.Nodes.{RunsShort};
 ghost use Rattle.term_runner.specs.Opened.{Decides, HasEmpty, LeavesKind};
 ghost use Rattle.term_runner.specs.Held.{IsOver, top_node};
@@ -25,8 +25,8 @@ ghost use Rattle.term_runner.specs.Trail.{AreVariables, IsRecoveredBy, IsTrail};
 
 use crate::held::HeldTerm;
 use crate::open::are_tautologies;
-use crate::progress::Progress;
 use crate::terms::Terms;
+use crate::watch::Watch;
 use clause_terms::{Model, Trail, recover};
 use cnf_base::{Cnf, Id, OutOfMemory};
 use host_io::Sink;
@@ -50,12 +50,12 @@ impl<S: Sink + Drop> Terms<S> {
         formula: &Cnf,
         plan: &Plan,
         capacity: u32,
-        progress: &mut Progress<'_>,
+        watch: &mut Watch<'_>,
     ) -> Result<Option<Model>, TableError>
         requires plan { IsAdmissible formula.now plan.now }
         requires capacity { 1 ≤ capacity }
         requires size { HaveSize self.old.caches capacity }
-        requires begun { progress.old.moves ≡ 0 }
+        requires begun { watch.old.moves ≡ 0 }
         requires over { IsOver formula.now self.old.table (all_entries self.old.caches) }
         requires refuted { IsTrue refuted → HasEmpty self.old.table }
         requires own { refuted ≡ false → HasOwnUnits self.old }
@@ -63,7 +63,7 @@ impl<S: Sink + Drop> Terms<S> {
         requires no_trail { self.old.trail ≡ empty_stack }
         ensures decides { Decides formula.now plan.now capacity self.old.table self.new.table result }
         ensures at_once { IsTrue refuted → (result ≡ Ok None) × (self.new.table ≡ self.old.table) }
-        ensures counted { progress.new.moves ≤ length plan.now }
+        ensures counted { watch.new.moves ≤ length plan.now }
     {
         start_law();
         marks_law();
@@ -89,7 +89,7 @@ impl<S: Sink + Drop> Terms<S> {
             return Ok(Some(model));
         }
         self.left = self.give_back(formula)?;
-        self.take_moves(formula, plan, capacity, progress)
+        self.take_moves(formula, plan, capacity, watch)
     }
 
     // Adds the empty clause by one hint, an empty clause that is live.
@@ -118,12 +118,12 @@ impl<S: Sink + Drop> Terms<S> {
         formula: &Cnf,
         plan: &Plan,
         capacity: u32,
-        progress: &mut Progress<'_>,
+        watch: &mut Watch<'_>,
     ) -> Result<Option<Model>, TableError>
         requires plan { IsAdmissible formula.now (in_order self.old.table.graph.order plan.now) }
         requires capacity { 1 ≤ capacity }
         requires size { HaveSize self.old.caches capacity }
-        requires begun { progress.old.moves ≡ 0 }
+        requires begun { watch.old.moves ≡ 0 }
         requires ready { IsOpen formula.now self.old }
         requires own { HasOwnUnits self.old }
         requires at { IsAtStage formula.now self.old no_stage }
@@ -140,9 +140,9 @@ impl<S: Sink + Drop> Terms<S> {
             (error_of result) }
         ensures lean { IfOk result (λ found. IsSome found → IsLeanAtEnd
             (levels self.old.table.graph) self.old.table.inputs capacity self.new.table.book.state) }
-        ensures short { result ≡ Err NodeLimit → RunsShort formula.now self.old.table.graph.order plan.now self.new.table.graph }
+        ensures short { result ≡ Err NodeLimit → RunsShort (keeps_trail self.old.table.max_nodes) formula.now self.old.table.graph.order plan.now self.new.table.graph }
         ensures no_empty { IfErr result (λ e. e ≢ WriteFault → AddsNoEmpty self.old.table self.new.table) }
-        ensures counted { progress.new.moves ≤ length plan.now }
+        ensures counted { watch.new.moves ≤ length plan.now }
     {
         steps_law::<S>();
         subfunction_law();
@@ -159,9 +159,10 @@ impl<S: Sink + Drop> Terms<S> {
             if self.take_move(formula, step)? {
                 return Ok(None);
             }
-            progress.note(self.table.ledger().last_id());
-            progress.show(self.reading(plan.len()));
+            watch.note(self.table.ledger().last_id());
+            watch.show(self.reading(plan.len()));
         }
+        self.table.table_law();
         self.caches.few_law();
         let alloc = *self.out.allocator();
         let node = top(self.out.as_slice());

@@ -2,7 +2,7 @@
 // of it without a variable, and so the new unit follows from its own. (Bryant, Heule: Generating Extended Resolution Proofs with a
 // BDD-Based SAT Solver, 2021, section 5.)
 ghost use Rattle.std.specs.Prelude.{◌≡◌, ◌≢◌, ◌≤◌, ◌<◌, ◌+◌, ◌-◌, ◌*◌, ◌&&◌, ◌||◌, ℕ, Bool, List, [], ◌∷◌, Err, IsTrue, IfErr, IfOk};
-ghost use Rattle.std.specs.Prelude.{length, slice_index_or, true, false};
+ghost use Rattle.std.specs.Prelude.{length, true, false};
 ghost use Rattle.cnf_base.specs.Truth.{Assignment, with_value};
 ghost use Rattle.node_table.specs.declared.error.TableError.TheVariants.{NodeLimit, WriteFault};
 ghost use Rattle.node_table.specs.declared.node.Node.TheVariants.{False};
@@ -28,7 +28,7 @@ ghost use Rattle.term_runner.specs.Width.{HasAtMost, term_function};
 
 use crate::caches::Caches;
 use crate::held::HeldTerm;
-use crate::unit::{add_unit, own_unit, unit_of, unit_of_implied};
+use crate::unit::{add_unit, unit_of, unit_of_implied};
 use clause_terms::push_clause;
 use cnf_base::{Cnf, Id};
 use host_io::Sink;
@@ -40,7 +40,7 @@ use operations::entry_law;
 use quantify::set_law;
 use std::alloc::Global;
 
-/// The term of the clause of this number.
+/// The term of the clause of this number. That of an empty one is False, and its unit an empty clause that follows from it.
 pub fn input<S: Sink + Drop>(
     alloc: Global,
     table: &mut Table<S>,
@@ -50,7 +50,6 @@ pub fn input<S: Sink + Drop>(
     requires over { (kept : List Entry) × IsOver formula.now table.old kept }
     requires from_one { 1 ≤ number }
     requires to_len { number ≤ length formula.now.clauses }
-    requires some { slice_index_or formula.now.clauses (number - 1) [] ≢ [] }
     ensures finds { (caches : CachesValue) → Fits table.old (all_entries caches)
         → Finds (IsSubfunction (term_function formula.now table.old.graph.order (input_term number)))
         (term_function formula.now table.old.graph.order (input_term number))
@@ -63,88 +62,40 @@ pub fn input<S: Sink + Drop>(
     growth_law();
     steps_law::<S>();
     entry_law::<S>();
+    subfunction_law();
+    conflict_law();
     formula.formula_law();
     let clause = formula.clause(number as usize);
+    if clause.is_empty() {
+        let unit = add_unit(table, Node::False, &[Id(number as u64)])?;
+        return Ok(HeldTerm {
+            node: Node::False,
+            unit,
+        });
+    }
     let (node, unit) = push_clause(alloc, table, clause, Id(number as u64))?;
     Ok(HeldTerm { node, unit })
 }
 
-/// As `input`, of any clause. The term of an empty one is False, and its unit an empty clause that follows from it.
-pub fn any_input<S: Sink + Drop>(
-    alloc: Global,
-    table: &mut Table<S>,
-    formula: &Cnf,
-    number: u32,
-) -> Result<HeldTerm, TableError>
-    requires over { (kept : List Entry) × IsOver formula.now table.old kept }
-    requires from_one { 1 ≤ number }
-    requires to_len { number ≤ length formula.now.clauses }
-    ensures finds { (caches : CachesValue) → Fits table.old (all_entries caches)
-        → Finds (IsSubfunction (term_function formula.now table.old.graph.order (input_term number)))
-        (term_function formula.now table.old.graph.order (input_term number))
-        (λ a. term_holds formula.now a (input_term number)) [] table.old table.new caches caches result }
-    ensures one { AddsAtMost 1 table.old table.new }
-    ensures refused { IfErr result (λ e. e ≢ WriteFault → (kept : List Entry) (terms : List HeldValue) → HasUnits table.old kept terms
-        → HasUnits table.new kept terms) }
-{
-    steps_law::<S>();
-    entry_law::<S>();
-    subfunction_law();
-    conflict_law();
-    if !formula.clause(number as usize).is_empty() {
-        return input(alloc, table, formula, number);
-    }
-    let unit = add_unit(table, Node::False, &[Id(number as u64)])?;
-    Ok(HeldTerm {
-        node: Node::False,
-        unit,
-    })
-}
-
-/// The conjunction of two terms. Its unit is that of an operand, where it is that operand.
+/// The conjunction of two terms. Where it is an operand its unit is that one's, unless a fresh one is wanted, which no operand has.
 pub fn conjunction<S: Sink + Drop>(
     table: &mut Table<S>,
     caches: &mut Caches,
     u: &HeldTerm,
     v: &HeldTerm,
-) -> Result<HeldTerm, TableError>
-    requires sound { IsSound table.old }
-    requires fits { Fits table.old (all_entries caches.old) }
-    requires first { IsOperand table.old (all_entries caches.old) u.now }
-    requires second { IsOperand table.old (all_entries caches.old) v.now }
-    ensures { (one other : Assignment → Bool) → IsTerm table.old.graph table.old.book.state.live one u.now.node u.now.unit
-        → IsTerm table.old.graph table.old.book.state.live other v.now.node v.now.unit
-        → Finds (IsSubfunction (conjunction_of table.old.graph u.now.node v.now.node))
-        (conjunction_of table.old.graph u.now.node v.now.node) (λ a. one a && other a) (v.now ∷ u.now ∷ [])
-        table.old table.new caches.old caches.new result }
-{
-    canonical_law();
-    subfunction_law();
-    growth_law();
-    steps_law::<S>();
-    entry_law::<S>();
-    let (node, just) = caches.and(table, u.node, v.node)?;
-    let unit = unit_of(table, u, v, node, &just)?;
-    Ok(HeldTerm { node, unit })
-}
-
-/// As `conjunction`, of terms that may be False. The unit is no operand's.
-pub fn own_conjunction<S: Sink + Drop>(
-    table: &mut Table<S>,
-    caches: &mut Caches,
-    u: &HeldTerm,
-    v: &HeldTerm,
+    fresh: bool,
 ) -> Result<HeldTerm, TableError>
     requires sound { IsSound table.old }
     requires fits { Fits table.old (all_entries caches.old) }
     requires first { IsProved table.old.graph table.old.book.state.live u.now }
     requires second { IsProved table.old.graph table.old.book.state.live v.now }
+    requires shared { fresh ≡ false → IsOperand table.old (all_entries caches.old) u.now × IsOperand table.old (all_entries caches.old) v.now }
     ensures finds { (one other : Assignment → Bool) → IsTerm table.old.graph table.old.book.state.live one u.now.node u.now.unit
         → IsTerm table.old.graph table.old.book.state.live other v.now.node v.now.unit
         → Finds (IsSubfunction (conjunction_of table.old.graph u.now.node v.now.node))
         (conjunction_of table.old.graph u.now.node v.now.node) (λ a. one a && other a) (v.now ∷ u.now ∷ [])
         table.old table.new caches.old caches.new result }
-    ensures own { IfOk result (λ held. GivesUnit table.old table.new (all_entries caches.old) (all_entries caches.new) [] held.unit) }
+    ensures own { IsTrue fresh → IfOk result (λ held. GivesUnit table.old table.new (all_entries caches.old) (all_entries caches.new) [] held.unit) }
     // A refusal loses no unit.
     ensures refused { IfErr result (λ e. e ≢ WriteFault → (terms : List HeldValue) → HasUnits table.old (all_entries caches.old) terms
         → HasUnits table.new (all_entries caches.new) terms) }
@@ -155,7 +106,7 @@ pub fn own_conjunction<S: Sink + Drop>(
     steps_law::<S>();
     entry_law::<S>();
     let (node, just) = caches.and(table, u.node, v.node)?;
-    let unit = own_unit(table, u, v, node, &just)?;
+    let unit = unit_of(table, u, v, node, &just, fresh)?;
     Ok(HeldTerm { node, unit })
 }
 
@@ -244,5 +195,5 @@ fn implied_unit<S: Sink + Drop>(
     let Some(just) = caches.implies(table, u.node, w)? else {
         unreachable!();
     };
-    unit_of_implied(table, u, w, &just)
+    unit_of_implied(table, u, w, &just, false)
 }

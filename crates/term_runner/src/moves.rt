@@ -1,7 +1,7 @@
 // One move of a plan. (Bryant, Heule: Generating Extended Resolution Proofs with a BDD-Based SAT Solver, 2021,
 // section 5.)
 ghost use Rattle.std.specs.Prelude.{◌≡◌, ◌≢◌, ◌↔◌, ◌<◌, ◌≤◌, ◌⊎◌, ◌+◌, ◌^◌, ℕ, List, [], Ok, Err, Some, IsTrue, false, length, map, reverse};
-ghost use Rattle.std.specs.Prelude.{take, vec_capacity, vec_len};
+ghost use Rattle.std.specs.Prelude.{vec_capacity, vec_len};
 ghost use Rattle.node_table.specs.declared.error.TableError.TheVariants.{NodeLimit};
 ghost use Rattle.node_table.specs.declared.node.Node.TheVariants.{False};
 ghost use Rattle.node_table.specs.Diagram.{variable_at};
@@ -96,7 +96,7 @@ impl<S: Sink + Drop> Terms<S> {
         let Some((u, v)) = last_two(self.out.as_slice()) else {
             unreachable!();
         };
-        let held = conjunction(&mut self.table, &mut self.caches, &u, &v)?;
+        let held = conjunction(&mut self.table, &mut self.caches, &u, &v, false)?;
         Ok(put(&mut self.table, &mut self.out, &[u, v], held))
     }
 

@@ -1,7 +1,7 @@
 // The sum of some variables, modulo 2, as a node of a runner, and a term weakened to a node that it implies. By both the sum of two
 // parity equations follows from their conjunction. (Philipp, Rebola-Pardo: DRAT Proofs for XOR Reasoning, 2016, section 3; Bryant, Heule:
 // Generating Extended Resolution Proofs with a BDD-Based SAT Solver, 2021, section 4.3.)
-ghost use Rattle.std.specs.Prelude.{◌≡◌, [], IfOk, IsTrue, None, Ok, Some};
+ghost use Rattle.std.specs.Prelude.{[], IfOk, IsTrue, None, Ok, Some};
 ghost use Rattle.node_table.specs.declared.node.Node.{Node as NodeValue};
 ghost use Rattle.node_table.specs.Diagram.{is_node};
 ghost use Rattle.node_table.specs.Table.{AddsAtMost};
@@ -15,7 +15,7 @@ use crate::retry::met_limit;
 use crate::runner::Runner;
 use crate::sets::levels_of;
 use crate::term::Term;
-use crate::weaker::own_weaker;
+use crate::weaker::weaker;
 use host_io::Sink;
 use node_table::{Node, TableError, canonical_law, growth_law, steps_law, subfunction_law};
 use operations::entry_law;
@@ -125,7 +125,7 @@ impl<'a, S: Sink + Drop> Runner<'a, S> {
         if self.terms.out.reserve(1).is_err() {
             return Err(TableError::OutOfMemory);
         }
-        let Some(held) = own_weaker(&mut self.terms.table, &mut self.terms.caches, &u.held, node)?
+        let Some(held) = weaker(&mut self.terms.table, &mut self.terms.caches, &u.held, node)?
         else {
             return Ok(None);
         };

@@ -42,6 +42,20 @@ impl<S: Sink + Drop> Terms<S> {
             → after_move formula.now stage (move_in_order self.old.table.graph.order step.now) ≡ Some next
             → Moved formula.now stage next self.old self.new result }
         ensures tidy { result ≡ Ok false → IsTidy (live_nodes self.new.table.graph) self.new.left }
+        ensures within { live_nodes self.new.table.graph ≤ self.new.table.max_nodes }
+    {
+        let found = self.take_tidily(formula, step);
+        self.table.table_law();
+        found
+    }
+
+    // Takes a move and reclaims behind it.
+    fn take_tidily(&mut self, formula: &Cnf, step: &Move) -> Result<bool, TableError>
+        requires { MayMove formula.now step.now self.old }
+        ensures moved { (stage next : Stage) → IsAtStage formula.now self.old stage
+            → after_move formula.now stage (move_in_order self.old.table.graph.order step.now) ≡ Some next
+            → Moved formula.now stage next self.old self.new result }
+        ensures tidy { result ≡ Ok false → IsTidy (live_nodes self.new.table.graph) self.new.left }
     {
         canonical_law();
         subfunction_law();

@@ -1,5 +1,5 @@
-// A runner, from its opening to the end of its proof. A plan is run in it; or terms are asked for one by one, and what was written
-// is flushed at the end. The sink may be a lent one.
+// A runner, from its opening to the end of its proof. A plan is run in it (`run`); or terms are asked for one by one, and what was
+// written is flushed at the end. The sink may be a lent one.
 ghost use Rattle.std.specs.Prelude.{◌≡◌, ◌≤◌, ◌++◌, ◌∷◌, ℕ, true, false, List, [], length, IsTrue, IfOk, IfErr, OnErr, OnOk};
 ghost use Rattle.std.specs.FinMap as map;
 ghost use Rattle.cnf_base.specs.declared.step.Step.{Step};
@@ -10,28 +10,21 @@ ghost use Rattle.lrat_rules.specs.Derivation.{IsCutProof, IsWritten};
 ghost use Rattle.lrat_rules.specs.State.{start};
 ghost use Rattle.node_table.specs.Table.{live_nodes};
 ghost use Rattle.schedule_plan.specs.Limits.{AreLimits};
-ghost use Rattle.schedule_plan.specs.Plan.{IsAdmissible};
 ghost use Rattle.term_runner.specs.Caches.{HaveSize, all_entries};
-ghost use Rattle.term_runner.specs.declared.outcome.Outcome.TheVariants.{Unsat};
-ghost use Rattle.term_runner.specs.Ends.{Ends, EndsFrom};
-ghost use Rattle.term_runner.specs.Opened.{EndsWithinFrom};
 ghost use Rattle.term_runner.specs.Runner.{IsRunner};
-ghost use Rattle.term_runner.specs.Unused.{IsOpenedOver, IsUnused};
+ghost use Rattle.term_runner.specs.Unused.{IsOpenedOver};
 
 use crate::caches::Caches;
 use crate::error::RunError;
-use crate::finish::finish;
-use crate::gauge::Gauge;
+use crate::gauge::Reading;
 use crate::held::HeldTerm;
-use crate::outcome::{Run, outcome_of};
-use crate::progress::Progress;
 use crate::terms::Terms;
 use clause_ledger::Ledger;
 use cnf_base::{Cnf, Id, OutOfMemory};
 use host_io::Sink;
-use lrat_rules::{derivation_law, soundness_law, start_law};
-use node_table::{Diagram, Table, canonical_law, in_use_law, opening_law};
-use schedule_plan::{Limits, Order, Plan};
+use lrat_rules::start_law;
+use node_table::{Diagram, Table, opening_law};
+use schedule_plan::{Limits, Order};
 use std::alloc::Global;
 
 /// What a runner takes memory for when it is opened: the places of the variables, and empty caches.
@@ -59,7 +52,7 @@ impl Parts {
 #[derive(Drop)]
 pub struct Runner<'a, S: Sink + Drop> {
     pub(crate) formula: &'a Cnf,
-    limits: Limits,
+    pub(crate) limits: Limits,
     pub(crate) terms: Terms<S>,
     // Whether the empty clause was added.
     pub(crate) refuted: bool,
@@ -126,73 +119,6 @@ impl<'a, S: Sink + Drop> Runner<'a, S> {
         }
     }
 
-    /// Runs a plan and flushes the proof, once all terms are released. What they and cubes left is given back before the first move, so that the
-    /// plan's nodes and clauses are all that count then; the numbers that they took stay. Where the empty clause was added the answer is
-    /// `Unsat` at once. In a runner that no term was asked of it ends as `run_plan` does.
-    pub fn run(self, plan: &Plan) -> (S, Result<Run, RunError>)
-        requires runner { IsRunner self }
-        requires none_out { length self.terms.out.items ≡ 0 }
-        requires plan { IsAdmissible self.formula.now plan.now }
-        requires fresh { IsTrue S.tells → (S.channel self.terms.table.book.origin).written ≡ [] }
-        ensures ends { EndsFrom self.entry.terms.table.book.state.top S.tells (S.channel self.entry.terms.table.book.sink) (S.channel result.0)
-            self.entry.formula.now self.entry.terms.table.graph.order plan.now self.entry.limits result.1 }
-        ensures unused { IsUnused self.entry → Ends S.tells (S.channel self.entry.terms.table.book.origin) (S.channel result.0)
-            self.entry.formula.now self.entry.terms.table.graph.order plan.now self.entry.limits result.1 }
-        ensures refuted { IsTrue self.entry.refuted → IfOk result.1 (λ run. run.outcome ≡ Unsat) }
-        ensures as_written { IsTrue self.entry.refuted → (S.channel result.0).written ≡ (S.channel self.entry.terms.table.book.sink).written }
-        ensures beside { S.beside result.0 ≡ S.beside self.entry.terms.table.book.origin }
-    {
-        let gauge = Gauge::new(plan.len());
-        let mut progress = Progress::new(self.formula.len() as u64, self.limits.max_ids, &gauge);
-        self.run_counting(plan, &mut progress, false)
-    }
-
-    /// As `run`, and counts the moves. The caches may be let go at the end.
-    pub(crate) fn run_counting(
-        self,
-        plan: &Plan,
-        progress: &mut Progress<'_>,
-        lets_go: bool,
-    ) -> (S, Result<Run, RunError>)
-        requires runner { IsRunner self }
-        requires none_out { length self.terms.out.items ≡ 0 }
-        requires plan { IsAdmissible self.formula.now plan.now }
-        requires fresh { IsTrue S.tells → (S.channel self.terms.table.book.origin).written ≡ [] }
-        requires begun { progress.old.moves ≡ 0 }
-        ensures ends { EndsWithinFrom self.entry.terms.table.book.state.top S.tells (S.channel self.entry.terms.table.book.sink)
-            (S.channel result.0) self.entry.formula.now self.entry.terms.table.graph.order plan.now self.entry.limits result.1 }
-        ensures refuted { IsTrue self.entry.refuted → IfOk result.1 (λ run. run.outcome ≡ Unsat) }
-        ensures as_written { IsTrue self.entry.refuted → (S.channel result.0).written ≡ (S.channel self.entry.terms.table.book.sink).written }
-        ensures counted { progress.new.moves ≤ length plan.now }
-        ensures beside { S.beside result.0 ≡ S.beside self.entry.terms.table.book.origin }
-    {
-        start_law();
-        derivation_law();
-        soundness_law();
-        in_use_law();
-        canonical_law();
-        let mut runner = self;
-        runner.give_up_refusals();
-        let Runner {
-            formula,
-            limits,
-            mut terms,
-            refuted,
-            kept: _,
-            refusals: _,
-        } = runner;
-        formula.formula_law();
-        terms.table.ledger().book_law();
-        let found = terms.decide(refuted, formula, plan, limits.cache, progress);
-        progress.show(terms.reading(plan.len()));
-        terms.table.table_law();
-        let mut ledger = terms.into_ledger(lets_go);
-        ledger.book_law();
-        let result = finish(&mut ledger, outcome_of(found));
-        ledger.book_law();
-        (ledger.close(), result)
-    }
-
     /// Flushes what was written, and answers the greatest clause number. Only `WriteFault` may come.
     pub fn close(self) -> (S, Result<u64, RunError>)
         requires in_step { IsTrue self.terms.table.book.in_step }
@@ -230,6 +156,11 @@ impl<'a, S: Sink + Drop> Runner<'a, S> {
         ensures { result.now ≡ self.now.terms.table.graph.order }
     {
         self.terms.table.order()
+    }
+
+    /// What was used so far, before a plan of so many moves.
+    pub fn reading(&self, all_moves: usize) -> Reading {
+        self.terms.reading(all_moves)
     }
 
     /// For the prover alone: the steps so far prove what is live, and the sink has their lines, so that what was written is a proof,

@@ -20,7 +20,7 @@ ghost use Rattle.term_runner.specs.Takes.{Costs, IsTidied, Takes, asked_in, func
 ghost use Rattle.term_runner.specs.Tidy.{LeavesReached};
 ghost use Rattle.term_runner.specs.Width.{HasAtMost, term_function};
 
-use crate::found::{any_input, own_conjunction};
+use crate::found::{conjunction, input};
 use crate::held::HeldTerm;
 use crate::moves::is_node_limit;
 use crate::reclamation::roots_of;
@@ -225,7 +225,7 @@ impl<'a, S: Sink + Drop> Runner<'a, S> {
         if self.terms.out.reserve(1).is_err() {
             return Err(TableError::OutOfMemory);
         }
-        let held = any_input(alloc, &mut self.terms.table, self.formula, number)?;
+        let held = input(alloc, &mut self.terms.table, self.formula, number)?;
         self.place(&held);
         Ok(Term { held })
     }
@@ -246,11 +246,12 @@ impl<'a, S: Sink + Drop> Runner<'a, S> {
         if self.terms.out.reserve(1).is_err() {
             return Err(TableError::OutOfMemory);
         }
-        let held = own_conjunction(
+        let held = conjunction(
             &mut self.terms.table,
             &mut self.terms.caches,
             &u.held,
             &v.held,
+            true,
         )?;
         self.place(&held);
         Ok(Term { held })

@@ -1,14 +1,17 @@
 // A trial of a plan: a run that writes nothing, to see how far a plan comes within some limits.
-ghost use Rattle.std.specs.Prelude.{◌≡◌, length, IfOk};
+ghost use Rattle.std.specs.Prelude.{◌≡◌, ◌≢◌, ◌≤◌, List, Err, IfOk, length, max};
+ghost use Rattle.cnf_base.specs.Formula.{Formula};
+ghost use Rattle.schedule_plan.specs.declared.limits.Limits.{Limits as LimitsValue};
+ghost use Rattle.schedule_plan.specs.declared.plan.Move.{Move};
 ghost use Rattle.schedule_plan.specs.Limits.{AreLimits};
 ghost use Rattle.schedule_plan.specs.Plan.{IsAdmissible};
+ghost use Rattle.term_runner.specs.declared.error.RunError.TheVariants.{WriteFault};
 ghost use Rattle.term_runner.specs.Trial.{IsTrial};
 
 use crate::error::RunError;
-use crate::gauge::Gauge;
-use crate::outcome::Outcome;
-use crate::progress::Progress;
-use crate::run::run_with;
+use crate::outcome::{Outcome, Run};
+use crate::runs::run_plan_into;
+use crate::watch::Watch;
 use cnf_base::{Cnf, OutOfMemory};
 use host_io::NoSink;
 use schedule_plan::{Limits, Order, Plan};
@@ -50,25 +53,24 @@ pub fn try_plan(
     requires limits { AreLimits limits }
     ensures { IfOk result (IsTrial formula.now plan.now limits) }
 {
-    let gauge = Gauge::new(plan.len());
-    let mut progress = Progress::new(formula.len() as u64, limits.max_ids, &gauge);
+    let mut watch = Watch::of_trial();
     let mut sink = NoSink;
-    let result = run_with(
-        alloc,
-        formula,
-        order,
-        plan,
-        limits,
-        &mut sink,
-        &mut progress,
-        true,
-    );
-    match result {
+    let found = run_plan_into(alloc, formula, order, plan, limits, &mut sink, &mut watch);
+    trial_of(found, &watch)
+}
+
+/// What a trial tells, whose run ended so, and which was watched.
+pub fn trial_of(found: Result<Run, RunError>, watch: &Watch<'_>) -> Result<Trial, OutOfMemory>
+    requires no_fault { found ≢ Err WriteFault }
+    ensures { (formula : Formula) (moves : List Move) (limits : LimitsValue) → watch.now.moves ≤ length moves
+        → IfOk found (λ run. run.last_id ≤ max (length formula.clauses) limits.max_ids) → IfOk result (IsTrial formula moves limits) }
+{
+    match found {
         Ok(run) => Ok(Trial {
             end: end_of(&run.outcome),
             last_id: run.last_id,
-            moves: progress.moves,
-            moves_at_half: progress.moves_at_half,
+            moves: watch.moves,
+            moves_at_half: watch.moves_at_half,
         }),
         Err(RunError::OutOfMemory) => Err(OutOfMemory),
         Err(RunError::WriteFault) => unreachable!(),

@@ -1,7 +1,7 @@
 // The unit of a conjunction of two terms, and that of a node that a term implies: an operand's own where it is that
 // operand, else a clause that follows from the operands' units and the clause of the conjunction or the implication. Then
-// the operands' units are needed no more.
-ghost use Rattle.std.specs.Prelude.{◌≡◌, ◌≢◌, ◌<◌, ◌+◌, ◌++◌, ◌⊎◌, ◌↔◌, ℕ, ℤ, List, [], ◌∷◌, None, Some, Contains, IsTrue, IfOk};
+// the operands' units are needed no more. If a fresh unit is wanted it is no operand's, and these stay.
+ghost use Rattle.std.specs.Prelude.{◌≡◌, ◌≢◌, ◌<◌, ◌+◌, ◌++◌, ◌⊎◌, ◌↔◌, ℕ, ℤ, List, [], ◌∷◌, None, Some, Contains, IsTrue, IfOk, false};
 ghost use Rattle.std.specs.Prelude.{OnOk};
 ghost use Rattle.std.specs.Prelude.{MatchOption};
 ghost use Rattle.std.specs.Option.{option_to_list};
@@ -25,25 +25,24 @@ use crate::held::HeldTerm;
 use cnf_base::{Id, Lit};
 use hint_chain::{clause_law, following_unit_law};
 use host_io::Sink;
+use lrat_rules::conflict_law;
 use node_table::{Justification, Node, Table, TableError, canonical_law, steps_law};
 use operations::retire;
 use std::slice::from_ref;
 
-/// The unit of the node w, which is the conjunction of both terms' nodes.
+/// The unit of the node w, which is the conjunction of both terms' nodes. Where w is an operand it is that one's, or a clause more, if a
+/// fresh one is wanted; none where w is True.
 pub fn unit_of<S: Sink + Drop>(
     table: &mut Table<S>,
     u: &HeldTerm,
     v: &HeldTerm,
     w: Node,
     just: &Justification,
+    fresh: bool,
 ) -> Result<Justification, TableError>
     requires sound { IsSound table.old }
-    requires first { IsTrue (is_node table.old.graph u.now.node) }
-    requires second { IsTrue (is_node table.old.graph v.now.node) }
-    requires first_open { u.now.node ≢ False }
-    requires second_open { v.now.node ≢ False }
-    requires first_unit { IsJustified table.old.book.state.live (atom_of table.old.graph u.now.node ∷ []) u.now.unit }
-    requires second_unit { IsJustified table.old.book.state.live (atom_of table.old.graph v.now.node ∷ []) v.now.unit }
+    requires first { IsProved table.old.graph table.old.book.state.live u.now }
+    requires second { IsProved table.old.graph table.old.book.state.live v.now }
     requires conjoined { Conjoined table.old.graph table.old.book.state.live u.now.node v.now.node w just.now }
     ensures proves { Proves table.old table.new w result }
     ensures given { IfOk result (λ unit. (unit ≡ u.now.unit) ⊎ ((unit ≡ v.now.unit)
@@ -51,20 +50,20 @@ pub fn unit_of<S: Sink + Drop>(
     ensures added { IfOk result (λ unit. (unit ≡ u.now.unit) ⊎ ((unit ≡ v.now.unit)
         ⊎ ((id : ℕ) → unit ≡ Clause id → IsAddedTo table.new id))) }
     // An operand's own unit without a clause more, or one clause.
-    ensures own { (w ≡ u.now.node) ⊎ (w ≡ v.now.node) → table.new ≡ table.old }
+    ensures own { fresh ≡ false → (w ≡ u.now.node) ⊎ (w ≡ v.now.node) → table.new ≡ table.old }
     ensures told { w ≢ u.now.node → w ≢ v.now.node → OnOk result (AddsUnit table.old table.new w
         (hint_of u.now.unit ++ hint_of v.now.unit ++ hint_of just.now)) }
-    ensures anew { w ≢ u.now.node → w ≢ v.now.node → ProvesAnew table.old table.new w result }
+    ensures anew { IsTrue fresh → ProvesAnew table.old table.new w result }
 {
     steps_law::<S>();
     canonical_law();
     clause_law();
     following_unit_law();
     if is_same(w, u.node) {
-        return Ok(u.unit);
+        return operand_unit(table, w, &u.unit, fresh);
     }
     if is_same(w, v.node) {
-        return Ok(v.unit);
+        return operand_unit(table, w, &v.unit, fresh);
     }
     let Some(first) = clause_id(&u.unit) else {
         unreachable!();
@@ -78,38 +77,67 @@ pub fn unit_of<S: Sink + Drop>(
     add_unit(table, w, &[first, second, both])
 }
 
-/// The unit of the node w, which the term's node implies.
+// An operand's unit, for its own node: itself, or a clause more, if a fresh one is wanted. True needs none.
+fn operand_unit<S: Sink + Drop>(
+    table: &mut Table<S>,
+    w: Node,
+    unit: &Justification,
+    fresh: bool,
+) -> Result<Justification, TableError>
+    requires sound { IsSound table.old }
+    requires stands { IsTrue (is_node table.old.graph w) }
+    requires proved { IsJustified table.old.book.state.live (atom_of table.old.graph w ∷ []) unit.now }
+    ensures proves { Proves table.old table.new w result }
+    ensures given { IfOk result (λ own. (own ≡ unit.now) ⊎ IsNewJustification table.old.book.state table.new.book.state own) }
+    ensures added { IfOk result (λ own. (own ≡ unit.now) ⊎ ((id : ℕ) → own ≡ Clause id → IsAddedTo table.new id)) }
+    ensures own { fresh ≡ false → table.new ≡ table.old }
+    ensures anew { IsTrue fresh → ProvesAnew table.old table.new w result }
+{
+    steps_law::<S>();
+    if !fresh {
+        return Ok(*unit);
+    }
+    if is_same(w, Node::True) {
+        return Ok(Justification::Trivial);
+    }
+    add_again(table, w, unit)
+}
+
+/// The unit of the node w, which the term's node implies. Where w is the term's node it is that one's, or a clause more, if a fresh one is
+/// wanted; none where w is True. Where the term is False it follows from the empty clause.
 pub fn unit_of_implied<S: Sink + Drop>(
     table: &mut Table<S>,
     u: &HeldTerm,
     w: Node,
     just: &Justification,
+    fresh: bool,
 ) -> Result<Justification, TableError>
     requires sound { IsSound table.old }
-    requires first { IsTrue (is_node table.old.graph u.now.node) }
+    requires first { IsProved table.old.graph table.old.book.state.live u.now }
     requires second { IsTrue (is_node table.old.graph w) }
-    requires first_open { u.now.node ≢ False }
-    requires first_unit { IsJustified table.old.book.state.live (atom_of table.old.graph u.now.node ∷ []) u.now.unit }
     requires implied { Implied table.old.graph table.old.book.state.live u.now.node w just.now }
     ensures proves { Proves table.old table.new w result }
     ensures given { IfOk result (λ unit. (unit ≡ u.now.unit) ⊎ IsNewJustification table.old.book.state table.new.book.state unit) }
     ensures added { IfOk result (λ unit. (unit ≡ u.now.unit) ⊎ ((id : ℕ) → unit ≡ Clause id → IsAddedTo table.new id)) }
     // Its own unit, or none where w is True, without a clause more; or one clause.
-    ensures own { (w ≡ u.now.node) ⊎ (w ≡ True) → table.new ≡ table.old }
-    ensures told { w ≢ u.now.node → w ≢ True → OnOk result (AddsUnit table.old table.new w
+    ensures own { fresh ≡ false → (w ≡ u.now.node) ⊎ (w ≡ True) → table.new ≡ table.old }
+    ensures told { u.now.node ≢ False → w ≢ u.now.node → w ≢ True → OnOk result (AddsUnit table.old table.new w
         (hint_of u.now.unit ++ hint_of just.now)) }
-    ensures anew { w ≢ u.now.node → w ≢ True → ProvesAnew table.old table.new w result }
-    ensures steps { Steps table.old table.new 1 (error_of result) }
+    ensures anew { IsTrue fresh → ProvesAnew table.old table.new w result }
+    ensures steps { u.now.node ≢ False → Steps table.old table.new 1 (error_of result) }
 {
     steps_law::<S>();
     canonical_law();
     clause_law();
     following_unit_law();
     if is_same(w, u.node) {
-        return Ok(u.unit);
+        return operand_unit(table, w, &u.unit, fresh);
     }
     if is_same(w, Node::True) {
         return Ok(Justification::Trivial);
+    }
+    if is_same(u.node, Node::False) {
+        return add_behind_empty(table, w, &u.unit);
     }
     let Some(first) = clause_id(&u.unit) else {
         unreachable!();
@@ -120,37 +148,8 @@ pub fn unit_of_implied<S: Sink + Drop>(
     add_unit(table, w, &[first, implication])
 }
 
-/// A unit of the node w, which is the conjunction of both terms' nodes, that is no operand's: where w is an operand, it follows from
-/// that one's; none where w is True.
-pub fn own_unit<S: Sink + Drop>(
-    table: &mut Table<S>,
-    u: &HeldTerm,
-    v: &HeldTerm,
-    w: Node,
-    just: &Justification,
-) -> Result<Justification, TableError>
-    requires sound { IsSound table.old }
-    requires first { IsProved table.old.graph table.old.book.state.live u.now }
-    requires second { IsProved table.old.graph table.old.book.state.live v.now }
-    requires conjoined { Conjoined table.old.graph table.old.book.state.live u.now.node v.now.node w just.now }
-    ensures { ProvesAnew table.old table.new w result }
-{
-    steps_law::<S>();
-    canonical_law();
-    if is_same(w, Node::True) {
-        return Ok(Justification::Trivial);
-    }
-    if is_same(w, u.node) {
-        return add_again(table, w, &u.unit);
-    }
-    if is_same(w, v.node) {
-        return add_again(table, w, &v.unit);
-    }
-    unit_of(table, u, v, w, just)
-}
-
-/// Adds the clause of a node alone once more, where it is live.
-pub fn add_again<S: Sink + Drop>(
+// Adds the clause of a node alone once more, where it is live.
+fn add_again<S: Sink + Drop>(
     table: &mut Table<S>,
     w: Node,
     unit: &Justification,
@@ -161,6 +160,25 @@ pub fn add_again<S: Sink + Drop>(
     requires proved { IsJustified table.old.book.state.live (atom_of table.old.graph w ∷ []) unit.now }
     ensures { ProvesAnew table.old table.new w result }
 {
+    let Some(id) = clause_id(unit) else {
+        unreachable!();
+    };
+    add_unit(table, w, &[id])
+}
+
+// Adds the clause of a node alone, which follows from the empty clause.
+fn add_behind_empty<S: Sink + Drop>(
+    table: &mut Table<S>,
+    w: Node,
+    unit: &Justification,
+) -> Result<Justification, TableError>
+    requires sound { IsSound table.old }
+    requires stands { IsTrue (is_node table.old.graph w) }
+    requires not_true { w ≢ True }
+    requires empty { IsJustified table.old.book.state.live (atom_of table.old.graph False ∷ []) unit.now }
+    ensures { ProvesAnew table.old table.new w result }
+{
+    conflict_law();
     let Some(id) = clause_id(unit) else {
         unreachable!();
     };

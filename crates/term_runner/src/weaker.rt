@@ -1,37 +1,29 @@
 // A term weakened to a node that it implies. The new unit is no operand's: where the node is the operand's it follows from that one's
 // unit alone, and from the empty clause where the operand is False. (Bryant, Heule: Generating Extended Resolution Proofs with a
 // BDD-Based SAT Solver, 2021, section 4.3.)
-ghost use Rattle.std.specs.Prelude.{◌≡◌, ◌≢◌, ◌<◌, ◌+◌, List, [], ◌∷◌, Err, None, Ok, IfErr, IfOk, IfSome, IsTrue};
+ghost use Rattle.std.specs.Prelude.{◌≡◌, ◌≢◌, List, [], ◌∷◌, Err, None, Ok, IfErr, IfOk, IfSome, IsTrue};
 ghost use Rattle.node_table.specs.declared.error.TableError.TheVariants.{NodeLimit, WriteFault};
-ghost use Rattle.node_table.specs.declared.node.Node.TheVariants.{False, True};
-ghost use Rattle.node_table.specs.Defined.{atom_of};
 ghost use Rattle.node_table.specs.Diagram.{is_node};
-ghost use Rattle.node_table.specs.Justification.{IsJustified};
 ghost use Rattle.node_table.specs.Table.{IsSound};
 ghost use Rattle.node_table.specs.Value.{IsSubfunction, value_of};
 ghost use Rattle.operations.specs.Entries.{Fits};
-ghost use Rattle.operations.specs.Results.{Implied};
 ghost use Rattle.imply.specs.Implication.{IsRefuted};
 ghost use Rattle.term_runner.specs.declared.held.HeldTerm.{HeldTerm as HeldValue};
 ghost use Rattle.term_runner.specs.Caches.{all_entries};
 ghost use Rattle.term_runner.specs.Finds.{Finds, IsProved};
 ghost use Rattle.term_runner.specs.Held.{GivesUnit, HasUnits};
 ghost use Rattle.term_runner.specs.Parity.{holds_or, node_holds, some_or};
-ghost use Rattle.term_runner.specs.Proves.{ProvesAnew};
 ghost use Rattle.term_runner.specs.Runner.{true_term};
 
 use crate::caches::Caches;
 use crate::held::HeldTerm;
-use crate::unit::{add_again, add_unit, clause_id, is_same, unit_of_implied};
+use crate::unit::unit_of_implied;
 use host_io::Sink;
-use lrat_rules::conflict_law;
-use node_table::{
-    Justification, Node, Table, TableError, canonical_law, growth_law, steps_law, subfunction_law,
-};
+use node_table::{Node, Table, TableError, canonical_law, growth_law, steps_law, subfunction_law};
 use operations::entry_law;
 
-/// The term of a node that a term implies; none where it doesn't.
-pub fn own_weaker<S: Sink + Drop>(
+/// The term of a node that a term implies, with a unit of its own; none where it doesn't.
+pub fn weaker<S: Sink + Drop>(
     table: &mut Table<S>,
     caches: &mut Caches,
     u: &HeldTerm,
@@ -62,52 +54,6 @@ pub fn own_weaker<S: Sink + Drop>(
     let Some(just) = caches.implies(table, u.node, w)? else {
         return Ok(None);
     };
-    let unit = own_unit_of_implied(table, u, w, &just)?;
+    let unit = unit_of_implied(table, u, w, &just, true)?;
     Ok(Some(HeldTerm { node: w, unit }))
-}
-
-// A unit of the node w, which the term's node implies, that is not the term's; none where w is True.
-fn own_unit_of_implied<S: Sink + Drop>(
-    table: &mut Table<S>,
-    u: &HeldTerm,
-    w: Node,
-    just: &Justification,
-) -> Result<Justification, TableError>
-    requires sound { IsSound table.old }
-    requires first { IsProved table.old.graph table.old.book.state.live u.now }
-    requires second { IsTrue (is_node table.old.graph w) }
-    requires implied { Implied table.old.graph table.old.book.state.live u.now.node w just.now }
-    ensures { ProvesAnew table.old table.new w result }
-{
-    steps_law::<S>();
-    canonical_law();
-    if is_same(w, Node::True) {
-        return Ok(Justification::Trivial);
-    }
-    if is_same(w, u.node) {
-        return add_again(table, w, &u.unit);
-    }
-    if is_same(u.node, Node::False) {
-        return add_behind_empty(table, w, &u.unit);
-    }
-    unit_of_implied(table, u, w, just)
-}
-
-// Adds the clause of a node alone, which follows from the empty clause.
-fn add_behind_empty<S: Sink + Drop>(
-    table: &mut Table<S>,
-    w: Node,
-    unit: &Justification,
-) -> Result<Justification, TableError>
-    requires sound { IsSound table.old }
-    requires stands { IsTrue (is_node table.old.graph w) }
-    requires not_true { w ≢ True }
-    requires empty { IsJustified table.old.book.state.live (atom_of table.old.graph False ∷ []) unit.now }
-    ensures { ProvesAnew table.old table.new w result }
-{
-    conflict_law();
-    let Some(id) = clause_id(unit) else {
-        unreachable!();
-    };
-    add_unit(table, w, &[id])
 }

@@ -1,5 +1,6 @@
 pub mod Block
 pub mod Turn
+pub mod Near
 pub mod Bridge
 pub mod Kept
 pub mod WordAhead

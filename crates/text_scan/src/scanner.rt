@@ -10,7 +10,7 @@ ghost use Rattle.text_scan.specs.Items.{items, items_of_front, the_end, too_long
 ghost use Rattle.text_scan.specs.Lexer.{items_from, word_then};
 ghost use Rattle.text_scan.specs.Scan.{ahead, so_far, is_reading, is_faulted, given, Gives, GivesSoFar, Moves, TookNumber, TookNumbers};
 ghost use Rattle.text_scan.specs.Scan.{passed, last_answer};
-ghost use Rattle.text_scan.specs.Scan.{block_size};
+ghost use Rattle.text_scan.specs.Near.{is_near};
 ghost use Rattle.text_scan.specs.Block.{IsWordAhead, IsNumberAhead};
 ghost use Rattle.text_scan.specs.Decides.{gained, Decides, OnlyReads};
 
@@ -260,9 +260,10 @@ impl Scanner {
         self.line
     }
 
-    /// No more than a block of the bytes taken isn't looked at yet.
-    pub fn unread_law(&self)
-        ensures { length self.now.unread ≤ block_size }
+    /// No more tokens are ahead than a block of bytes, and what follows it, can spell.
+    #[inline(always)]
+    pub fn near_law(&self)
+        ensures { (more : List ℕ) → is_near (length more) (ahead self.now more) ≡ true }
     {
         let _at = self.at;
     }

@@ -126,7 +126,7 @@ impl<W: Write + Drop> Output<W> {
             Err(e) => return tally.note(Err(e)),
         };
         if count == 0 && !bytes.is_empty() {
-            return Some(Err(tally.fail()));
+            return Some(Err(tally.fail(ErrorKind::WriteZero)));
         }
         self.written = self.written.and(&bytes[..count]);
         Some(Ok(count))

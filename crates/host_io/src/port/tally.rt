@@ -7,11 +7,12 @@ use crate::source::Failed;
 use std::io;
 use std::io::ErrorKind;
 
-/// How many calls failed, and how many a signal broke off.
+/// How many calls failed, how many a signal broke off, and why the last one that failed did.
 #[derive(Drop)]
 pub(crate) struct Tally {
     faults: u64,
     broken_off: u64,
+    last_fault: Option<ErrorKind>,
 }
 
 impl Tally {
@@ -21,7 +22,13 @@ impl Tally {
         Tally {
             faults: 0,
             broken_off: 0,
+            last_fault: None,
         }
+    }
+
+    /// Why the last call that failed did.
+    pub(crate) fn last_fault(&self) -> Option<ErrorKind> {
+        self.last_fault
     }
 
     /// Whether a call that was broken off may be made again.
@@ -38,15 +45,16 @@ impl Tally {
         ensures rises { Rises self.old self.new }
         ensures breaks { breaks_of self.new ≡ breaks_of self.old }
     {
-        self.fail()
+        self.fail(ErrorKind::Interrupted)
     }
 
-    /// A call failed.
-    pub(super) fn fail(&mut self) -> Failed
+    /// A call failed, for this reason.
+    pub(super) fn fail(&mut self, reason: ErrorKind) -> Failed
         ensures rises { Rises self.old self.new }
         ensures breaks { breaks_of self.new ≡ breaks_of self.old }
     {
         self.faults = self.faults.saturating_add(1);
+        self.last_fault = Some(reason);
         Failed
     }
 
@@ -59,7 +67,7 @@ impl Tally {
     {
         match answer {
             Ok(value) => Ok(value),
-            Err(_) => Err(self.fail()),
+            Err(error) => Err(self.fail(error.kind())),
         }
     }
 

@@ -4,6 +4,7 @@ ghost use Rattle.std.specs.Prelude.{OnErr, IfOk};
 ghost use Rattle.host_io.specs.Channel.{Rose};
 ghost use Rattle.text_scan.specs.Decides.{gained, Decides, OnlyReads};
 ghost use Rattle.text_scan.specs.Items.{Items, the_end, too_long, next_word};
+ghost use Rattle.text_scan.specs.Near.{is_near};
 ghost use Rattle.cnf_base.specs.Formula.{Formula};
 ghost use Rattle.schedule_plan.specs.declared.plan.Move.{Move as Moved};
 ghost use Rattle.schedule_plan.specs.declared.plan.Move.TheVariants.{Push as PushMove, Exists as ExistsMove};
@@ -39,9 +40,9 @@ pub(crate) fn read_schedule<S: Source>(
     ensures unfailed { result ≢ Err ReadFault → (S.channel source.new).faults ≡ (S.channel source.old).faults }
     ensures undecided { IsTrue S.tells → result ≡ Err ReadFault → schedule_so_far formula.now
         (gained (S.channel source.old) (S.channel source.new)) ≡ overlong }
-    // want of memory stands neither for a refusal nor for a text that is too long
+    // want of memory stands neither for a refusal nor for a text that is too long, and is told at its place
     ensures memory { IsTrue S.tells → result ≡ Err OutOfMemory → (S.channel source.new ≡ S.channel source.old)
-        ⊎ Decides (S.channel source.old) (S.channel source.new) (λ bytes more. IsTrue (may_want_memory formula.now bytes)) }
+        ⊎ Decides (S.channel source.old) (S.channel source.new) (λ bytes more. IsTrue (may_want_memory formula.now (length more) bytes)) }
     ensures admissible { IfOk result (IsAdmissible formula.now) }
     ensures reads { OnlyReads (S.channel source.old) (S.channel source.new) }
     ensures beside { S.beside source.new ≡ S.beside source.old }
@@ -52,7 +53,10 @@ pub(crate) fn read_schedule<S: Source>(
     let mut line = Line::new(alloc);
     'tokens: loop {
         match scanner.next(source) {
-            Ok(Some(token)) => take_token(&mut judge, formula, &mut line, &token)?,
+            Ok(Some(token)) => {
+                scanner.near_law();
+                take_token(&mut judge, formula, &mut line, &token)?;
+            }
             Ok(None) => return at_end(judge, formula, &line, scanner.line()),
             Err(ScanError::TooLong) => return Err(at_limit(judge, formula, &line, scanner.line())),
             Err(ScanError::ReadFault) => return Err(PlanError::ReadFault),
@@ -71,10 +75,11 @@ fn take_token(
     ensures stands { OnOk result (Stands formula.now judge.new) }
     ensures goes { (items : Items) → Goes result (drafted formula.now (next_word token.now items) line.old judge.old.moves.items)
         (drafted formula.now items line.new judge.new.moves.items) }
-    ensures later { OnOk result ((items : Items) → IsTrue (items_may_want_memory formula.now items line.new judge.new.moves.items)
-        → IsTrue (items_may_want_memory formula.now (next_word token.now items) line.old judge.old.moves.items)) }
-    ensures memory { result ≡ Err OutOfMemory → (items : Items)
-        → IsTrue (items_may_want_memory formula.now (next_word token.now items) line.old judge.old.moves.items) }
+    ensures later { OnOk result ((more : ℕ) (items : Items)
+        → IsTrue (items_may_want_memory more formula.now items line.new judge.new.moves.items)
+        → IsTrue (items_may_want_memory more formula.now (next_word token.now items) line.old judge.old.moves.items)) }
+    ensures memory { result ≡ Err OutOfMemory → (more : ℕ) (items : Items) → IsTrue (is_near more items)
+        → IsTrue (items_may_want_memory more formula.now (next_word token.now items) line.old judge.old.moves.items) }
     ensures unfailed { result ≢ Err ReadFault }
 {
     if line.is_open() && line.line() == token.line() {
@@ -90,7 +95,8 @@ fn take_token(
 fn at_end(mut judge: ScheduleJudge, formula: &Cnf, line: &Line, end: u64) -> Result<Plan, PlanError>
     requires { Stands formula.now judge }
     ensures answers { Answers result (drafted formula.now (the_end end) line.now judge.moves.items) }
-    ensures memory { result ≡ Err OutOfMemory → IsTrue (items_may_want_memory formula.now (the_end end) line.now judge.moves.items) }
+    ensures memory { result ≡ Err OutOfMemory → (more : ℕ)
+        → IsTrue (items_may_want_memory more formula.now (the_end end) line.now judge.moves.items) }
     ensures unfailed { result ≢ Err ReadFault }
     ensures admissible { IfOk result (IsAdmissible formula.now) }
 {
@@ -102,7 +108,8 @@ fn at_end(mut judge: ScheduleJudge, formula: &Cnf, line: &Line, end: u64) -> Res
 fn at_limit(mut judge: ScheduleJudge, formula: &Cnf, line: &Line, end: u64) -> PlanError
     requires { Stands formula.now judge }
     ensures answers { Answers (Err result) (drafted formula.now (too_long end) line.now judge.moves.items) }
-    ensures memory { result ≡ OutOfMemory → IsTrue (items_may_want_memory formula.now (too_long end) line.now judge.moves.items) }
+    ensures memory { result ≡ OutOfMemory → (more : ℕ)
+        → IsTrue (items_may_want_memory more formula.now (too_long end) line.now judge.moves.items) }
     ensures unfailed { result ≢ ReadFault }
 {
     if line.line() < end {

@@ -19,7 +19,7 @@ returns-in_default-clause-ends g c =
     c.args.order.now c.args.cubes.now c.args.limits _)
     (search rules)
     (nothing_ends g.S.Sink.tells (g.S.Sink.channel c.args.sink.now) c.args.formula.now c.args.order.now c.args.limits c.args.cubes.now
-    c.derivation_law.ensures.none c.requires.fresh)
+    c.derivation_law.ensures.none c.marks_law.ensures.start c.formula_law.ensures.literals c.requires.fresh)
 
 pub reply_all-found-requires-clause-none_out : goal.reply_all-found-requires-clause-none_out
 reply_all-found-requires-clause-none_out g c = c.new-runner.ensures.opened.unused.none_out

@@ -1,6 +1,8 @@
 -- What is left to show of `term_of_formula`.
-use Rattle.std.proofs.Common.{◌≡◌, ◌∙◌, ◌<◌, Bool, true, false, ℤ, [], ◌∷◌, List, None, Some, length, refl, sym, ap, subst, arith}
-use Rattle.std.specs.Prelude.{◌↔◌, IsTrue}
+use Rattle.std.proofs.Common.{◌≡◌, ◌≢◌, ◌∙◌, ◌<◌, ◌+◌, ◌-◌, ℕ, Bool, true, false, true≢false, ℤ, [], ◌∷◌, List, None, Some, length, refl, sym, ap, subst, arith}
+use Rattle.std.specs.Prelude.{◌↔◌, IsTrue, slice_index_or}
+use Rattle.node_table.specs.declared.node.Node.{Node}
+use Rattle.node_table.specs.declared.node.Node.TheVariants.{False}
 use Rattle.cnf_base.specs.Formula.{Formula}
 use Rattle.node_table.specs.HandedOn.{no_error}
 use Rattle.schedule_plan.specs.Plan.{clause_of_number}
@@ -39,7 +41,7 @@ returns-in_err-term-clause-takes g c =
     over_handed [] (formula_holds c.args.formula.now) c.args.runner.now c.term-2.new.self c.in_err-term.field-0.0 _
     c.from_residual.ensures.1
     (error_behind c.steps_law.ensures c.args.runner.now c.args.runner.now c.term-2.new.self _ (formula_holds c.args.formula.now)
-    c.in_err-term.field-0.0 (goes_none c.steps_law.ensures c.args.runner.now c.requires.runner)
+    c.in_err-term.field-0.0 (goes_none c.steps_law.ensures c.args.runner.now c.requires.runner) (λ was. was)
     (first_alone c.args.runner.now c.args.formula.now c.requires.formula c.requires.none_out c.term-2.new.self _
     (taken _ c.args.runner.now c.term-2.new.self _ c.in_err-term.ensures.takes)))
 
@@ -54,6 +56,7 @@ clauses-init g c =
           takes.listed;
       value = λ a. takes.value a ∙ first_value c.args.runner.now c.args.formula.now c.requires.formula
           some a;
+      unrefuted = takes.unrefuted no_error;
       goes = takes.goes;
       some = omega arith;
       paid = first_costs c.args.runner.now c.term-2.new.self c.requires.none_out (within_old c.args.runner.now c.args.formula.now c.requires.formula 0 some) None
@@ -64,8 +67,20 @@ pub returns-then-is_false-clause-takes : goal.returns-then-is_false-clause-takes
 returns-then-is_false-clause-takes g c =
     let inside = c.clauses.invariant in
     alone_behind c.args.runner.now c.clauses.runner (formula_holds c.args.formula.now) c.clauses.term inside.runner inside.alone
-    (false_value c.clauses.runner c.clauses.term.held c.args.formula.now.clauses c.clauses.place (sym c.node.ensures ∙ c.is_false.ensures c.if-is_false.true)
-    inside.value) inside.goes
+    (false_value c.clauses.runner c.clauses.term.held c.args.formula.now.clauses c.clauses.place
+    (sym c.node.ensures ∙ c.is_false.ensures.0 c.if-is_false.true) inside.value) inside.unrefuted inside.goes
+
+-- a term that isn't told to be False is not
+open_term : (held : HeldTerm) (node : Node) → node ≡ held.node → (b : Bool) → (IsTrue b ↔ (node ≡ False)) → b ≡ false → held.node ≢ False
+open_term held node same b tells not is = true≢false (sym (tells.1 (same ∙ is)) ∙ not)
+
+pub with_clause-requires-clause-some : goal.with_clause-requires-clause-some
+with_clause-requires-clause-some g c =
+    let of_formula = ap (λ f. f.now) c.clauses.invariant.goes.formula ∙ c.requires.formula in
+    let back : c.clauses.place + 1 - 1 ≡ c.clauses.place = omega arith in
+    λ empty. c.in_default.ensures.each c.clauses.place (omega (arith, c.clauses-test.true, c.len-place-end.ensures))
+    (ap (λ (n : ℕ). slice_index_or c.args.formula.now.clauses n []) (sym back)
+    ∙ ap (λ (f : Formula). slice_index_or f.clauses (c.clauses.place + 1 - 1) []) (sym of_formula) ∙ empty)
 
 pub with_clause-requires-clause-to_len : goal.with_clause-requires-clause-to_len
 with_clause-requires-clause-to_len g c =
@@ -78,7 +93,10 @@ returns-in_err-term-2-clause-takes g c =
     over_handed [] (formula_holds c.args.formula.now) c.args.runner.now c.with_clause.new.runner c.in_err-term-2.field-0.0 _
     c.from_residual-in_err-term-2.ensures.1
     (error_behind c.steps_law.ensures c.args.runner.now c.clauses.runner c.with_clause.new.runner _ (formula_holds c.args.formula.now)
-    c.in_err-term-2.field-0.0 c.clauses.invariant.goes c.in_err-term-2.ensures.takes)
+    c.in_err-term-2.field-0.0 c.clauses.invariant.goes
+    (λ was. c.clauses.invariant.unrefuted was
+    (open_term c.clauses.term.held c.node.result c.node.ensures c.is_false.result c.is_false.ensures c.if-is_false.false))
+    c.in_err-term-2.ensures.takes)
 
 pub clauses-preserved : goal.clauses-preserved
 clauses-preserved g c =
@@ -91,6 +109,8 @@ clauses-preserved g c =
       value = λ a. over.value a
           ∙ more_value c.clauses.runner c.args.formula.now of_formula c.clauses.place (omega (arith, c.clauses-test.true, c.len-place-end.ensures))
           (λ a. holds_in c.clauses.runner c.clauses.term.held a) inside.value a;
+      unrefuted = λ was some. over.unrefuted no_error (inside.unrefuted was
+          (open_term c.clauses.term.held c.node.result c.node.ensures c.is_false.result c.is_false.ensures c.if-is_false.false)) some;
       goes = goes_further c.steps_law.ensures c.args.runner.now c.clauses.runner c.with_clause.new.runner _ inside.goes over.goes;
       some = omega (arith, inside.some);
       paid = next_costs c.counting_law.ensures c.args.runner.now c.clauses.runner c.with_clause.new.runner c.clauses.term.held
@@ -107,7 +127,7 @@ returns-clause-takes g c =
     let some = some_of c.args.formula.now.clauses c.is_empty.result c.is_empty.ensures full in
     let all : c.clauses.place ≡ length c.args.formula.now.clauses = omega (arith, some, c.clauses.auto.place-end, c.len-place-end.ensures, c.clauses-test.false) in
     alone_behind c.args.runner.now c.clauses.runner (formula_holds c.args.formula.now) c.clauses.term inside.runner inside.alone
-    (whole_value c.clauses.runner c.clauses.term.held c.args.formula.now.clauses c.clauses.place all inside.value) inside.goes
+    (whole_value c.clauses.runner c.clauses.term.held c.args.formula.now.clauses c.clauses.place all inside.value) inside.unrefuted inside.goes
 
 pub returns-then-is_empty-clause-costs : goal.returns-then-is_empty-clause-costs
 returns-then-is_empty-clause-costs g c = plan_none c.args.runner.now

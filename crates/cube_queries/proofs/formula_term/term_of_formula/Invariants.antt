@@ -1,5 +1,6 @@
 -- What the loop of `term_of_formula` keeps.
-use Rattle.std.proofs.Common.{◌≡◌, ◌≤◌, [], None, take}
+use Rattle.std.proofs.Common.{◌≡◌, ◌≢◌, ◌≤◌, [], None, take, false}
+use Rattle.node_table.specs.declared.node.Node.TheVariants.{False}
 use Rattle.std.specs.List.{list_all}
 use Rattle.cnf_base.specs.Truth.{Assignment, clause_holds}
 use Rattle.term_runner.specs.Runner.{IsListed, IsRunner, holds_in}
@@ -13,6 +14,7 @@ invariant-clauses g l = record {
   runner : IsRunner l.runner;
   alone : IsListed [] l.runner.terms.out.items l.term.held;
   value : (a : Assignment) → holds_in l.runner l.term.held a ≡ list_all (clause_holds a) (take l.place l.formula.clauses);
+  unrefuted : l.fn.runner.refuted ≡ false → l.term.held.node ≢ False → l.runner.refuted ≡ false;
   goes : Goes l.fn.runner l.runner None;
   paid : PaidTo l.place l.fn.runner l.runner;
 }

@@ -189,7 +189,7 @@ returns-clause-replies g c =
     (adds_refused c.ready.new.runner c.refuse.new.self c.args.term.now.held c.args.cube.now (Ok c.in_ok-refuse.field-0) own.refuses)) in
     replies_added c.args.runner.now c.refuse.new.self (n + 1) c.args.cube.now (Ok Unsat) all (
       λ a satisfied holds. c.requires.none a (sym (ap (λ f. formula_holds f.now a) all.goes.formula) ∙ satisfied) holds,
-      λ is. own.refuses.forbids.added,
+      λ is. (own.refuses.forbids.added, (own.refuses.forbids.id, own.refuses.forbids.stands)),
     )
 
 pub returns-clause-costs : goal.returns-clause-costs

@@ -29,7 +29,7 @@ pub returns-clause-replies : goal.returns-clause-replies
 returns-clause-replies g c =
     all_released c.steps_law.ensures c.args.cubes.now c.args.runner.now c.term_of_formula.new.runner c.reply_each-answers.new.runner
     c.release.new.self c.in_ok-term.term.held c.in_ok-term.ensures.takes.goes c.release.ensures.releases c.release.ensures.torn
-    c.reply_each-answers.result c.reply_each-answers.ensures.replies
+    c.reply_each-answers.result c.reply_each-answers.ensures.no_limit c.reply_each-answers.ensures.replies
 
 pub returns-in_err-term-clause-costs : goal.returns-in_err-term-clause-costs
 returns-in_err-term-clause-costs g c =

@@ -13,7 +13,7 @@ use Rattle.cube_queries.specs.declared.answer.Answer.{Answer}
 use Rattle.cube_queries.proofs.Added.{all_reached}
 use Rattle.cube_queries.proofs.Alone.{alone_good}
 use Rattle.cube_queries.proofs.Asked.{AnswersIn, all_at, all_replied, answers_more, no_room_replied, none_reclaimed, none_replied, stays_none}
-use Rattle.cube_queries.proofs.Asked.{stays_replied, value_yet, whole_answers}
+use Rattle.cube_queries.proofs.Asked.{handed_limit, stays_replied, value_yet, whole_answers}
 use Rattle.cube_queries.proofs.Stays.{stays_back, stays_further}
 use Rattle.cube_queries.proofs.Totals.{cube_costs, cube_short, cubes_back, cubes_done, cubes_handed, no_cubes}
 use Rattle.cube_queries.proofs.Taken.{error_is, gives_back}
@@ -157,3 +157,18 @@ pub returns-clause-costs : goal.returns-clause-costs
 returns-clause-costs g c =
     let all : c.cubes.place ≡ length c.args.cubes.now = omega (arith, c.cubes.auto.place-end, c.len-place-end.ensures, c.cubes-test.false) in
     cubes_done c.args.cubes.now c.cubes.place c.args.runner.now c.cubes.runner None (omega (arith, all)) (λ is. cc) c.cubes.invariant.paid
+
+-- no limit of nodes is met
+pub returns-in_err-reclaim-clause-no_limit : goal.returns-in_err-reclaim-clause-no_limit
+returns-in_err-reclaim-clause-no_limit g c =
+    handed_limit c.in_err-reclaim.field-0.0 _ c.from_residual.ensures.1
+    (λ is. (gives_back c.args.runner.now c.reclaim.new.self _ c.in_err-reclaim.ensures).no_limit (ap Err is))
+
+pub returns-in_err-answer-clause-no_limit : goal.returns-in_err-answer-clause-no_limit
+returns-in_err-answer-clause-no_limit g c =
+    handed_limit c.in_err-answer.field-0.0 _ c.from_residual-in_err-answer.ensures.1
+    (λ is. c.in_err-answer.ensures.replies.no_limit (ap Err is))
+
+pub returns-in_err-push-clause-no_limit : goal.returns-in_err-push-clause-no_limit
+returns-in_err-push-clause-no_limit g c =
+    handed_limit OutOfMemory _ c.from_residual-in_err-push.ensures.1 (λ is. let e : OutOfMemory ≡ NodeLimit = is in cc)

@@ -7,6 +7,7 @@ use Rattle.cube_queries.proofs.Alone.{alone_good}
 use Rattle.cube_queries.proofs.Costed.{costs_handed, costs_with, costs_without}
 use Rattle.cube_queries.proofs.Joined.{given_good, over_behind, over_handed, over_none}
 use Rattle.cube_queries.proofs.Taken.{costs_of, taken}
+use Rattle.cube_queries.proofs.Whole.{clause_open}
 use Rattle.cube_queries.proofs.steps.with_term.Goals as goal
 
 pub returns-in_err-clause-clause-takes : goal.returns-in_err-clause-clause-takes
@@ -32,6 +33,7 @@ returns-clause-takes g c =
     let good = alone_good c.args.runner.now c.args.term.now.held c.requires.alone in
     over_behind c.steps_law.ensures c.args.runner.now c.term.new.self c.both_into.new.runner c.args.runner.now.terms.out.items _
     c.in_ok-clause.clause (taken _ c.args.runner.now c.term.new.self _ c.in_ok-clause.ensures.takes)
+    (clause_open c.args.runner.now c.term.new.self c.in_ok-clause.clause.held c.args.number c.requires.some c.in_ok-clause.ensures.takes.value)
     (λ a. holds_in c.args.runner.now c.args.term.now.held a && term_holds c.args.runner.now.formula.now a (input_term c.args.number))
     (λ a. holds_in c.term.new.self c.args.term.now.held a && holds_in c.term.new.self c.in_ok-clause.clause.held a)
     (λ a i. (c.in_ok-clause.ensures.takes.keeps no_error).values c.args.term.now.held good a i && c.in_ok-clause.ensures.takes.value a i)

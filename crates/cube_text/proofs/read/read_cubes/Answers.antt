@@ -1,7 +1,7 @@
 -- What is ahead of a new scanner are the items of the text. The end or a token that offends decides, and the text goes on
 -- behind one that does not.
 use Rattle.std.specs.Prelude.{IfOk}
-use Rattle.std.proofs.Common.{◌≡◌, ℕ, Err, refl, ◌∙◌, ap, subst, arith}
+use Rattle.std.proofs.Common.{◌≡◌, ℕ, length, Err, refl, ◌∙◌, ap, subst, arith}
 use Rattle.text_scan.specs.Decides.{gained, Decides-none, Decides-then, OnlyReads-then, gained-none, front-then}
 use Rattle.text_scan.specs.Items.{items, items_of_front}
 use Rattle.text_scan.specs.Scan.{ahead, so_far}
@@ -107,13 +107,14 @@ returns-in_err-take-in-Some-clause-memory g c = λ told wanted.
     c.from_residual-in_err-take-in-Some.ensures.1 in
     let memory : c.in_err-take-in-Some.field-0.0 ≡ OutOfMemory = cc in
     let none = c.in_err-take-in-Some.ensures.memory (ap Err memory) in
-    Decides-then (λ bytes more. WantsMemory c.args.vars (items 35 max_bytes bytes)) (c.tokens.invariant.passed told) gives
+    Decides-then (λ bytes more. WantsMemory c.args.vars (length more) (items 35 max_bytes bytes)) (c.tokens.invariant.passed told) gives
     (λ bytes middle more p q. record {
       word = c.in-Some.token;
       after = ahead c.next.new.self more;
       draft = c.tokens.front;
       passed = rw q at p;
       unoffending = none;
+      near = c.near_law.ensures more;
     })
 
 -- The cubes are of the variables asked for.

@@ -1,5 +1,5 @@
 -- The end of the clauses decides the answer, and the body goes on behind a token that does not.
-use Rattle.std.proofs.Common.{◌≡◌, ℕ, true, false, List, ◌++◌, Err, refl, sym, ◌∙◌, ap, subst, arith}
+use Rattle.std.proofs.Common.{◌≡◌, ℕ, true, false, List, ◌++◌, length, Err, refl, sym, ◌∙◌, ap, subst, arith}
 use Rattle.host_io.specs.Channel.{Rose}
 use Rattle.std.specs.Prelude.{codes}
 use Rattle.text_scan.specs.Decides.{gained, Decides-none, Decides-map, Decides-then, OnlyReads-then, gained-none, front-then}
@@ -12,7 +12,7 @@ use Rattle.dimacs_reader.specs.Body.{IsGood, Passes, pass_none, pass_one, Wants,
 use Rattle.dimacs_reader.specs.Cnf.{CnfText, is_word, body}
 use Rattle.dimacs_reader.proofs.Judged.{then_answers, passes_same, undecided_behind, goes_on, error_is, error_answers, take_answers}
 use Rattle.dimacs_reader.proofs.Judged.{fault_of_scan, scan_wants_none, taken_no_fault}
-use Rattle.dimacs_reader.proofs.Began.{front_of_next, fault_so_far}
+use Rattle.dimacs_reader.proofs.Began.{front_of_next, fault_so_far, end_near}
 use Rattle.dimacs_reader.proofs.body.read_body.Goals as goal
 
 pub returns-in-None-clause-decides : goal.returns-in-None-clause-decides
@@ -156,7 +156,7 @@ returns-in_err-take-in-Some-clause-memory g c = λ told wanted.
     c.from_residual-in_err-take-in-Some.ensures.1 in
     let memory : c.in_err-take-in-Some.field-0.0 ≡ OutOfMemory = cc in
     let none = rw (c.tokens.invariant.count, c.tokens.invariant.mode) at (c.in_err-take-in-Some.ensures.memory (ap Err memory)) in
-    Decides-then (λ bytes more. Wants c.args.body.mode c.args.body.count (ahead c.args.scanner.now bytes) c.args.body.draft
+    Decides-then (λ bytes more. Wants c.args.body.mode c.args.body.count (length more) (ahead c.args.scanner.now bytes) c.args.body.draft
     (ahead c.next.new.self more))
     (c.tokens.invariant.passed told) gives
     (λ bytes middle more p q. for_number (record {
@@ -164,6 +164,7 @@ returns-in_err-take-in-Some-clause-memory g c = λ told wanted.
       draft = c.tokens.body.draft;
       passed = rw q at p;
       good = record { goes_on = percent; unoffending = none };
+      near = c.near_law.ensures more;
     }))
 
 -- or, at the end of the clauses, for one without its zero
@@ -171,7 +172,7 @@ pub returns-in-None-clause-memory : goal.returns-in-None-clause-memory
 returns-in-None-clause-memory g c = λ told wanted.
     let gives = rw c.in-None.is at (c.in_ok-next.ensures.gives told) in
     let asked = c.finish.ensures.memory wanted in
-    Decides-then (λ bytes more. Wants c.args.body.mode c.args.body.count (ahead c.args.scanner.now bytes) c.args.body.draft
+    Decides-then (λ bytes more. Wants c.args.body.mode c.args.body.count (length more) (ahead c.args.scanner.now bytes) c.args.body.draft
     (ahead c.next.new.self more))
     (c.tokens.invariant.passed told) gives
     (λ bytes middle more p q. for_end (record {
@@ -182,6 +183,7 @@ returns-in-None-clause-memory g c = λ told wanted.
       passed = rw q.0 at p;
       begun = asked.1;
       ends = q.1;
+      near = rw q.1 (end_near (length more) c.next.new.self.line);
     }))
 
 pub returns-then-is_word-clause-memory : goal.returns-then-is_word-clause-memory
@@ -189,7 +191,7 @@ returns-then-is_word-clause-memory g c = λ told wanted.
     let percent : is_word (codes "%") c.in-Some.token.bytes ≡ true = sym c.is_word.ensures ∙ c.if-is_word.true in
     let gives = rw c.in-Some.is at (c.in_ok-next.ensures.gives told) in
     let asked = c.finish-then-is_word.ensures.memory wanted in
-    Decides-then (λ bytes more. Wants c.args.body.mode c.args.body.count (ahead c.args.scanner.now bytes) c.args.body.draft
+    Decides-then (λ bytes more. Wants c.args.body.mode c.args.body.count (length more) (ahead c.args.scanner.now bytes) c.args.body.draft
     (ahead c.next.new.self more))
     (c.tokens.invariant.passed told) gives
     (λ bytes middle more p q. for_end (record {
@@ -200,6 +202,7 @@ returns-then-is_word-clause-memory g c = λ told wanted.
       passed = rw q at p;
       begun = asked.1;
       ends = (percent, refl);
+      near = c.near_law.ensures more;
     }))
 
 -- The scanner stopped by an error.

@@ -1,5 +1,5 @@
 -- What is ahead of a new scanner are the items of the text: the header decides, or the body behind it.
-use Rattle.std.proofs.Common.{◌≡◌, Err, sym, ◌∙◌, ap, subst}
+use Rattle.std.proofs.Common.{◌≡◌, length, Err, sym, ◌∙◌, ap, subst}
 use Rattle.text_scan.specs.Items.{items}
 use Rattle.text_scan.specs.Decides.{gained, Decides-map, Decides-then}
 use Rattle.text_scan.specs.Scan.{ahead, so_far}
@@ -52,8 +52,9 @@ pub returns-in_err-cnf-clause-memory : goal.returns-in_err-cnf-clause-memory
 returns-in_err-cnf-clause-memory g c = λ told wanted.
     let error = error_is c.from_residual-in_err-cnf.result c.in_err-cnf.field-0.0 c.from_residual-in_err-cnf.ensures.1 in
     let memory : c.in_err-cnf.field-0.0 ≡ OutOfMemory = cc in
-    Decides-then (λ bytes more. WantsMemory c.args.mode (items 99 max_bytes bytes)) (c.in_ok-body.ensures.decides told)
+    Decides-then (λ bytes more. WantsMemory c.args.mode (length more) (items 99 max_bytes bytes)) (c.in_ok-body.ensures.decides told)
     (c.in_err-cnf.ensures.memory told (ap Err memory))
-    (λ bytes middle more p q. subst (WantsMemory c.args.mode) (c.new-scanner.ensures.items bytes)
-    (began_wants c.args.mode c.in_ok-body.body (cnf_of c.args.mode (ahead c.new-scanner.result bytes)) (ahead c.new-scanner.result bytes)
+    (λ bytes middle more p q. subst (WantsMemory c.args.mode (length more)) (c.new-scanner.ensures.items bytes)
+    (began_wants c.args.mode c.in_ok-body.body (cnf_of c.args.mode (ahead c.new-scanner.result bytes)) (length more)
+    (ahead c.new-scanner.result bytes)
     (ahead c.read_header.new.scanner middle) (ahead c.read_body.new.scanner more) p c.in_ok-body.ensures.sound.1 q))

@@ -14,38 +14,39 @@ use Rattle.drat_checker.specs.Numbers.{has_number}
 use Rattle.drat_checker.specs.Propagation.{Derives, Extends}
 use Rattle.drat_checker.specs.Trail.{Trail, with_reason}
 use Rattle.drat_checker.specs.Reasons.{IsFalsified, KeepsReasons}
-use Rattle.drat_checker.specs.Watches.{Pairs, ArePairs, AreVisited, is_in, watchers_with, watches}
+use Rattle.drat_checker.specs.Watches.{Pairs, ArePairs, AreVisited, beside, is_in, watchers_with, watches}
 use Rattle.drat_checker.specs.Visits.{IsMoved}
 use Rattle.drat_checker.proofs.Propagated.{extends-none, extends-is, extends-last, false_clause, none-before, unclashed}
 use Rattle.drat_checker.proofs.Derived.{derives-none, derives-then, derives-extends, derives-forced, derives-is, derives-same}
 use Rattle.drat_checker.proofs.Reasoned.{keeps-falsified, keeps-forced, keeps-is, keeps-none, keeps-then}
 use Rattle.drat_checker.proofs.FalseSets.{int_eq-true}
 use Rattle.drat_checker.proofs.Guarded.{all-false, all-known, last-forced}
-use Rattle.drat_checker.proofs.Placed.{same-each}
+use Rattle.drat_checker.proofs.Placed.{each-along, same-each}
 use Rattle.drat_checker.proofs.Standing.{among-place, place-within}
 use Rattle.drat_checker.proofs.Visited.{entered-at, keeps-dropped, last-negated, more-false, true-by, visited-next, visited-start}
-use Rattle.drat_checker.proofs.Watched.{moved-away, moves-none, moves-then, moves-to, watched-gone, watched-moved}
+use Rattle.drat_checker.proofs.Watched.{in-one, keeps-beside, moved-away, moves-none, moves-then, moves-to, pairs-moved, watched-gone, watched-moved}
 use Rattle.drat_checker.proofs.watches.walk.Goals as goal
 
 pub numbers-init : goal.numbers-init
 numbers-init c = record {
   many = c.requires.many;
   within = omega (arith, c.len-left.ensures);
-  watched = c.requires.watched;
+  are = c.requires.pairs;
+  watched = λ others w. w;
+  kept = same-each c.args.lists.now;
   moves = moves-none c.args.pairs.now.items c.args.trail.now.literals;
   derives = derives-none (standing c.args.db.now) c.args.trail.now.literals;
   reasons = keeps-none c.args.db.now c.args.trail.now;
-  visited = subst (λ (l : List ℕ). AreVisited c.args.db.now c.args.pairs.now.items c.args.literal c.args.trail.now.literals l)
-      (sym (take_all c.len-left.result c.args.out.now (omega (arith, c.len-left.ensures))))
-      (visited-start c.args.db.now c.args.pairs.now.items c.args.lists.now c.args.literal c.args.trail.now.literals c.args.out.now
-      c.requires.watched);
+  visited = subst (λ (l : List ℕ). AreVisited c.args.db.now c.args.pairs.now.items c.args.literal c.args.trail.now.literals c.args.out.now
+      l) (sym (take_all c.len-left.result c.args.out.now (omega (arith, c.len-left.ensures))))
+      (visited-start c.args.db.now c.args.pairs.now.items c.args.literal c.args.trail.now.literals c.args.out.now);
 }
 
 pub look-requires : goal.look-requires
 look-requires c =
     let so_far = c.numbers.invariant in
     record {
-      pairs = subst (λ (ps : Pairs). ArePairs ps c.args.db.now) (sym c.as_slice.ensures.value) so_far.watched.are;
+      pairs = subst (λ (ps : Pairs). ArePairs ps c.args.db.now) (sym c.as_slice.ensures.value) so_far.are;
       falsified = more-false (derives-extends so_far.derives) c.args.literal c.requires.falsified;
     }
 
@@ -58,7 +59,9 @@ numbers-preserved-in-Stays c =
     record {
       many = so_far.many;
       within = omega (arith, so_far.within);
+      are = so_far.are;
       watched = so_far.watched;
+      kept = so_far.kept;
       moves = so_far.moves;
       derives = so_far.derives;
       reasons = so_far.reasons;
@@ -66,7 +69,7 @@ numbers-preserved-in-Stays c =
           c.numbers.trail.literals
           c.numbers.out c.numbers.out i c.numbers.left c.number-number.result more within c.number-number.ensures
           (extends-none c.numbers.trail.literals) refl (λ n other w. w) (λ clause stands w. c.in-Stays.ensures clause stands)
-          so_far.visited;
+          c.args.out.now so_far.visited;
     }
 
 pub numbers-preserved-in-Gone : goal.numbers-preserved-in-Gone
@@ -85,10 +88,13 @@ numbers-preserved-in-Gone c =
     record {
       many = so_far.many;
       within = omega (arith, so_far.within, c.drop_at.ensures.len);
-      watched = watched-gone c.numbers.pairs.items (watchers_with c.numbers.lists c.args.literal c.numbers.out)
-          (watchers_with c.numbers.lists c.args.literal out') c.args.db.now k c.args.literal so_far.watched
-          (keeps-dropped c.numbers.lists c.numbers.lists c.args.literal c.numbers.out out' k (same-each c.numbers.lists) others)
-          gone;
+      are = so_far.are;
+      watched = λ rest w.
+          watched-gone c.numbers.pairs.items (beside (watchers_with c.numbers.lists c.args.literal c.numbers.out) rest)
+          (beside (watchers_with c.numbers.lists c.args.literal out') rest) c.args.db.now k c.args.literal (so_far.watched rest w)
+          (keeps-beside rest
+          (keeps-dropped c.numbers.lists c.numbers.lists c.args.literal c.numbers.out out' k (same-each c.numbers.lists) others)) gone;
+      kept = so_far.kept;
       moves = so_far.moves;
       derives = so_far.derives;
       reasons = so_far.reasons;
@@ -98,7 +104,7 @@ numbers-preserved-in-Gone c =
           c.drop_at.ensures.front
           (λ n other w. w)
           (λ clause stands w. absurd (both_ways (watches c.numbers.pairs.items k c.args.literal) (gone clause stands) w))
-          so_far.visited;
+          c.args.out.now so_far.visited;
     }
 
 -- the literal that is watched now isn't false, so it isn't the walked one
@@ -137,20 +143,23 @@ numbers-preserved-in-Moved c =
     let all = watchers_with c.numbers.lists literal out in
     let all' = watchers_with lists' literal out' in
     let away : watches (set pairs k (Some pair)) k literal ≡ false =
-    moved-away pairs all all' places k literal so_far.watched keeps trail pair moved (set pairs k (Some pair)) refl room is_false in
+    moved-away pairs places k literal so_far.are trail pair moved (set pairs k (Some pair)) refl room is_false in
     record {
       many = length-set pairs k (Some pair) ∙ so_far.many;
       within = omega (arith, so_far.within, c.drop_at-in-Moved.ensures.len);
-      watched = watched-moved pairs all all' places k literal so_far.watched keeps trail pair moved (set pairs k
-          (Some pair)) refl room entered;
+      are = pairs-moved pairs places k literal so_far.are trail pair moved (set pairs k (Some pair)) refl room;
+      watched = λ rest w.
+          watched-moved pairs places k literal so_far.are trail pair moved (set pairs k (Some pair)) refl room (beside all rest)
+          (beside all' rest) (so_far.watched rest w) (keeps-beside rest keeps) (in-one all' rest k pair.first entered);
+      kept = each-along so_far.kept c.enter.ensures.kept;
       moves = moves-then c.args.trail.now.literals trail (more-false (derives-extends so_far.derives)) so_far.moves
-          (moves-to pairs all all' places k literal so_far.watched keeps trail pair moved (set pairs k (Some pair)) refl room);
+          (moves-to pairs places k literal so_far.are trail pair moved (set pairs k (Some pair)) refl room);
       derives = so_far.derives;
       reasons = so_far.reasons;
       visited = visited-next places pairs (set pairs k (Some pair)) literal trail trail out out' i c.numbers.left k more within
           c.number-number.ensures (extends-none trail) c.drop_at-in-Moved.ensures.front
           (λ n other w. ap (λ p. is_in p literal) (sym (get_or-set_other pairs k n (Some pair) None other)) ∙ w)
-          (λ clause stands w. absurd (both_ways (watches (set pairs k (Some pair)) k literal) away w)) so_far.visited;
+          (λ clause stands w. absurd (both_ways (watches (set pairs k (Some pair)) k literal) away w)) c.args.out.now so_far.visited;
     }
 
 pub numbers-preserved : goal.numbers-preserved
@@ -186,7 +195,9 @@ numbers-preserved c =
     record {
       many = so_far.many;
       within = omega (arith, so_far.within);
+      are = so_far.are;
       watched = so_far.watched;
+      kept = so_far.kept;
       moves = so_far.moves;
       derives = derives-then so_far.derives derived;
       reasons = keeps-then so_far.reasons reasoned;
@@ -197,7 +208,7 @@ numbers-preserved c =
           let both : Some last.clause ≡ Some clause = sym last.stands ∙ stands in
           let same : last.clause ≡ clause = cc in
           true-by c.falsify.new.self.literals clause other (subst (λ (d : List ℤ). literals_of d other ≡ true) same last.held) negated)
-          so_far.visited;
+          c.args.out.now so_far.visited;
     }
 
 pub returns-then-clash-clause-conflict : goal.returns-then-clash-clause-conflict
@@ -253,12 +264,12 @@ returns-then-clash-clause-reasons c =
     (with_reason c.negated.result (Some c.number-number.result) c.numbers.trail) c.if-clash.true
     c.in_ok-clash-in-Last.ensures.reasons) c.numbers.invariant.reasons
 
-none-left : (places : Places) (pairs : Pairs) (literal : ℤ) (literals : List ℤ) (out : List ℕ) (left : ℕ) → left ≡ 0
-    → AreVisited places pairs literal literals (take left out) → AreVisited places pairs literal literals []
-none-left places pairs literal literals out left none visited =
-    subst (λ (n : ℕ). AreVisited places pairs literal literals (take n out)) none visited
+none-left : (places : Places) (pairs : Pairs) (literal : ℤ) (literals : List ℤ) (numbers out : List ℕ) (left : ℕ) → left ≡ 0
+    → AreVisited places pairs literal literals numbers (take left out) → AreVisited places pairs literal literals numbers []
+none-left places pairs literal literals numbers out left none visited =
+    subst (λ (n : ℕ). AreVisited places pairs literal literals numbers (take n out)) none visited
 
 pub returns-clause-visited : goal.returns-clause-visited
-returns-clause-visited c = λ is. none-left c.args.db.now c.numbers.pairs.items c.args.literal c.numbers.trail.literals c.numbers.out
-    c.numbers.left
+returns-clause-visited c = λ is. none-left c.args.db.now c.numbers.pairs.items c.args.literal c.numbers.trail.literals c.args.out.now
+    c.numbers.out c.numbers.left
     (omega arith) c.numbers.invariant.visited

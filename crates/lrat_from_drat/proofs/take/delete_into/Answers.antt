@@ -16,9 +16,10 @@ use Rattle.lrat_from_drat.proofs.take.delete_into.Goals as goal
 pub returns-in-None-clause-takes : goal.returns-in-None-clause-takes
 returns-in-None-clause-takes g c =
     takes-nothing g.S.Sink.tells (g.S.Sink.channel c.args.sink.now) (g.S.Sink.channel c.args.sink.now) (equality_of c.args.deletions)
-    c.args.judge.now c.args.judge.now c.args.clause.now
-    (sym (without-none (equality_of c.args.deletions) c.args.judge.now c.args.clause.now (c.in-None.ensures.none refl).absent))
-    (no-twin (equality_of c.args.deletions) c.args.clause.now c.args.judge.now (c.in-None.ensures.none refl)) refl refl
+    c.args.judge.now c.postpone.new.self c.args.clause.now
+    (ap standing c.postpone.ensures
+    ∙ sym (without-none (equality_of c.args.deletions) c.args.judge.now c.args.clause.now (c.in-None.ensures.none refl).absent))
+    (no-twin (equality_of c.args.deletions) c.args.clause.now c.args.judge.now (c.in-None.ensures.none refl)) c.postpone.ensures refl
 
 pub clear-requires : goal.clear-requires
 clear-requires g c = place-within c.args.judge.now c.in-Some.number c.in-Some.ensures.found.own c.in-Some.ensures.found.stands

@@ -1,8 +1,10 @@
 -- What is left to show of `run_with_parity`.
-use Rattle.std.proofs.Common.{rules, MutBor, ◌≡◌, ◌∙◌, [], length, false, true, All, sym, ap, subst}
+use Rattle.std.proofs.Common.{rules, MutBor, ◌≡◌, ◌∙◌, ◌≤◌, max, [], length, false, true, All, sym, ap, subst}
+use Rattle.std.specs.Prelude.{IfOk}
 use Rattle.std.specs.List.{list_all}
 use Rattle.cnf_base.specs.Formula.{Formula}
 use Rattle.host_io.specs.Channel.{Channel}
+use Rattle.schedule_plan.specs.declared.limits.Limits.{Limits}
 use Rattle.schedule_plan.specs.Plan.{IsAdmissible}
 use Rattle.parity_equations.specs.Equations.{equations}
 use Rattle.parity_equations.specs.Walk.{IsEquationOf}
@@ -11,7 +13,7 @@ use Rattle.term_runner.specs.Clauses.{has_empty_clause, is_tautology}
 use Rattle.parity_runs.specs.Ends.{EndsWithParity}
 use Rattle.parity_runs.proofs.Began.{nothing_ends}
 use Rattle.parity_runs.proofs.Lent.{inner_kept, lender_kept}
-use Rattle.parity_runs.proofs.Told.{origin_kept, run_ends}
+use Rattle.parity_runs.proofs.Told.{last_within, origin_kept, run_ends}
 use Rattle.parity_runs.proofs.Without.{ends_alone, ends_empty, none_listed, some_found, some_open, told_empty}
 use Rattle.parity_runs.proofs.run.run_with_parity.Given.{Over}
 use Rattle.parity_runs.proofs.run.run_with_parity.Goals as goal
@@ -107,3 +109,13 @@ returns-clause-beside g c =
       lender_kept c.go_on-sink.ensures.beside
           ∙ ap (λ (s : MutBor g.row.S.Denot). s.ghost_name) (origin_is g inside ∙ c.new-runner.ensures.opened.origin),
     )) (still_beside g inside)
+
+pub returns-clause-last : goal.returns-clause-last
+returns-clause-last g c =
+    let result = c.go_on-sink.result.1 in
+    let old = c.new-runner.result in
+    let opened = c.new-runner.ensures.opened in
+    subst (λ (f : Formula). IfOk result (λ run. run.last_id ≤ max (length f.clauses) c.args.limits.max_ids)) opened.of_formula
+    (subst (λ (l : Limits). IfOk result (λ run. run.last_id ≤ max (length old.formula.now.clauses) l.max_ids)) opened.within
+    (last_within old c.eliminate-found.new.runner result c.go_on-sink.ensures.last _ _ _ _ _ _ c.eliminate-found.ensures.ends
+    c.go_on-sink.ensures.goes))

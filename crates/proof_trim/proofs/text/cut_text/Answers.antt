@@ -1,9 +1,11 @@
 -- What is ahead of a new reader are the steps of the text.
-use Rattle.std.proofs.Common.{◌≡◌, ℕ, List, false, Option, sym, ◌∙◌, ap, subst}
+use Rattle.std.proofs.Common.{◌≡◌, ℕ, List, false, length, Option, sym, ◌∙◌, ap, subst, inr}
 use Rattle.text_scan.specs.Decides.{Decides-map}
 use Rattle.lrat_text.specs.Reader.{steps_ahead, so_far}
 use Rattle.lrat_text.specs.Steps.{steps, steps_so_far}
+use Rattle.lrat_text.specs.Wants.{wants_of, wants_ahead}
 use Rattle.lrat_rules.specs.State.{State}
+use Rattle.lrat_checker.specs.Memory.{reading_may_want_memory, check_may_want_memory}
 use Rattle.lrat_checker.specs.declared.verdict.Verdict.{Verdict}
 use Rattle.lrat_checker.specs.TextVerdict.{max_bytes, steps_verdict, text_verdict, verdict_so_far, Answers}
 use Rattle.proof_trim.proofs.Ahead.{whole_cut}
@@ -29,3 +31,11 @@ returns-clause-undecided g c =
     λ bytes. ap (steps_verdict c.in_ok-judge.judge false) (c.new-reader.ensures.so_far bytes)
     ∙ ap (λ (s : State). steps_verdict s false (steps_so_far bytes)) c.in_ok-judge.ensures in
     λ told is. sym (whole _) ∙ c.cut_proof.ensures.undecided told is
+
+pub returns-clause-memory : goal.returns-clause-memory
+returns-clause-memory g c =
+    let whole : (bytes : List ℕ) (n : ℕ) → reading_may_want_memory n c.in_ok-judge.judge (wants_ahead c.new-reader.result bytes)
+    ≡ check_may_want_memory c.args.formula.now.clauses n bytes =
+    λ bytes n. ap (reading_may_want_memory n c.in_ok-judge.judge) (c.new-reader.ensures.wants bytes)
+    ∙ ap (λ (s : State). reading_may_want_memory n s (wants_of max_bytes bytes)) c.in_ok-judge.ensures in
+    λ told is. inr (Decides-map _ (c.cut_proof.ensures.wants told is) (λ bytes more wants. sym (whole bytes (length more)) ∙ wants))

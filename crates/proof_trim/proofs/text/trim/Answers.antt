@@ -1,15 +1,15 @@
 -- By the verdict on the text and what was cut of it.
-use Rattle.std.proofs.Common.{◌≡◌, ℕ, Ok, Err, length, ap, subst}
+use Rattle.std.proofs.Common.{◌≡◌, ◌∙◌, ℕ, Some, Ok, Err, length, ap, subst, inl, inr}
 use Rattle.text_scan.specs.Decides.{Decides-map}
 use Rattle.lrat_text.specs.Steps.{steps}
 use Rattle.lrat_rules.specs.State.{start}
 use Rattle.lrat_checker.specs.declared.verdict.Verdict.TheVariants.{Verified}
-use Rattle.lrat_checker.specs.declared.verdict.CheckError.TheVariants.{ReadFault}
+use Rattle.lrat_checker.specs.declared.verdict.CheckError.TheVariants.{ReadFault, OutOfMemory}
 use Rattle.lrat_checker.specs.TextVerdict.{max_bytes, text_verdict}
 use Rattle.proof_trim.specs.Trimmed.{additions_of_text, cut_steps, trimmed}
 use Rattle.proof_trim.specs.Answer.{AnswersBy}
 use Rattle.proof_trim.specs.Core.{core}
-use Rattle.proof_trim.proofs.Answered.{decided_with, trims_error, trims_by, no_fault}
+use Rattle.proof_trim.proofs.Answered.{decided_with, trims_error, trims_by, wanted_verified, no_fault}
 use Rattle.proof_trim.proofs.text.trim.Goals as goal
 
 pub returns-clause-decides : goal.returns-clause-decides
@@ -37,3 +37,19 @@ returns-in-Ok-clause-undecided g c = λ told is. absurd (no_fault c.answer_by.re
 pub returns-in-Ok-clause-fault : goal.returns-in-Ok-clause-fault
 returns-in-Ok-clause-fault g c = λ is. absurd (no_fault c.answer_by.result c.in-Ok.verdict c.len.result c.cut_text.new.cut
     c.answer_by.ensures is)
+
+-- memory was wanted to judge the text
+pub returns-clause-memory : goal.returns-clause-memory
+returns-clause-memory g c = λ told is.
+    let same : c.in-Err.error ≡ OutOfMemory = cc in
+    elim (c.in-Err.ensures.memory told (ap Err same)) [
+      | inl none ↦ inl none
+      | inr wants ↦ inr (inl wants)
+    ]
+
+-- or to keep what a verified one needs
+pub returns-in-Ok-clause-memory : goal.returns-in-Ok-clause-memory
+returns-in-Ok-clause-memory g c = λ told is.
+    let verified : c.in-Ok.verdict ≡ Verified = wanted_verified c.answer_by.result c.in-Ok.verdict c.len.result c.cut_text.new.cut
+    c.answer_by.ensures is in
+    inr (inr (Decides-map _ (c.in-Ok.ensures.decides told) (λ bytes more judged. judged ∙ ap Some verified)))

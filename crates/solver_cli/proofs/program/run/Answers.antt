@@ -26,7 +26,8 @@ returns g c = record {
         core_refuted = c.trim_law.ensures.core_refuted;
         core_unsatisfiable = c.trim_law.ensures.core_unsatisfiable;
       }))
-      _ (g.H.Host.channel c.work-status.new.host) (g.H.Host.files c.work-status.new.host) c.requires.unnamed
-      c.work-status.ensures.stages c.work-status.ensures.told c.work-status.ensures.files c.complain.ensures.complains
-      c.complain.ensures.kept;
+      _ (g.H.Host.channel c.work-status.new.host) (g.H.Host.channel c.explain.new.host) (g.H.Host.files c.work-status.new.host)
+      (g.H.Host.files c.explain.new.host) c.requires.unnamed
+      c.work-status.ensures.stages c.work-status.ensures.told c.work-status.ensures.files c.explain.ensures.told c.explain.ensures.kept
+      c.complain.ensures.complains c.complain.ensures.kept;
 }

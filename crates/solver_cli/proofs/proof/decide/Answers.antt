@@ -11,4 +11,4 @@ returns-then-parity-clause-writes g c =
 pub returns-else-parity-clause-writes : goal.returns-else-parity-clause-writes
 returns-else-parity-clause-writes g c =
     let is : c.args.parity ≡ false = first_of (search rules, cc) in
-    written c.args.parity is c.derivation_law.ensures.spells c.run_plan_shown.result c.run_plan_shown.ensures.ends
+    written c.args.parity is c.derivation_law.ensures.spells c.run_plan_into.result c.run_plan_into.ensures.ends

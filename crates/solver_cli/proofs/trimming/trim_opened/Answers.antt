@@ -8,7 +8,7 @@ returns-clause-trims g c =
     let made = c.new-source.ensures in
     let trims = c.trim.ensures in
     cut (cc) (c.beside_kept.ensures.source made.same_reference made.same_value made.role trims.beside (search rules)).same trims.decides
-    trims.fault trims.unfailed trims.undecided trims.reads
+    trims.fault trims.unfailed trims.undecided trims.memory trims.reads
 
 pub returns-clause-kept : goal.returns-clause-kept
 returns-clause-kept g c =

@@ -1,6 +1,7 @@
 -- The conjunction of two terms, with its unit.
-use Rattle.std.proofs.Common.{◌≡◌, ◌∙◌, ◌+◌, ◌*◌, ◌&&◌, ℕ, Bool, List, [], ◌∷◌, Contains, None, Some, Result, Err, ap, sym, subst}
+use Rattle.std.proofs.Common.{◌≡◌, ◌∙◌, ◌+◌, ◌*◌, ◌&&◌, ℕ, Bool, false, List, [], ◌∷◌, Contains, None, Some, Err, ap, sym, subst, inl, inr}
 use Rattle.std.proofs.Common.{arith}
+use Rattle.std.proofs.lemmas.Bool.{cases_Bool}
 use Rattle.operations.specs.Accounts.{none_whole, whole_result}
 use Rattle.operations.specs.Budget.{most_additions}
 use Rattle.operations.specs.Entries.{IsAccounted}
@@ -9,20 +10,20 @@ use Rattle.node_table.specs.Diagram.{Graph, levels}
 use Rattle.node_table.specs.Made.{MakesOnly}
 use Rattle.node_table.specs.Table.{AddsAtMost}
 use Rattle.node_table.specs.Value.{by_level}
-use Rattle.node_table.specs.declared.error.TableError.{TableError}
 use Rattle.node_table.specs.declared.error.TableError.TheVariants.{NodeLimit, WriteFault}
+use Rattle.node_table.specs.declared.node.Node.{Node}
 use Rattle.node_table.specs.declared.node.Justification.{Justification}
-use Rattle.node_table.specs.declared.node.Justification.TheVariants.{Clause}
-use Rattle.node_table.specs.HandedOn.{came_from, handed_on, no_answer, no_error, other_cause, same_error}
+use Rattle.node_table.specs.declared.node.Justification.TheVariants.{Clause, Trivial}
+use Rattle.node_table.specs.HandedOn.{came_from, handed_on, if_handed, no_answer, no_error, other_cause, same_error}
 use Rattle.apply_and.specs.Conjunction.{conjunction_of}
 use Rattle.clause_terms.specs.Term.{IsTerm}
 use Rattle.term_runner.specs.Caches.{HaveRoom, all_entries}
 use Rattle.term_runner.specs.Finds.{AreFew}
 use Rattle.term_runner.proofs.MadeParts.{lacks_one, only_of}
-use Rattle.term_runner.proofs.Giving.{two_give, units_behind}
+use Rattle.term_runner.proofs.Giving.{given_behind, none_added, two_give, units_behind}
 use Rattle.term_runner.proofs.Leaving.{limit_left, limit_whole, refutes_handed, steps_handed, went_on}
 use Rattle.term_runner.proofs.NoEmpty.{further_empty}
-use Rattle.term_runner.proofs.OwnUnits.{unaccounted_after, unit_within}
+use Rattle.term_runner.proofs.OwnUnits.{new_unit, no_clause, unaccounted_after, unit_own, unit_within}
 use Rattle.term_runner.proofs.Pairs.{adds_pairs}
 use Rattle.term_runner.proofs.Stacks.{justified_kept, term_kept}
 use Rattle.term_runner.proofs.found.conjunction.Given.{Over}
@@ -39,14 +40,16 @@ unit_of-requires g c =
     let v = c.args.v.now in
     record {
       sound = c.in_ok-node.ensures.steps.leaves.sound;
-      first = c.growth_law.ensures.stands old.graph mid.graph extends.nodes u.node c.requires.first.stands;
-      second = c.growth_law.ensures.stands old.graph mid.graph extends.nodes v.node c.requires.second.stands;
-      first_open = c.requires.first.not_false;
-      second_open = c.requires.second.not_false;
-      first_unit = justified_kept c.growth_law.ensures old.graph mid.graph reduced extends.nodes old.book.state.live mid.book.state.live
-          extends.clauses u.node c.requires.first.stands u.unit c.requires.first.unit;
-      second_unit = justified_kept c.growth_law.ensures old.graph mid.graph reduced extends.nodes old.book.state.live mid.book.state.live
-          extends.clauses v.node c.requires.second.stands v.unit c.requires.second.unit;
+      first = record {
+        stands = c.growth_law.ensures.stands old.graph mid.graph extends.nodes u.node c.requires.first.stands;
+        unit = justified_kept c.growth_law.ensures old.graph mid.graph reduced extends.nodes old.book.state.live mid.book.state.live
+            extends.clauses u.node c.requires.first.stands u.unit c.requires.first.unit;
+      };
+      second = record {
+        stands = c.growth_law.ensures.stands old.graph mid.graph extends.nodes v.node c.requires.second.stands;
+        unit = justified_kept c.growth_law.ensures old.graph mid.graph reduced extends.nodes old.book.state.live mid.book.state.live
+            extends.clauses v.node c.requires.second.stands v.unit c.requires.second.unit;
+      };
       conjoined = c.in_ok-node.ensures.conjoined;
     }
 
@@ -59,8 +62,31 @@ pairs_found g c width room few =
     c.args.u.now.node c.args.v.now.node c.requires.first.stands c.requires.second.stands c.args.caches.now width room few.1.0 few.0
     c.and.ensures.price
 
-pub returns : goal.returns
-returns g c one other is_u is_v =
+-- no unit of an operand is given
+pub returns-clause-own : goal.returns-clause-own
+returns-clause-own g c fresh =
+    let old = c.args.table.now in
+    let mid = c.and.new.table in
+    let new = c.unit_of.new.table in
+    let before = all_entries c.args.caches.now in
+    let after = all_entries c.and.new.self in
+    let found = c.in_ok-node.ensures in
+    let unit = c.in_ok-unit.ensures.proves in
+    let anew = c.in_ok-unit.ensures.anew fresh in
+    given_behind old mid new before after [] c.in_ok-unit.unit (found.accounts no_error) found.keeps.retires (found.keeps.named none_whole)
+    found.steps.leaves.no_less unit.steps.leaves.no_less unit.retired unit.alone (λ id is. inr ((anew.last id is).1, anew.added id is))
+    (unit_own mid new after Trivial Trivial c.in_ok-unit.unit found.steps.leaves.sound (found.keeps.fits none_whole) unit.retired
+    (λ id none. absurd (no_clause id none)) (λ id none. absurd (no_clause id none))
+    (inr (inr (λ id is. new_unit mid new id (anew.last id is)))))
+
+pub returns-in_err-node-clause-own : goal.returns-in_err-node-clause-own
+returns-in_err-node-clause-own g c fresh = no_answer _ c.in_err-node.field-0.0 _ c.from_residual.ensures.1
+
+pub returns-in_err-unit-clause-own : goal.returns-in_err-unit-clause-own
+returns-in_err-unit-clause-own g c fresh = no_answer _ c.in_err-unit.field-0.0 _ c.from_residual-in_err-unit.ensures.1
+
+pub returns-clause-finds : goal.returns-clause-finds
+returns-clause-finds g c one other is_u is_v =
     let old = c.args.table.now in
     let mid = c.and.new.table in
     let new = c.unit_of.new.table in
@@ -71,13 +97,14 @@ returns g c one other is_u is_v =
     let w = c.in_ok-node.node in
     let found = c.in_ok-node.ensures in
     let unit = c.in_ok-unit.ensures.proves in
-    let whole = found.keeps.named none_whole in
-    let free_u : (id : ℕ) → u.unit ≡ Clause id → IsAccounted mid after id → ⊥ = λ id is. unaccounted_after old mid before after id
-    (unit_within old c.requires.sound (atom_of old.graph u.node) u.unit id c.requires.first.unit is) (c.requires.first.own id is)
-    found.keeps.retires whole in
-    let free_v : (id : ℕ) → v.unit ≡ Clause id → IsAccounted mid after id → ⊥ = λ id is. unaccounted_after old mid before after id
-    (unit_within old c.requires.sound (atom_of old.graph v.node) v.unit id c.requires.second.unit is) (c.requires.second.own id is)
-    found.keeps.retires whole in
+    let free_u : (not_fresh : c.args.fresh ≡ false) (id : ℕ) → u.unit ≡ Clause id → IsAccounted mid after id → ⊥ = λ not_fresh id is.
+    unaccounted_after old mid before after id
+    (unit_within old c.requires.sound (atom_of old.graph u.node) u.unit id c.requires.first.unit is) ((c.requires.shared not_fresh).0.own id is)
+    found.keeps.retires (found.keeps.named none_whole) in
+    let free_v : (not_fresh : c.args.fresh ≡ false) (id : ℕ) → v.unit ≡ Clause id → IsAccounted mid after id → ⊥ = λ not_fresh id is.
+    unaccounted_after old mid before after id
+    (unit_within old c.requires.sound (atom_of old.graph v.node) v.unit id c.requires.second.unit is) ((c.requires.shared not_fresh).1.own id is)
+    found.keeps.retires (found.keeps.named none_whole) in
     let kept = found.keeps.fits none_whole in
     let most = most_additions (levels old.graph) in
     let extends = found.steps.extends in
@@ -93,9 +120,19 @@ returns g c one other is_u is_v =
             value = λ a. found.conjoined.value (by_level mid.graph.order a) ∙ (λ k. up_u.value a k && up_v.value a k);
             proved = unit.unit;
           });
-      gives = two_give old mid new before after u v c.in_ok-unit.unit found.steps.leaves.sound free_u free_v found.keeps
-          (found.accounts no_error) found.steps.leaves.no_less unit.steps.leaves.no_less unit.retired unit.alone c.in_ok-unit.ensures.given
-          c.in_ok-unit.ensures.added;
+      gives = elim (cases_Bool c.args.fresh) [
+        | inl fresh ↦
+            let anew = c.in_ok-unit.ensures.anew fresh in
+            given_behind old mid new before after (v ∷ u ∷ []) c.in_ok-unit.unit (found.accounts no_error) found.keeps.retires
+            (found.keeps.named none_whole) found.steps.leaves.no_less unit.steps.leaves.no_less unit.retired unit.alone
+            (λ id is. inr ((anew.last id is).1, anew.added id is))
+            (unit_own mid new after Trivial Trivial c.in_ok-unit.unit found.steps.leaves.sound kept unit.retired
+            (λ id none. absurd (no_clause id none)) (λ id none. absurd (no_clause id none))
+            (inr (inr (λ id is. new_unit mid new id (anew.last id is)))))
+        | inr not_fresh ↦ two_give old mid new before after u v c.in_ok-unit.unit found.steps.leaves.sound (free_u not_fresh) (free_v not_fresh)
+            found.keeps (found.accounts no_error) found.steps.leaves.no_less unit.steps.leaves.no_less unit.retired unit.alone
+            c.in_ok-unit.ensures.given c.in_ok-unit.ensures.added
+      ];
       steps = c.steps_law.ensures.refute old mid new most 1 None found.steps unit.steps;
       no_empty = λ untorn open_yet. further_empty old mid new found.steps.no_empty (unit.some open_yet).no_empty;
       fits = λ untorn. c.entry_law.ensures.kept mid new after found.steps.leaves.sound unit.steps.leaves.sound unit.steps.extends kept
@@ -105,13 +142,13 @@ returns g c one other is_u is_v =
           found.made);
       lacks = λ limit. absurd (no_error limit);
       pairs = λ width room few all.
-          let own = pairs_found g (goal.at.returns g c).After-and width room few in
+          let own = pairs_found g (goal.at.returns-clause-finds g c).After-and width room few in
           omega (arith, own, unit.steps.adds);
       sizes = c.and.ensures.sizes;
     }
 
-pub returns-in_err-node : goal.returns-in_err-node
-returns-in_err-node g c one other is_u is_v =
+pub returns-in_err-node-clause-finds : goal.returns-in_err-node-clause-finds
+returns-in_err-node-clause-finds g c one other is_u is_v =
     let old = c.args.table.now in
     let mid = c.and.new.table in
     let before = all_entries c.args.caches.now in
@@ -137,12 +174,12 @@ returns-in_err-node g c one other is_u is_v =
       made = only_of _ _ _ (found.made);
       lacks = λ limit. lacks_one _ _ (found.lacks (ap Err (came_from _ came NodeLimit given limit)));
       pairs = λ width room few all.
-          let own = pairs_found g (goal.at.returns-in_err-node g c).After-and width room few in omega (arith, own);
+          let own = pairs_found g (goal.at.returns-in_err-node-clause-finds g c).After-and width room few in omega (arith, own);
       sizes = c.and.ensures.sizes;
     }
 
-pub returns-in_err-unit : goal.returns-in_err-unit
-returns-in_err-unit g c one other is_u is_v =
+pub returns-in_err-unit-clause-finds : goal.returns-in_err-unit-clause-finds
+returns-in_err-unit-clause-finds g c one other is_u is_v =
     let old = c.args.table.now in
     let mid = c.and.new.table in
     let new = c.unit_of.new.table in
@@ -151,8 +188,8 @@ returns-in_err-unit g c one other is_u is_v =
     let given = c.from_residual-in_err-unit.ensures.1 in
     let found = c.in_ok-node.ensures in
     let unit = c.in_err-unit.ensures.proves in
-    let kept = found.keeps.fits none_whole in
     let most = most_additions (levels old.graph) in
+    let kept = found.keeps.fits none_whole in
     record {
       term = no_answer _ came _ given;
       gives = no_answer _ came _ given;
@@ -161,10 +198,9 @@ returns-in_err-unit g c one other is_u is_v =
       no_empty = λ untorn open_yet. further_empty old mid new found.steps.no_empty
           (unit.refused (λ torn. untorn (handed_on _ came WriteFault given torn)));
       fits = λ untorn.
-          let torn : ◌≡◌ {A = Result Justification TableError} (Err came) (Err WriteFault) → ⊥ = other_cause _ came WriteFault given
-          untorn in
-          c.entry_law.ensures.kept mid new after found.steps.leaves.sound (went_on mid new (Err came) unit.steps.leaves torn).sound
-          unit.steps.extends kept
+          let more = (went_on {T = Justification} mid new (Err came) unit.steps.leaves
+          (λ torn. untorn (handed_on _ came WriteFault given (same_error torn)))).sound in
+          c.entry_law.ensures.kept mid new after found.steps.leaves.sound more unit.steps.extends kept
           (λ id named gone. kept.unretired id named (subst (λ (list : List ℕ). Contains list id) unit.retired gone));
       again = λ limit. absurd (unit.no_node_limit (ap Err (came_from _ came NodeLimit given limit)));
       made = only_of _ _ _ (subst (λ (graph : Graph). MakesOnly old.graph graph
@@ -172,7 +208,38 @@ returns-in_err-unit g c one other is_u is_v =
           (sym unit.nodes) found.made);
       lacks = λ limit. absurd (unit.no_node_limit (ap Err (came_from _ came NodeLimit given limit)));
       pairs = λ width room few all.
-          let own = pairs_found g (goal.at.returns-in_err-unit g c).After-and width room few in
+          let own = pairs_found g (goal.at.returns-in_err-unit-clause-finds g c).After-and width room few in
           omega (arith, own, unit.steps.adds);
       sizes = c.and.ensures.sizes;
     }
+
+-- a refusal loses no unit
+pub returns-in_err-node-clause-refused : goal.returns-in_err-node-clause-refused
+returns-in_err-node-clause-refused g c =
+    let came = c.in_err-node.field-0.0 in
+    let found = c.in_err-node.ensures in
+    if_handed _ came _ c.from_residual.ensures.1 (λ whole terms has.
+    let untorn = whole_result {T = Node × Justification} (Err came) (λ torn. whole (same_error torn)) in
+    units_behind c.steps_law.ensures c.args.table.now c.and.new.table (all_entries c.args.caches.now) (all_entries c.and.new.self) terms
+    c.requires.sound (went_on {T = Node × Justification} c.args.table.now c.and.new.table (Err came) found.steps.leaves
+    (λ torn. whole (same_error torn))).sound found.steps.extends has found.keeps.retires (found.keeps.named untorn)
+    (found.accounts (λ torn. whole (same_error torn))))
+
+pub returns-in_err-unit-clause-refused : goal.returns-in_err-unit-clause-refused
+returns-in_err-unit-clause-refused g c =
+    let old = c.args.table.now in
+    let mid = c.and.new.table in
+    let new = c.unit_of.new.table in
+    let before = all_entries c.args.caches.now in
+    let after = all_entries c.and.new.self in
+    let came = c.in_err-unit.field-0.0 in
+    let found = c.in_ok-node.ensures in
+    let unit = c.in_err-unit.ensures.proves in
+    if_handed _ came _ c.from_residual-in_err-unit.ensures.1 (λ whole terms has.
+    let sound = found.steps.leaves.sound in
+    let first = units_behind c.steps_law.ensures old mid before after terms c.requires.sound sound found.steps.extends has
+    found.keeps.retires (found.keeps.named none_whole) (found.accounts no_error) in
+    units_behind c.steps_law.ensures mid new after after terms sound
+    (went_on {T = Justification} mid new (Err came) unit.steps.leaves (λ torn. whole (same_error torn))).sound unit.steps.extends first
+    (record { each = λ id gone. inl (subst (λ (ids : List ℕ). Contains ids id) unit.retired gone) })
+    (record { each = λ entry there. inl there }) (none_added mid new after sound unit.retired (unit.none_added whole)))

@@ -43,11 +43,12 @@ unit_of_implied-requires g c =
     let u = c.args.u.now in
     record {
       sound = c.in_ok-just.ensures.steps.leaves.sound;
-      first = c.growth_law.ensures.stands old.graph mid.graph extends.nodes u.node c.requires.operand.stands;
+      first = record {
+        stands = c.growth_law.ensures.stands old.graph mid.graph extends.nodes u.node c.requires.operand.stands;
+        unit = justified_kept c.growth_law.ensures old.graph mid.graph c.requires.sound.tied.reduced extends.nodes old.book.state.live
+            mid.book.state.live extends.clauses u.node c.requires.operand.stands u.unit c.requires.operand.unit;
+      };
       second = c.growth_law.ensures.stands old.graph mid.graph extends.nodes c.args.w c.requires.second;
-      first_open = c.requires.operand.not_false;
-      first_unit = justified_kept c.growth_law.ensures old.graph mid.graph c.requires.sound.tied.reduced extends.nodes old.book.state.live
-          mid.book.state.live extends.clauses u.node c.requires.operand.stands u.unit c.requires.operand.unit;
       implied = subst (IsDecided mid.graph mid.book.state.live u.node c.args.w) c.in-Some.is c.in_ok-just.ensures.decided;
     }
 
@@ -66,7 +67,8 @@ pub returns-clause-steps : goal.returns-clause-steps
 returns-clause-steps g c =
     let old = c.args.table.now in
     c.steps_law.ensures.further old c.implies.new.table c.unit_of_implied.new.table
-    (most_additions (levels old.graph)) 1 _ c.in_ok-just.ensures.steps c.unit_of_implied.ensures.steps
+    (most_additions (levels old.graph)) 1 _ c.in_ok-just.ensures.steps
+    (c.unit_of_implied.ensures.steps c.requires.operand.not_false)
 
 pub returns-clause-keeps : goal.returns-clause-keeps
 returns-clause-keeps g c =
@@ -74,7 +76,7 @@ returns-clause-keeps g c =
     let mid = c.implies.new.table in
     let new = c.unit_of_implied.new.table in
     let done = c.in_ok-just.ensures in
-    let steps = c.unit_of_implied.ensures.steps in
+    let steps = c.unit_of_implied.ensures.steps c.requires.operand.not_false in
     let kept = all_entries c.implies.new.self in
     keeps_further old mid new (all_entries c.args.caches.now) kept kept _ done.steps.extends steps.extends done.keeps
     (keeps_all c.entry_law.ensures mid new kept _ done.steps.leaves.sound
@@ -105,7 +107,7 @@ returns-clause-gives g c =
     × ((id : ℕ) → IsAddedTo new id → IsAddedTo mid id ⊎ (unit ≡ Clause id)))
     (λ unit. GivesUnit old new before after (u ∷ []) unit)
     (λ unit one two. one_give old mid new before after u unit done.steps.leaves.sound free done.keeps
-    (done.accounts no_error) done.steps.leaves.no_less given.steps.extends.numbers.no_less given.proves.retired two.1 one two.0)
+    (done.accounts no_error) done.steps.leaves.no_less (given.steps c.requires.operand.not_false).extends.numbers.no_less given.proves.retired two.1 one two.0)
     given.given
     (both_ok c.unit_of_implied.result
     (λ unit. (unit ≡ u.unit) ⊎ ((id : ℕ) → unit ≡ Clause id → IsAddedTo new id)) (λ unit. (id : ℕ) → IsAddedTo new id → IsAddedTo mid id
@@ -132,4 +134,4 @@ returns-in_err-just-clause-pairs g c width room few_u few_w =
 pub returns-clause-pairs : goal.returns-clause-pairs
 returns-clause-pairs g c width room few_u few_w =
     let own = pairs_found g (goal.at.returns-clause-pairs g c).After-implies width room few_u few_w in
-    omega (arith, own, c.unit_of_implied.ensures.steps.adds)
+    omega (arith, own, (c.unit_of_implied.ensures.steps c.requires.operand.not_false).adds)

@@ -11,7 +11,8 @@ clear-requires c = place-within c.self.inside.judge c.in-Some.number c.in-Some.e
 pub returns-in-None : goal.returns-in-None
 returns-in-None c =
     let same = equality_of c.args.deletions in
-    subst (λ (cs : List (List ℤ)). cs ≡ without_first_by same c.args.clause.now cs) c.self.view_is
+    ap standing c.postpone.ensures ∙ c.self.view_is
+    ∙ subst (λ (cs : List (List ℤ)). cs ≡ without_first_by same c.args.clause.now cs) c.self.view_is
     (sym (without-none same c.self.inside.judge c.args.clause.now (c.in-None.ensures.none refl).absent))
 
 pub returns-in-Some : goal.returns-in-Some

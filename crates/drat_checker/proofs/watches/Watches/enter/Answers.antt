@@ -4,9 +4,10 @@ use Rattle.std.proofs.Common.{length-append}
 use Rattle.std.proofs.Math.ListN.{get_or-append}
 use Rattle.std.proofs.Math.Seq.{get_or-append_seam}
 use Rattle.drat_checker.specs.Numbers.{has_number}
-use Rattle.drat_checker.specs.Watches.{IsWatched, Pairs, is_in, pair_at, watchers}
+use Rattle.drat_checker.specs.Watches.{IsWatched, Pairs, all_watchers, beside, is_in, pair_at, watchers}
 use Rattle.std.specs.Option.{option_copied}
 use Rattle.drat_checker.proofs.Entered.{entered-watched, unfalse-in}
+use Rattle.drat_checker.proofs.Watched.{each-beside, in-one}
 use Rattle.drat_checker.proofs.watches.Watches.enter.Goals as goal
 
 pub returns-clause-watched : goal.returns-clause-watched
@@ -14,15 +15,17 @@ returns-clause-watched c = λ places before.
     let pairs = c.args.self.now.pairs.items in
     let pair = c.pair_of-pair.result in
     let lists' = c.enter_pair.new.lists in
+    let late = watchers c.args.self.now.late in
     let place = option_copied c.args.place in
     record {
       many = ap length c.in_ok-push.ensures.items ∙ length-append pairs (pair ∷ [])
           ∙ ap (λ n. n + 1) before.many ∙ sym (length-append places (place ∷ []));
-      watched = subst (λ (ps : Pairs). IsWatched ps (watchers lists') (places ++ place ∷ [])) (sym c.in_ok-push.ensures.items)
-          (entered-watched pairs (watchers c.args.self.now.lists) (watchers lists') places place pair before.many
+      watched = subst (λ (ps : Pairs). IsWatched ps (beside (watchers lists') late) (places ++ place ∷ [])) (sym c.in_ok-push.ensures.items)
+          (entered-watched pairs (all_watchers c.args.self.now) (beside (watchers lists') late) places place pair before.many
           c.pair_of-pair.ensures.own c.pair_of-pair.ensures.there
-          (λ n x listed. (c.enter_pair.ensures.kept.kept x).kept n listed)
-          (λ x own. subst (λ (n : ℕ). has_number n (watchers lists' x) ≡ true) c.requires (c.in_ok-enter_pair.ensures.entered x own))
+          (λ n x. each-beside (watchers c.args.self.now.lists) (watchers lists') late n x ((c.enter_pair.ensures.kept.kept x).kept n))
+          (λ x own. in-one (watchers lists') late (length pairs) x
+          (subst (λ (n : ℕ). has_number n (watchers lists' x) ≡ true) c.requires (c.in_ok-enter_pair.ensures.entered x own)))
           before.watched);
     }
 

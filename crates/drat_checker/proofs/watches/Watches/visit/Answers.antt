@@ -1,29 +1,18 @@
--- The list of the literal is taken out, walked, and given back.
-use Rattle.drat_checker.specs.Watches.{watchers, watchers_with}
-use Rattle.drat_checker.proofs.Visited.{given-back, taken-out, watched-same}
+-- The late lists stay.
+use Rattle.drat_checker.specs.Watches.{watchers}
+use Rattle.drat_checker.proofs.Lifts.{on-ok}
 use Rattle.drat_checker.proofs.watches.Watches.visit.Goals as goal
 
-pub walk-requires : goal.walk-requires
-walk-requires c =
-    let literal = c.args.literal in
-    let lists = c.args.self.now.lists in
-    let lists' = c.take-out.new.self in
-    record {
-      many = c.requires.watched.many;
-      watched = watched-same c.args.self.now.pairs.items (watchers lists) (watchers_with lists' literal c.take-out.result) c.args.db.now
-          c.requires.watched.watched
-          (taken-out lists lists' literal c.take-out.result c.take-out.ensures.list c.take-out.ensures.others);
-      falsified = c.requires.falsified;
-    }
+pub visit_in-requires : goal.visit_in-requires
+visit_in-requires c = record {
+  many = c.requires.watched.many;
+  pairs = c.requires.watched.watched.are;
+  falsified = c.requires.falsified;
+}
 
 pub returns-clause-watched : goal.returns-clause-watched
 returns-clause-watched c =
-    let literal = c.args.literal in
-    let lists' = c.walk.new.lists in
-    let lists'' = c.give.new.self in
-    record {
-      many = c.walk.ensures.many;
-      watched = watched-same c.walk.new.pairs.items (watchers_with lists' literal c.walk.new.out) (watchers lists'') c.args.db.now
-          c.in_ok-conflict.ensures.watched
-          (given-back lists' lists'' literal c.walk.new.out c.in_ok-give.ensures.list c.in_ok-give.ensures.others);
-    }
+    on-ok c.visit_in.result (λ f. record {
+      many = c.visit_in.ensures.many;
+      watched = f (watchers c.args.self.now.late) c.requires.watched.watched;
+    }) c.visit_in.ensures.watched

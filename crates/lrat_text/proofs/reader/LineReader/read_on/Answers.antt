@@ -7,14 +7,15 @@ use Rattle.text_scan.specs.Items.{next_word}
 use Rattle.lrat_text.specs.declared.error.StepError.TheVariants.{ReadFault, OutOfMemory}
 use Rattle.lrat_text.specs.declared.reader.ReaderStatus.TheVariants.{Reading}
 use Rattle.text_scan.specs.Decides.{gained, Decides-none, Decides-map, Decides-then, OnlyReads-then, gained-then, front-then}
-use Rattle.text_scan.specs.Scan.{Scan, block_size, given as answer, ahead, so_far as scan_so_far, is_reading as is_scanning, fuel}
+use Rattle.text_scan.specs.Near.{is_near as are_near}
+use Rattle.text_scan.specs.Scan.{Scan, given as answer, ahead, so_far as scan_so_far, is_reading as is_scanning, fuel}
 use Rattle.lrat_text.specs.LineSteps.{broken_off}
 use Rattle.lrat_text.specs.LineReader.{ReaderOf, with_token, drafted, Gives, given, so_far, steps_ahead, open_count}
 use Rattle.lrat_text.specs.LineWants.{wants_after, wants_ahead, may_want, Spends, Leads}
 use Rattle.lrat_text.proofs.GoesOn.{Stands-on, Stands-same, number_gives, number_so_far, number_spends, read_back}
 use Rattle.lrat_text.proofs.SoFar.{given_err, scanned, scanned_fault, off_overlong, before_so_far, stopped_so_far, settled_memory, last_memory}
 use Rattle.lrat_text.proofs.Wanted.{Leads-then, Leads-by, near_ahead, token_leads, token_wants, before_spends, end_spends, limit_spends}
-use Rattle.lrat_text.proofs.Wanted.{handed_spends, led, call_spends}
+use Rattle.lrat_text.proofs.Wanted.{handed_gives, handed_spends, led, call_spends}
 use Rattle.lrat_text.proofs.Settled.{before_gives, end_gives, limit_gives, call_gives, token_goes, open_small}
 use Rattle.lrat_text.proofs.reader.LineReader.read_on.Goals as goal
 use Rattle.lrat_text.proofs.reader.LineReader.read_on.Goals.{else-is_begun-via-then-is_begun+else-line, else-is_begun-via-else-is_begun}
@@ -283,7 +284,7 @@ returns-then-line-clause-spends g c =
     (stands.leads told) gives
     (λ middle more q. rw (← c.self-in-tokens.view_is, q)
     (before_spends form (given c.give_before.new.step c.give_before.result) c.next_into.new.token old c.give_before.new.self
-    c.give_before.ensures begun differs c.unread_law-in-Ok-true.ensures more))
+    c.give_before.ensures begun differs more (c.near_law-in-Ok-true.ensures more)))
 
 pub returns-in-Ok-false-clause-spends : goal.returns-in-Ok-false-clause-spends
 returns-in-Ok-false-clause-spends g c =
@@ -342,9 +343,20 @@ returns-in-Some-clause-spends g c =
     (wants_ahead form c.give_before_number.new.self more)) (stands.leads told)
     (λ bytes more p. led answered (length more) _ _ _ p
     (number_spends form c.form_law.ensures c.in-Some.number c.take_numbers.new.self c.number_of_another_line.new.self c.give_before_number.new.self begins answered
-    settles (subst (λ (r : ReaderOf _). length r.scan.unread ≤ block_size) c.self.view_is c.unread_law.ensures) more))
+    settles more (subst (λ (r : ReaderOf _). are_near (length more) (ahead r.scan more) ≡ true) c.self.view_is (c.near_law.ensures more))))
 
 -- memory was wanted for a number
+pub returns-in_err-take-in-Ok-true-clause-gives : goal.returns-in_err-take-in-Ok-true-clause-gives
+returns-in_err-take-in-Ok-true-clause-gives g c =
+    let form = g.F.LineForm.form in
+    let stands = Stands-same form (c.in-None.ensures.none refl)
+    (Stands-on form c.tokens.invariant.stands c.take_numbers.ensures.goes_on c.take_numbers.ensures.leads) in
+    let came = c.in_err-take-in-Ok-true.ensures.err in
+    let memory : c.in_err-take-in-Ok-true.field-0.0 ≡ OutOfMemory = cc in
+    λ told. Decides-then _ (stands.same told) (c.in-Ok-true.ensures.gives told)
+    (λ bytes middle more p q. handed_gives c.tokens.step c.from_residual.result c.in_err-take-in-Ok-true.field-0.0 c.from_residual.ensures.1
+    memory _ _ _)
+
 pub returns-in_err-take-in-Ok-true-clause-spends : goal.returns-in_err-take-in-Ok-true-clause-spends
 returns-in_err-take-in-Ok-true-clause-spends g c =
     let form = g.F.LineForm.form in
@@ -379,8 +391,8 @@ returns-in_err-take-in-Ok-true-clause-spends g c =
     (sym (ap (λ (r : ReaderOf _). wants_ahead form r middle) (sym c.self-in-tokens.view_is)
     ∙ ap (λ is. wants_after form is c.self-in-tokens.inside.draft) q))
     (token_wants form (length more) c.self-in-tokens.inside.draft c.next_into.new.token (ahead c.next_into.new.self more) begun (same begun)
-    keeps (near_ahead form c.next_into.new.self (form.with_word c.self-in-tokens.inside.draft c.next_into.new.token) more
-    c.unread_law-in-Ok-true.ensures)))))
+    keeps (near_ahead form (ahead c.next_into.new.self more) (form.with_word c.self-in-tokens.inside.draft c.next_into.new.token)
+    (length more) (c.near_law-in-Ok-true.ensures more))))))
 
 -- memory was wanted for a step
 pub returns-in-Some-clause-memory : goal.returns-in-Some-clause-memory

@@ -107,13 +107,14 @@ returns-in_err-take-in-Some-clause-memory g c = λ told wanted.
     c.from_residual-in_err-take-in-Some.ensures.1 in
     let memory : c.in_err-take-in-Some.field-0.0 ≡ OutOfMemory = cc in
     let none = rw c.tokens.invariant.vars at (c.in_err-take-in-Some.ensures.memory (ap Err memory)) in
-    Decides-then (λ bytes more. WantsMemory c.args.vars (items 35 max_bytes bytes)) (c.tokens.invariant.passed told) gives
+    Decides-then (λ bytes more. WantsMemory c.args.vars (length more) (items 35 max_bytes bytes)) (c.tokens.invariant.passed told) gives
     (λ bytes middle more p q. record {
       word = c.in-Some.token;
       after = ahead c.next.new.self more;
       before = c.tokens.front.numbers;
       passed = rw q at p;
       unoffending = none;
+      near = c.near_law.ensures more;
     })
 
 -- The scanner stopped by an error.

@@ -1,5 +1,5 @@
 -- A token goes on with the line or ends it. The end, the limit or a line that is refused decides.
-use Rattle.std.proofs.Common.{◌≡◌, ℕ, [], Err, IsTrue, IfOk, inl, inr, refl, sym, ◌∙◌, ap, subst, arith}
+use Rattle.std.proofs.Common.{◌≡◌, ℕ, [], length, Err, IsTrue, IfOk, inl, inr, refl, sym, ◌∙◌, ap, subst, arith}
 use Rattle.text_scan.specs.Decides.{gained, gained-none, Decides-none, Decides-then, OnlyReads-then, front-then, gained-then}
 use Rattle.text_scan.specs.Items.{Items, the_end, too_long, next_word, items, items_of_front}
 use Rattle.text_scan.specs.Scan.{ahead, so_far}
@@ -25,9 +25,9 @@ tokens-init g c =
           (λ more. rw (c.new-line.ensures, c.in_ok-judge.ensures.moves, c.new-scanner.ensures.items more) refl);
       front = λ told reads more. rw (c.new-line.ensures, c.in_ok-judge.ensures.moves, none, c.new-scanner.ensures.front more) refl;
       memory = λ told. Decides-none (g.S.Source.channel c.args.source.now)
-          (λ bytes more. IsTrue (items_may_want_memory formula (ahead c.new-scanner.result more) c.new-line.result
-          c.in_ok-judge.judge.moves.items) → IsTrue (may_want_memory formula bytes))
-          (λ more wants. rw (c.new-line.ensures, c.in_ok-judge.ensures.moves, c.new-scanner.ensures.items more) at wants);
+          (λ bytes more. (n : ℕ) → IsTrue (items_may_want_memory n formula (ahead c.new-scanner.result more) c.new-line.result
+          c.in_ok-judge.judge.moves.items) → IsTrue (may_want_memory formula n bytes))
+          (λ more n wants. rw (c.new-line.ensures, c.in_ok-judge.ensures.moves, c.new-scanner.ensures.items more) at wants);
       stands = c.in_ok-judge.ensures.stands;
       sound = rw (c.new-scanner.ensures.reading) refl;
       reads = record { written = refl; flushed = refl; name = refl; faults = omega arith };
@@ -58,11 +58,11 @@ tokens-preserved g c =
           ∙ c.in_ok-take_token-in-Ok-Some.ensures.goes (broken_off (so_far c.next.new.self more)));
       memory = λ told.
           let gives = rw c.in-Ok-Some.field-0-is at (c.in-Ok-Some.ensures.gives told) in
-          Decides-then (λ bytes more. IsTrue (items_may_want_memory formula (ahead c.next.new.self more) c.take_token.new.line
-          c.take_token.new.judge.moves.items) → IsTrue (may_want_memory formula bytes))
+          Decides-then (λ bytes more. (n : ℕ) → IsTrue (items_may_want_memory n formula (ahead c.next.new.self more) c.take_token.new.line
+          c.take_token.new.judge.moves.items) → IsTrue (may_want_memory formula n bytes))
           (c.tokens.invariant.memory told) gives
-          (λ bytes middle more p q wants. p (subst (λ (is : Items). IsTrue (items_may_want_memory formula is c.tokens.line
-          c.tokens.judge.moves.items)) (sym q) (c.in_ok-take_token-in-Ok-Some.ensures.later (ahead c.next.new.self more) wants)));
+          (λ bytes middle more p q n wants. p n (subst (λ (is : Items). IsTrue (items_may_want_memory n formula is c.tokens.line
+          c.tokens.judge.moves.items)) (sym q) (c.in_ok-take_token-in-Ok-Some.ensures.later n (ahead c.next.new.self more) wants)));
       stands = c.in_ok-take_token-in-Ok-Some.ensures.stands;
       sound = moves.sound;
       reads = OnlyReads-then c.tokens.invariant.reads c.next.ensures.reads;
@@ -131,30 +131,30 @@ returns-in_err-take_token-in-Ok-Some-clause-memory g c = λ told wanted.
     let error = error_is c.from_residual-in_err-take_token-in-Ok-Some.result c.in_err-take_token-in-Ok-Some.field-0.0
     c.from_residual-in_err-take_token-in-Ok-Some.ensures.1 in
     let memory : c.in_err-take_token-in-Ok-Some.field-0.0 ≡ OutOfMemory = cc in
-    inr (Decides-then (λ bytes more. IsTrue (may_want_memory formula bytes)) (c.tokens.invariant.memory told) gives
-    (λ bytes middle more p q. p (subst (λ (is : Items). IsTrue (items_may_want_memory formula is c.tokens.line
+    inr (Decides-then (λ bytes more. IsTrue (may_want_memory formula (length more) bytes)) (c.tokens.invariant.memory told) gives
+    (λ bytes middle more p q. p (length more) (subst (λ (is : Items). IsTrue (items_may_want_memory (length more) formula is c.tokens.line
     c.tokens.judge.moves.items)) (sym q)
-    (c.in_err-take_token-in-Ok-Some.ensures.memory (ap Err memory) (ahead c.next.new.self more)))))
+    (c.in_err-take_token-in-Ok-Some.ensures.memory (ap Err memory) (length more) (ahead c.next.new.self more) (c.near_law.ensures more)))))
 
 -- or for the last line
 pub returns-in-Ok-None-clause-memory : goal.returns-in-Ok-None-clause-memory
 returns-in-Ok-None-clause-memory g c = λ told wanted.
     let formula = c.args.formula.now in
     let gives = rw c.in-Ok-None.field-0-is at (c.in-Ok-None.ensures.gives told) in
-    inr (Decides-then (λ bytes more. IsTrue (may_want_memory formula bytes)) (c.tokens.invariant.memory told) gives
-    (λ bytes middle more p q. p (subst (λ (is : Items). IsTrue (items_may_want_memory formula is c.tokens.line
+    inr (Decides-then (λ bytes more. IsTrue (may_want_memory formula (length more) bytes)) (c.tokens.invariant.memory told) gives
+    (λ bytes middle more p q. p (length more) (subst (λ (is : Items). IsTrue (items_may_want_memory (length more) formula is c.tokens.line
     c.tokens.judge.moves.items)) (sym (q.0 ∙ ap the_end (sym c.line-in-Ok-None-2.ensures)))
-    (c.at_end.ensures.memory wanted))))
+    (c.at_end.ensures.memory wanted (length more)))))
 
 pub returns-in-Err-TooLong-clause-memory : goal.returns-in-Err-TooLong-clause-memory
 returns-in-Err-TooLong-clause-memory g c = λ told wanted.
     let formula = c.args.formula.now in
     let gives = rw c.in-Err-TooLong.field-0-is at (c.in-Err-TooLong.ensures.gives told) in
     let memory : c.at_limit.result ≡ OutOfMemory = cc in
-    inr (Decides-then (λ bytes more. IsTrue (may_want_memory formula bytes)) (c.tokens.invariant.memory told) gives
-    (λ bytes middle more p q. p (subst (λ (is : Items). IsTrue (items_may_want_memory formula is c.tokens.line
+    inr (Decides-then (λ bytes more. IsTrue (may_want_memory formula (length more) bytes)) (c.tokens.invariant.memory told) gives
+    (λ bytes middle more p q. p (length more) (subst (λ (is : Items). IsTrue (items_may_want_memory (length more) formula is c.tokens.line
     c.tokens.judge.moves.items)) (sym (q.0 ∙ ap too_long (sym c.line-in-Err-TooLong.ensures)))
-    (c.at_limit.ensures.memory memory))))
+    (c.at_limit.ensures.memory memory (length more)))))
 
 -- Memory was wanted for what is kept of the formula: no byte was taken.
 pub returns-in_err-judge-clause-decides : goal.returns-in_err-judge-clause-decides

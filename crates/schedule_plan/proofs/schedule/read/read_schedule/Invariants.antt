@@ -19,8 +19,8 @@ invariant-tokens g l = record {
       (gained (g.S.Source.channel l.fn.source) (g.S.Source.channel l.source) ++ more))) no_draft []
       ≡ drafted l.formula (broken_off (so_far l.scanner more)) l.line l.judge.moves.items;
   memory : IsTrue g.S.Source.tells → Decides (g.S.Source.channel l.fn.source) (g.S.Source.channel l.source)
-      (λ bytes more. IsTrue (items_may_want_memory l.formula (ahead l.scanner more) l.line l.judge.moves.items)
-      → IsTrue (may_want_memory l.formula bytes));
+      (λ bytes more. (n : ℕ) → IsTrue (items_may_want_memory n l.formula (ahead l.scanner more) l.line l.judge.moves.items)
+      → IsTrue (may_want_memory l.formula n bytes));
   stands : Stands l.formula l.judge;
   sound : is_faulted l.scanner.status ≡ false;
   reads : OnlyReads (g.S.Source.channel l.fn.source) (g.S.Source.channel l.source);

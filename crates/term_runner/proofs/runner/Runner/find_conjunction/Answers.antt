@@ -1,5 +1,5 @@
 -- The conjunction of two terms is found and put on the list.
-use Rattle.std.proofs.Common.{◌&&◌, Bool, List, [], ◌∷◌, refl, subst}
+use Rattle.std.proofs.Common.{◌≡◌, ◌&&◌, Bool, true, false, List, [], ◌∷◌, refl, subst}
 use Rattle.cnf_base.specs.Truth.{Assignment}
 use Rattle.node_table.specs.HandedOn.{handed_on}
 use Rattle.node_table.specs.declared.error.TableError.TheVariants.{OutOfMemory}
@@ -10,11 +10,14 @@ use Rattle.term_runner.proofs.Given.{gives_none, gives_one, nothing_found, true_
 use Rattle.term_runner.proofs.Kept.{good_proved, good_term}
 use Rattle.term_runner.proofs.runner.Runner.find_conjunction.Goals as goal
 
-pub own_conjunction-requires-clause-first : goal.own_conjunction-requires-clause-first
-own_conjunction-requires-clause-first g c = good_proved c.args.self.now c.requires.runner c.args.u.now.held c.requires.first
+pub conjunction-requires-clause-first : goal.conjunction-requires-clause-first
+conjunction-requires-clause-first g c = good_proved c.args.self.now c.requires.runner c.args.u.now.held c.requires.first
 
-pub own_conjunction-requires-clause-second : goal.own_conjunction-requires-clause-second
-own_conjunction-requires-clause-second g c = good_proved c.args.self.now c.requires.runner c.args.v.now.held c.requires.second
+pub conjunction-requires-clause-second : goal.conjunction-requires-clause-second
+conjunction-requires-clause-second g c = good_proved c.args.self.now c.requires.runner c.args.v.now.held c.requires.second
+
+pub conjunction-requires-clause-shared : goal.conjunction-requires-clause-shared
+conjunction-requires-clause-shared g c not_fresh = absurd (let e : true ≡ false = not_fresh in cc)
 
 pub returns-then-is_err : goal.returns-then-is_err
 returns-then-is_err g c =
@@ -34,8 +37,8 @@ pub returns-in_err-held : goal.returns-in_err-held
 returns-in_err-held g c =
     let old = c.args.self.now in
     let came = c.in_err-held.field-0.0 in
-    let mid = c.own_conjunction.new.table in
-    let caches = c.own_conjunction.new.caches in
+    let mid = c.conjunction.new.table in
+    let caches = c.conjunction.new.caches in
     record {
       gives = gives_none c.growth_law.ensures c.steps_law.ensures (conjunction_of old.terms.table.graph c.args.u.now.held.node c.args.v.now.held.node)
           (λ a. holds_in old c.args.u.now.held a && holds_in old c.args.v.now.held a) (c.args.v.now.held ∷ c.args.u.now.held ∷ []) old
@@ -53,7 +56,7 @@ place-requires-clause-true_alone g c is =
     let found = c.in_ok-held.ensures.finds (holds_in old c.args.u.now.held) (holds_in old c.args.v.now.held)
     (good_term old c.requires.runner c.args.u.now.held c.requires.first)
     (good_term old c.requires.runner c.args.v.now.held c.requires.second) in
-    true_unit c.own_conjunction.new.table c.in_ok-held.held.node c.in_ok-held.held.unit is found.term.proved
+    true_unit c.conjunction.new.table c.in_ok-held.held.node c.in_ok-held.held.unit is found.term.proved
 
 pub returns : goal.returns
 returns g c =
@@ -65,8 +68,8 @@ returns g c =
       gives = gives_one c.growth_law.ensures c.steps_law.ensures
           (conjunction_of old.terms.table.graph c.args.u.now.held.node c.args.v.now.held.node)
           (λ a. holds_in old c.args.u.now.held a && holds_in old c.args.v.now.held a) (c.args.v.now.held ∷ c.args.u.now.held ∷ []) old
-          c.requires.runner c.own_conjunction.new.table c.own_conjunction.new.caches (record { held = c.in_ok-held.held }) found
-          c.in_ok-held.ensures.own c.place.new.self c.place.ensures.same
+          c.requires.runner c.conjunction.new.table c.conjunction.new.caches (record { held = c.in_ok-held.held }) found
+          (c.in_ok-held.ensures.own refl) c.place.new.self c.place.ensures.same
           (subst (λ (items : List HeldTerm). IsListed items c.place.new.self.terms.out.items c.in_ok-held.held) c.reserve.ensures.items
           c.place.ensures.listed)
           c.place.ensures.refutes c.place.ensures.unrefuted;

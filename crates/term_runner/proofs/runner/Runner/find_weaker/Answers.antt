@@ -20,8 +20,8 @@ use Rattle.term_runner.proofs.runner.Runner.find_weaker.Goals as goal
 no_memory_limit : ◌≡◌ {A = TableError} OutOfMemory NodeLimit → ⊥
 no_memory_limit is = cc
 
-pub own_weaker-requires-clause-proved : goal.own_weaker-requires-clause-proved
-own_weaker-requires-clause-proved g c = good_proved c.args.self.now c.requires.runner c.args.u.now.held c.requires.good
+pub weaker-requires-clause-proved : goal.weaker-requires-clause-proved
+weaker-requires-clause-proved g c = good_proved c.args.self.now c.requires.runner c.args.u.now.held c.requires.good
 
 pub returns-then-is_err : goal.returns-then-is_err
 returns-then-is_err g c =
@@ -44,12 +44,12 @@ pub returns-in_err-held : goal.returns-in_err-held
 returns-in_err-held g c =
     let old = c.args.self.now in
     let came = c.in_err-held.field-0.0 in
-    let mid = c.own_weaker.new.table in
-    let caches = c.own_weaker.new.caches in
+    let mid = c.weaker.new.table in
+    let caches = c.weaker.new.caches in
     let graph = old.terms.table.graph in
     let new = record old { terms = record old.terms { table = mid; caches = caches; out = c.reserve.new.self } } in
     record {
-      weakens = weakened_error c.args.u.now.held c.args.node old new c.own_weaker.ensures.nodes came
+      weakens = weakened_error c.args.u.now.held c.args.node old new c.weaker.ensures.nodes came
           (λ limit. c.in_err-held.ensures.no_node_limit (ap Err limit))
           (gives_none c.growth_law.ensures c.steps_law.ensures (λ a. value_of graph a c.args.node) (node_holds graph c.args.node)
           (c.args.u.now.held ∷ []) old c.requires.runner mid caches came c.in_err-held.ensures.finds c.in_err-held.ensures.refused new refl
@@ -59,8 +59,8 @@ returns-in_err-held g c =
 pub returns-in_default : goal.returns-in_default
 returns-in_default g c =
     let old = c.args.self.now in
-    let mid = c.own_weaker.new.table in
-    let caches = c.own_weaker.new.caches in
+    let mid = c.weaker.new.table in
+    let caches = c.weaker.new.caches in
     let graph = old.terms.table.graph in
     let function : Levels → Bool = λ a. value_of graph a c.args.node in
     let operands = c.args.u.now.held ∷ [] in
@@ -72,7 +72,7 @@ returns-in_default g c =
     subst (λ (o : Option HeldTerm). IfOk {E = TableError} (some_or true_term (Ok o)) (λ held. GivesUnit old.terms.table mid
     (all_entries old.terms.caches) (all_entries caches) [] held.unit)) c.in_default.is c.in_ok-held.ensures.own in
     record {
-      weakens = weakened_none c.args.u.now.held c.args.node old new c.own_weaker.ensures.nodes
+      weakens = weakened_none c.args.u.now.held c.args.node old new c.weaker.ensures.nodes
           (c.in_ok-held.ensures.none (ap Ok c.in_default.is)) c.reserve.ensures.items
           (gives_one c.growth_law.ensures c.steps_law.ensures function (λ a. true) operands old c.requires.runner mid caches always found own new refl
           (inl (refl, c.reserve.ensures.items)) (λ is. cc) (λ some. refl));
@@ -81,8 +81,8 @@ returns-in_default g c =
 pub place-requires-clause-true_alone : goal.place-requires-clause-true_alone
 place-requires-clause-true_alone g c is =
     let old = c.args.self.now in
-    let mid = c.own_weaker.new.table in
-    let caches = c.own_weaker.new.caches in
+    let mid = c.weaker.new.table in
+    let caches = c.weaker.new.caches in
     let graph = old.terms.table.graph in
     let function : Levels → Bool = λ a. value_of graph a c.args.node in
     let found : Finds (IsSubfunction function) function (node_holds graph c.args.node) (c.args.u.now.held ∷ []) old.terms.table mid
@@ -94,8 +94,8 @@ place-requires-clause-true_alone g c is =
 pub returns : goal.returns
 returns g c =
     let old = c.args.self.now in
-    let mid = c.own_weaker.new.table in
-    let caches = c.own_weaker.new.caches in
+    let mid = c.weaker.new.table in
+    let caches = c.weaker.new.caches in
     let graph = old.terms.table.graph in
     let function : Levels → Bool = λ a. value_of graph a c.args.node in
     let operands = c.args.u.now.held ∷ [] in
@@ -109,7 +109,7 @@ returns g c =
     let at : held.node ≡ c.args.node = subst (λ (o : Option HeldTerm). IfSome o (λ h. h.node ≡ c.args.node)) c.in-Some.is c.in_ok-held.ensures.node in
     record {
       weakens = weakened_some c.args.u.now.held c.args.node old c.place.new.self
-          (ap (λ (r : Runner g.row.S.Denot). r.terms.table.graph) c.place.ensures.same ∙ c.own_weaker.ensures.nodes) (record { held = held }) at
+          (ap (λ (r : Runner g.row.S.Denot). r.terms.table.graph) c.place.ensures.same ∙ c.weaker.ensures.nodes) (record { held = held }) at
           (gives_one c.growth_law.ensures c.steps_law.ensures function (node_holds graph c.args.node) operands old c.requires.runner mid caches
           (record { held = held }) found own c.place.new.self c.place.ensures.same
           (subst (λ (items : List HeldTerm). IsListed items c.place.new.self.terms.out.items held) c.reserve.ensures.items c.place.ensures.listed)

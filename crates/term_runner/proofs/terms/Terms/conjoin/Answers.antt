@@ -48,8 +48,7 @@ conjunction-requires-clause-first g c =
     let list = c.in-Some.v ∷ c.in-Some.u ∷ c.in-Some.ensures.0 in
     let items : reverse c.args.self.now.out.items ≡ list = ap reverse (sym c.as_slice.ensures.value) ∙ c.in-Some.ensures.1 in
     let are = as_listed c.requires.0 table _ list _ _ items move.before begun.at.held in
-    operand_of c.requires.0 table (all_entries c.args.self.now.caches) c.in-Some.u move.one list
-    (own_listed table _ _ list items begun.own) (1, omega arith, refl) are.1.0
+    record { stands = are.1.0.is.stands; unit = are.1.0.is.proved }
 
 pub conjunction-requires-clause-second : goal.conjunction-requires-clause-second
 conjunction-requires-clause-second g c =
@@ -59,8 +58,21 @@ conjunction-requires-clause-second g c =
     let list = c.in-Some.v ∷ c.in-Some.u ∷ c.in-Some.ensures.0 in
     let items : reverse c.args.self.now.out.items ≡ list = ap reverse (sym c.as_slice.ensures.value) ∙ c.in-Some.ensures.1 in
     let are = as_listed c.requires.0 table _ list _ _ items move.before begun.at.held in
-    operand_of c.requires.0 table (all_entries c.args.self.now.caches) c.in-Some.v move.other list
-    (own_listed table _ _ list items begun.own) (zero, omega arith, refl) are.0
+    record { stands = are.0.is.stands; unit = are.0.is.proved }
+
+pub conjunction-requires-clause-shared : goal.conjunction-requires-clause-shared
+conjunction-requires-clause-shared g c not_fresh =
+    let table = c.args.self.now.table in
+    let begun = c.requires.1 in
+    let move = and_of c.requires.0 begun.stage begun.next And refl begun.leads in
+    let list = c.in-Some.v ∷ c.in-Some.u ∷ c.in-Some.ensures.0 in
+    let items : reverse c.args.self.now.out.items ≡ list = ap reverse (sym c.as_slice.ensures.value) ∙ c.in-Some.ensures.1 in
+    let are = as_listed c.requires.0 table _ list _ _ items move.before begun.at.held in
+    let kept = all_entries c.args.self.now.caches in
+    let own = own_listed table _ _ list items begun.own in (
+      operand_of c.requires.0 table kept c.in-Some.u move.one list own (1, omega arith, refl) are.1.0,
+      operand_of c.requires.0 table kept c.in-Some.v move.other list own (zero, omega arith, refl) are.0,
+    )
 
 -- the conjunction that was found, of the two last terms
 module _ (g : Over) (c : After-conjunction g) (formula : Formula) (ready : IsOpen formula c.args.self.now)
@@ -123,7 +135,7 @@ returns-in_err-held g c formula stage next ready at leads =
     (both move.one move.other)))
     (result_part formula c.args.self.now.table.graph.order stage next (both move.one move.other) move.rest move.after)
     c.conjunction.new.table c.conjunction.new.caches came
-    (found_two g inside formula ready stage next at leads (Err came) c.in_err-held.ensures) _
+    (found_two g inside formula ready stage next at leads (Err came) c.in_err-held.ensures.finds) _
     (handed_on _ came came c.from_residual.ensures.1 refl)
 
 pub put-requires-clause-sound : goal.put-requires-clause-sound
@@ -131,7 +143,7 @@ put-requires-clause-sound g c =
     let begun = c.requires.1 in
     let inside = (goal.at.put-requires-clause-sound g c).After-conjunction in
     (found_two g inside c.requires.0 begun.ready begun.stage begun.next begun.at begun.leads (Ok c.in_ok-held.held)
-    c.in_ok-held.ensures).steps.leaves.sound
+    c.in_ok-held.ensures.finds).steps.leaves.sound
 
 pub put-requires-clause-units : goal.put-requires-clause-units
 put-requires-clause-units g c some =
@@ -148,14 +160,14 @@ put-requires-clause-units g c some =
     (result_part c.requires.0 c.args.self.now.table.graph.order begun.stage begun.next (both move.one move.other) move.rest
     move.after)
     c.conjunction.new.table c.conjunction.new.caches c.in_ok-held.held
-    (found_two g inside c.requires.0 begun.ready begun.stage begun.next begun.at begun.leads (Ok c.in_ok-held.held) c.in_ok-held.ensures))
+    (found_two g inside c.requires.0 begun.ready begun.stage begun.next begun.at begun.leads (Ok c.in_ok-held.held) c.in_ok-held.ensures.finds))
 
 pub returns : goal.returns
 returns g c formula stage next ready at leads =
     let old = c.args.self.now in
     let inside = (goal.at.returns g c).After-conjunction in
     let move = conjoined g inside formula ready stage next at leads in
-    let found = found_two g inside formula ready stage next at leads (Ok c.in_ok-held.held) c.in_ok-held.ensures in
+    let found = found_two g inside formula ready stage next at leads (Ok c.in_ok-held.held) c.in_ok-held.ensures.finds in
     let kept = trail_grown c.growth_law.ensures formula old.table.graph c.conjunction.new.table.graph
     ready.over.sound.tied.reduced
     found.steps.extends.nodes old.trail stage.trail at.kept in

@@ -26,7 +26,7 @@ use Rattle.term_runner.specs.Tidy.{LeavesReached, held_nodes}
 use Rattle.term_runner.proofs.Between.{at_first}
 use Rattle.term_runner.proofs.Decided.{decides_kept, decides_line, decides_model, decides_moves, decides_no_line, decides_nothing, decides_refuted}
 use Rattle.term_runner.proofs.Decided.{no_node_yet, none_left}
-use Rattle.term_runner.proofs.OneLine.{some_moves}
+use Rattle.term_runner.proofs.AtStart.{some_moves}
 use Rattle.term_runner.proofs.Plans.{all_hold}
 use Rattle.term_runner.proofs.Tautologies.{tautologies_satisfied}
 use Rattle.term_runner.proofs.Trails.{tautologies_recovered}

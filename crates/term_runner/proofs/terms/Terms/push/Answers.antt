@@ -11,7 +11,6 @@ use Rattle.term_runner.specs.Trail.{IsTrail}
 use Rattle.term_runner.specs.Terms.{HasOwnUnits, IsAtStage}
 use Rattle.term_runner.specs.Width.{term_function}
 use Rattle.term_runner.proofs.FewLeft.{result_part}
-use Rattle.term_runner.proofs.Inputs.{input_some}
 use Rattle.term_runner.proofs.Placed.{not_found, put_done, with_room}
 use Rattle.term_runner.proofs.Taking.{IsPushed}
 use Rattle.term_runner.proofs.Trails.{trail_grown}
@@ -31,12 +30,6 @@ input-requires-clause-from_one g c = (push_of c.args.formula.now c.requires.stag
 pub input-requires-clause-to_len : goal.input-requires-clause-to_len
 input-requires-clause-to_len g c = (push_of c.args.formula.now c.requires.stage c.requires.next
     (Push c.args.number) c.args.number refl c.requires.leads).to_len
-
-pub input-requires-clause-some : goal.input-requires-clause-some
-input-requires-clause-some g c =
-    let move = push_of c.args.formula.now c.requires.stage c.requires.next (Push c.args.number)
-    c.args.number refl c.requires.leads in
-    input_some c.args.formula.now c.args.number move.from_one move.to_len c.requires.ready.none_empty
 
 module _ (g : Over) (c : After-input g) (stage next : Stage) (at : IsAtStage c.args.formula.now c.args.self.now stage)
     (leads : after_move c.args.formula.now stage (Push c.args.number) ≡ Some next) where

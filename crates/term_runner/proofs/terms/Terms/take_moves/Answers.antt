@@ -1,8 +1,9 @@
 -- What is left to show of `take_moves`.
-use Rattle.std.proofs.Common.{rules, ◌≡◌, ℕ, suc, ◌+◌, ◌*◌, ◌≤◌, Bool, true, List, Option, Result, length, take, reverse, None, Some}
+use Rattle.std.proofs.Common.{rules, ◌≡◌, ℕ, suc, ◌+◌, ◌*◌, ◌≤◌, Bool, true, false, List, Option, Result, length, take, reverse, None, Some}
 use Rattle.std.proofs.Common.{Ok, Err, ap, refl}
 use Rattle.std.proofs.Common.{sym, ◌∙◌, subst, arith, inl, inr}
 use Rattle.std.proofs.Math.Nat.{mul-le-mul_right}
+use Rattle.std.proofs.lemmas.Bool.{cases_Bool, ltb-true}
 use Rattle.std.specs.List.{slice_get}
 use Rattle.cnf_base.specs.Formula.{Formula}
 use Rattle.node_table.specs.declared.node.Node.{Node}
@@ -21,7 +22,7 @@ use Rattle.std.proofs.lemmas.List.{length-map}
 use Rattle.term_runner.specs.Moves.{Moved}
 use Rattle.term_runner.specs.Terms.{IsAtStage}
 use Rattle.term_runner.specs.Price.{IsLeanAtEnd, IsMovePrice, IsPaid, most_nodes}
-use Rattle.term_runner.specs.Width.{HasWidth, HoldsAtMost}
+use Rattle.term_runner.specs.Width.{HasWidth, HoldsAtMost, keeps_trail}
 use Rattle.term_runner.specs.Nodes.{IsGivenPart, KeepsOrMakes}
 use Rattle.term_runner.specs.Opened.{LeavesKind}
 use Rattle.term_runner.specs.Held.{top_node}
@@ -31,9 +32,9 @@ use Rattle.term_runner.proofs.Between.{IsNext, at_last, leads_here, next_at, som
 use Rattle.term_runner.specs.Caches.{all_entries}
 use Rattle.term_runner.proofs.Least.{recovered}
 use Rattle.term_runner.proofs.Trails.{are_variables}
-use Rattle.term_runner.proofs.Leaving.{error_handed, memory_left}
+use Rattle.term_runner.proofs.Leaving.{error_handed, memory_left, most_left}
 use Rattle.term_runner.proofs.NoEmpty.{further_empty, no_change, no_true}
-use Rattle.term_runner.proofs.InHand.{in_hand_before, short_at_limit}
+use Rattle.term_runner.proofs.InHand.{short_at_limit}
 use Rattle.term_runner.proofs.Planned.{moved_on}
 use Rattle.term_runner.proofs.Few.{added_between, has_added, held_length}
 use Rattle.term_runner.proofs.FewLeft.{few_left, in_hand_behind}
@@ -54,7 +55,7 @@ moves-init g c =
       few = omega arith;
       counted = c.requires.begun;
       tidy = inl (omega (arith, c.requires.empty));
-      left = λ width has. omega (arith, c.requires.none_left);
+      left = λ none width has. omega (arith, c.requires.none_left);
       price = λ width price has is. omega arith;
       size = c.requires.size;
       between = record { stage = no_stage; front = refl; rest = refl; at = c.requires.at };
@@ -85,6 +86,15 @@ take_move-requires g c =
       at = between.at;
       leads = leads_here c.args.formula.now _ _ _ _ c.in-Some.step.now (sym c.moves.invariant.continues.order) next.is;
     }
+
+-- a reclamation that keeps no term of the trail
+without : (most : ℕ) (formula : Formula) (order : List ℕ) (stage : Stage) (left : ℕ) → WereLeft (keeps_trail most) formula order stage left
+    → keeps_trail most ≡ false → WereLeft false formula order stage left
+without most formula order stage left were none = subst (λ (keeps : Bool). WereLeft keeps formula order stage left) none were
+
+-- fewer nodes than a thousand are few at any width
+few_allowed : (most live width : ℕ) → keeps_trail most ≡ true → live ≤ most → live ≤ most_nodes width
+few_allowed most live width keeps few = let small = ltb-true most 1000 keeps in omega (arith, small, few)
 
 -- at each move of the plan no more parts are in hand than its width says
 at_move : (formula : Formula) (plan : List Move) (order : List ℕ) (i : ℕ) (step : Move) (before after : Stage)
@@ -184,8 +194,10 @@ moves-preserved g c =
       price = λ width price has is. so_far g (goal.at.moves-preserved g c).After-take_move width price has is;
       size = own.sizes ∙ c.moves.invariant.size;
       tidy = c.in_ok-take_move.ensures.tidy (ap Ok c.if-branch.false);
-      left = λ width has.
+      left = λ none width has.
           let before = c.moves.self.table in
+          let none_here : keeps_trail c.args.self.now.table.max_nodes ≡ false → keeps_trail before.max_nodes ≡ false = λ is.
+          ap keeps_trail c.moves.invariant.continues.max_nodes ∙ is in
           let most = at_move c.args.formula.now c.args.plan.now c.args.self.now.table.graph.order c.moves.i
           (move_in_order c.args.self.now.table.graph.order c.in-Some.step.now) between.stage
           next.next at between.front next.is width has in
@@ -193,15 +205,17 @@ moves-preserved g c =
           (sym c.moves.invariant.continues.order) most in
           let ordered = c.moves.invariant.ready.over.sound.tied.ordered in
           elim own.left [
-            | inl same ↦ subst (λ (n : ℕ). n ≤ width) (sym same) (c.moves.invariant.left width has)
+            | inl same ↦ subst (λ (n : ℕ). n ≤ width) (sym same) (c.moves.invariant.left none width has)
             | inr were ↦ elim were [
               | inl here ↦ few_left c.subfunction_law.ensures c.canonical_law.ensures c.args.formula.now before.graph.order ordered
-                  between.stage next.next between.stage (in_hand_before between.stage next.next) _ here width most_here
+                  between.stage next.next between.stage (λ term stacked. inl stacked) _
+                  (without before.max_nodes c.args.formula.now before.graph.order between.stage _ here (none_here none)) width most_here
               | inr behind ↦
                   few_left c.subfunction_law.ensures c.canonical_law.ensures c.args.formula.now before.graph.order ordered between.stage
                   next.next next.next
                   (in_hand_behind c.args.formula.now between.stage next.next (move_in_order c.args.self.now.table.graph.order
-                  c.in-Some.step.now) next.is) _ behind width most_here
+                  c.in-Some.step.now) next.is) _ (without before.max_nodes c.args.formula.now before.graph.order next.next _ behind
+                  (none_here none)) width most_here
             ]
           ];
       between = record {
@@ -324,10 +338,13 @@ returns-in_err-take_move-clause-short g c is =
     let limit = ap Err (came_from _ c.in_err-take_move.field-0.0 NodeLimit c.from_residual.ensures.1 is) in
     let same = c.moves.invariant.continues.order in
     let own = moved_here g (goal.at.returns-in_err-take_move-clause-short g c).After-take_move _ c.in_err-take_move.ensures.moved in
-    let full = subst (λ (o : List ℕ). (were : WereLeft formula o between.stage c.take_move.new.self.left)
-    × KeepsOrMakes were.graph new (IsGivenPart formula o between.stage next.next)) same (own.full limit) in
+    let most = c.moves.invariant.continues.max_nodes in
+    let full = subst (λ (o : List ℕ). (were : WereLeft (keeps_trail c.args.self.now.table.max_nodes) formula o between.stage
+    c.take_move.new.self.left) × KeepsOrMakes were.graph new (IsGivenPart formula o between.stage next.next)) same (subst (λ (n : ℕ). (were : WereLeft (keeps_trail n) formula c.moves.self.table.graph.order between.stage
+    c.take_move.new.self.left) × KeepsOrMakes were.graph new (IsGivenPart formula c.moves.self.table.graph.order between.stage next.next))
+    most (own.full limit)) in
     let lacks = subst (λ (o : List ℕ). LacksOneOf new (IsGivenPart formula o between.stage next.next)) same (own.lacks limit) in
-    short_at_limit c.subfunction_law.ensures formula order c.requires.ready.over.sound.tied.ordered plan c.moves.i between.stage next.next
+    short_at_limit c.subfunction_law.ensures (keeps_trail c.args.self.now.table.max_nodes) formula order c.requires.ready.over.sound.tied.ordered plan c.moves.i between.stage next.next
     (record {
       step = (move_in_order c.args.self.now.table.graph.order c.in-Some.step.now);
       is = step_at order plan c.moves.i c.in-Some.step.now c.in-Some.ensures.some;
@@ -368,9 +385,15 @@ nodes_so_far g c width has =
     (at_move formula plan c.args.self.now.table.graph.order c.moves.i (move_in_order c.args.self.now.table.graph.order c.in-Some.step.now)
     between.stage next.next at between.front next.is width has)
     in
-    moved_few (live_nodes table.graph) (live_nodes c.take_move.new.self.table.graph) c.moves.self.left width c.moves.invariant.tidy
-    (c.moves.invariant.left width has)
-    ((moved_here g c _ c.take_move.ensures.moved).few width most)
+    let moved = moved_here g c _ c.take_move.ensures.moved in
+    let allowed : keeps_trail table.max_nodes ≡ keeps_trail c.args.self.now.table.max_nodes = ap keeps_trail
+    c.moves.invariant.continues.max_nodes in
+    elim (cases_Bool (keeps_trail table.max_nodes)) [
+      | inl keeps ↦ few_allowed table.max_nodes (live_nodes c.take_move.new.self.table.graph) width keeps
+          (omega (arith, c.take_move.ensures.within, most_left table c.take_move.new.self.table _ moved.leaves))
+      | inr none ↦ moved_few (live_nodes table.graph) (live_nodes c.take_move.new.self.table.graph) c.moves.self.left width
+          c.moves.invariant.tidy (c.moves.invariant.left (sym allowed ∙ none) width has) (moved.few none width most)
+    ]
 
 -- a move that was taken keeps within the price, however it ended
 paid_so_far : (g : Over) (c : After-take_move g) (width price : ℕ)
@@ -428,7 +451,13 @@ paid_at_last g c width price has is =
     c.moves.invariant.settled c.moves.invariant.own c.moves.invariant.between in
     let all = within_all c.moves.i (length c.args.plan.now) price first.book.state.top mid.book.state.top c.moves.invariant.few
     (c.moves.invariant.price width price has is) in
-    let few = tidy_few (live_nodes mid.graph) c.moves.self.left width c.moves.invariant.tidy (c.moves.invariant.left width has) in
+    let few : live_nodes mid.graph ≤ most_nodes width = elim (cases_Bool (keeps_trail first.max_nodes)) [
+      | inl keeps ↦ few_allowed first.max_nodes (live_nodes mid.graph) width keeps
+          (omega (arith, c.table_law.ensures.few_nodes, c.moves.invariant.continues.max_nodes))
+      | inr none ↦
+          let tidy = tidy_few (live_nodes mid.graph) c.moves.self.left width c.moves.invariant.tidy (c.moves.invariant.left none width has) in
+          omega (arith, tidy)
+    ] in
     paid_behind c.lean_law.ensures.lean c.in_use_law.ensures first mid mid c.moves.invariant.continues first.book.state.top c.args.capacity
     (2 * c.args.capacity + length (reverse c.moves.self.out.items)) (length c.args.plan.now) width price
     added.0 (omega (arith, added.1, c.requires.ready.over.counted)) (omega (arith, all)) (omega arith)

@@ -1,5 +1,5 @@
 -- What the loops of `take_moves` keep.
-use Rattle.std.proofs.Common.{◌≡◌, ℕ, ◌+◌, ◌*◌, ◌≤◌, [], length, reverse}
+use Rattle.std.proofs.Common.{◌≡◌, ℕ, ◌+◌, ◌*◌, ◌≤◌, false, [], length, reverse}
 use Rattle.node_table.specs.Diagram.{levels}
 use Rattle.node_table.specs.Progress.{Continues}
 use Rattle.node_table.specs.Table.{AddsNoEmpty, live_nodes}
@@ -8,16 +8,17 @@ use Rattle.term_runner.specs.Caches.{HaveSize, all_entries}
 use Rattle.term_runner.specs.Held.{IsReady, HasUnits}
 use Rattle.term_runner.specs.Price.{IsMovePrice}
 use Rattle.term_runner.specs.Tidy.{IsTidy}
-use Rattle.term_runner.specs.Width.{HasWidth}
+use Rattle.term_runner.specs.Width.{HasWidth, keeps_trail}
 use Rattle.term_runner.proofs.Between.{IsBetween}
 use Rattle.term_runner.proofs.terms.Terms.take_moves.Given as goal
 
 abbrev pub invariant-moves : goal.invariant-moves
 invariant-moves g l = record {
   few : l.i ≤ length l.plan;
-  counted : l.progress.moves ≡ l.i;
+  counted : l.watch.moves ≡ l.i;
   tidy : IsTidy (live_nodes l.self.table.graph) l.self.left;
-  left : (width : ℕ) → HasWidth l.formula l.fn.self.table.graph.order l.plan width → l.self.left ≤ width;
+  left : keeps_trail l.fn.self.table.max_nodes ≡ false → (width : ℕ) → HasWidth l.formula l.fn.self.table.graph.order l.plan width
+      → l.self.left ≤ width;
   price : (width price : ℕ) → HasWidth l.formula l.fn.self.table.graph.order l.plan width
       → IsMovePrice (levels l.fn.self.table.graph) l.capacity width price → l.self.table.book.state.top ≤ l.fn.self.table.book.state.top +
       l.i * price;

@@ -1,14 +1,20 @@
 -- A move that was refused is tried once more over the nodes that its terms reach.
-use Rattle.std.proofs.Common.{◌∙◌, Err, refl, ap, sym, subst}
+use Rattle.std.proofs.Common.{◌≡◌, ◌∙◌, ◌≤◌, ℕ, false, Err, refl, ap, sym, subst, arith}
+use Rattle.std.proofs.lemmas.Bool.{ltb-false}
 use Rattle.node_table.specs.declared.error.TableError.{TableError}
 use Rattle.node_table.specs.HandedOn.{handed_on, no_error, same_error}
 use Rattle.node_table.specs.Refused.{no_nodes_left}
 use Rattle.term_runner.specs.Moves.{Tried}
+use Rattle.term_runner.specs.Width.{keeps_trail}
 use Rattle.schedule_plan.specs.SetMove.{move_in_order}
 use Rattle.term_runner.proofs.Between.{leads_here}
 use Rattle.term_runner.proofs.Tried.{moved_again, moved_at_once, moved_refused}
 use Rattle.term_runner.proofs.Units.{not_both}
 use Rattle.term_runner.proofs.terms.Terms.try_twice.Goals as goal
+
+-- where the trail's terms don't stand among the nodes, a thousand are allowed, and so many there are at the limit
+many_nodes : (most live : ℕ) → keeps_trail most ≡ false → most ≤ live → 1000 ≤ live
+many_nodes most live none all = omega (arith, ltb-false most 1000 none, all)
 
 pub give_back-requires-clause-ready : goal.give_back-requires-clause-ready
 give_back-requires-clause-ready g c =
@@ -85,6 +91,7 @@ returns-in_ok-self-in-Err g c stage next at leads =
     c.args.self.now c.try_move.new.self (record c.give_back.new.self { left = c.in_ok-self-in-Err.field-0 }) first c.give_back.ensures.top
     c.give_back.ensures.sizes
     c.subfunction_law.ensures c.requires.ready.over.sound.tied.ordered back.leaves at_mid back.reached back.count
-    c.try_move-in-Err.new.self _
+    (λ none. back.alone (many_nodes c.args.self.now.table.max_nodes _ none
+    (omega (arith, first.leaves.1, first.leaves.0.max_nodes)))) c.try_move-in-Err.new.self _
     (c.try_move-in-Err.ensures.tried stage next at_mid (leads_here c.args.formula.now _ _ stage next c.args.step.now
     (sym (back.leaves.order ∙ first.leaves.0.order)) leads)) c.try_move-in-Err.ensures.settled
