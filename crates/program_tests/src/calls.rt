@@ -53,7 +53,7 @@ const CALLS: &str = "\
     0 9 4 0/11 0 5 8 10 0/|\n\
     Made 8;bddsat order chain --by levels --out out.lrat;WriteFault|*|error: write failed/;|1 2 3/;Done||1 2 3/|\n\
     Err 17;bddsat solve a --proof a;Usage||none*;|error: bad usage/;Usage||none|error: bad usage/\n\
-    Out 1327;bddsat solve --help;WriteFault*|none|error: write failed/;|Decide FILE and write the proof ..;\
+    Out 1385;bddsat solve --help;WriteFault*|none|error: write failed/;|Decide FILE and write the proof ..;\
     Help|Decide FILE and write the proof ";
 
 // What was written stands, and nothing else but the fault is told. No file is there where its creation failed.
