@@ -65,26 +65,26 @@ check conflict.cnf conflict.drat --format drat --any-order --progress
 check clause.cnf bad.drat --format drat
 ask chain.cnf --cubes cubes --proof out
 ask chain.cnf --cubes cubes --proof out --order order --cache 1
-ask both.cnf --cubes cubes --proof out
+ask both.cnf --cubes cubes --proof out --progress
 ask lax.cnf --cubes bad.cubes --proof out --lax
 ask chain.cnf --cubes cubes --proof out --max-nodes 2
 ask chain.cnf --cubes cubes --proof out --max-ids 20
 lrat conflict.cnf conflict.drat --out out
-lrat conflict.cnf conflict.drat --any-order --out out
+lrat conflict.cnf conflict.drat --any-order --out out --progress
 lrat clause.cnf bad.drat --out out
 lrat sums.cnf conflict.drat --out out
 lrat lax.cnf conflict.drat --lax --out out
 drat both.cnf both.lrat --out out
-drat clause.cnf clause.lrat --out out --fresh
+drat clause.cnf clause.lrat --out out --fresh --progress
 drat both.cnf bad.lrat --out out
 drat lax.cnf both.lrat --lax --out out --fresh
 trim both.cnf both.lrat --out out
-trim both.cnf both.lrat --core core --out out
+trim both.cnf both.lrat --core core --out out --progress
 trim lax.cnf both.lrat --lax --out out
 trim both.cnf bad.lrat --out out --core core
 order chain.cnf --by degree --out out
 order sums.cnf --by cardinality --out out
-order sums.cnf --by levels --out out
+order sums.cnf --by levels --out out --progress
 order lax.cnf --by profile --out out --lax
 order bad.cnf --by profile --out out
 bench board 3 --proof out

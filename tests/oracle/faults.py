@@ -13,6 +13,8 @@ import lrat
 from commands import ERRORS, FILES, PIPE, UNREAD, Left
 
 GROWTH = "1 0\n"
+# How much was counted by the end of a run depends on how much was read at once: any such line stands for each.
+NOTE = b"c line 1\n"
 LONG = "x" * 300
 
 
@@ -56,9 +58,16 @@ class Command:
         if code == 3 and self.words[0] in ("drat", "lrat") and begun:
             files = self.converted(calls[:at], left)
         err = self.plain.err[: moved["<err>"]] + ERRORS.get(code, b"")
-        if code == 3 and self.words[0] == "check" and "--progress" in self.words and calls[at][:2] == ("read", self.inputs[1]):
-            err = b"c line 1\n" + err  # of the lines so far
+        if code > 0 and not moved["<err>"] and "--progress" in self.words and self.counted() in [it[:2] for it in calls[:at]]:
+            err = NOTE + err  # of the lines, or of the cubes, so far
         return Left(code, self.plain.out[: moved["<out>"]], err, files)
+
+    def counted(self):
+        """The call that opens or creates what is counted, where a command tells that at its end however it ends."""
+        place = {"check": 1, "drat": 1, "lrat": 1, "trim": 1, "order": 0}.get(self.words[0])
+        if place is not None and place < len(self.inputs):
+            return "open", self.inputs[place]
+        return ("create", "out") if self.words[0] == "ask" else None
 
     def converted(self, calls, left):
         """The file of a conversion that has read so much of its proof: the lines so far. The last one may not be known to be ended."""
@@ -214,7 +223,7 @@ def is_cut_off(command, left):
     outs = left.out == plain.out if is_whole else plain.out.startswith(left.out) if left.code == 4 else not left.out
     outs = outs or "--search" in words and left.code == 10 and satisfies(command, left.out)
     notes = left.err.removesuffix(ERRORS.get(left.code, b""))
-    line = "--search" in words and rb"(c .*\n)*" or words[0] == "check" and rb"(c line [0-9]+\n)?"
+    line = rb"(c .*\n)*" if "--search" in words else rb"(c (line|cube) .*\n)?"
     errs = plain.err.startswith(notes) or "--progress" in words and line and re.fullmatch(line, notes)
     files = not is_whole or plain.files.keys() == left.files.keys()
     return outs and errs and files and all(is_front(command, name, text, is_whole) for name, text in left.files.items())

@@ -67,7 +67,7 @@ class Proof:
         first = next((at for at, hint in enumerate(hints) if hint < 0), len(hints))
         false = set(clause)
         if not self.conflicts(false, hints[:first]):
-            if not clause:
+            if not clause or self.strict and first > 0:
                 raise Bad("no conflict")
             self.resolvents(clause[0], false, hints[first:])
         elif self.strict and first < len(hints):
@@ -79,8 +79,8 @@ class Proof:
         """Each live clause with the negated pivot must be blocked, or have a group of hints that reach a conflict."""
         starts = [at for at, hint in enumerate(hints) if hint < 0] + [len(hints)]
         groups = [(-hints[start], hints[start + 1 : end]) for start, end in zip(starts, starts[1:])]
-        if self.strict and (starts[0] > 0 or [it for it, _ in groups] != sorted(self.holders[-pivot])):
-            raise Bad(f"groups {groups} behind hints or other than the candidates")
+        if self.strict and [it for it, _ in groups] != sorted(self.holders[-pivot]):
+            raise Bad(f"groups {groups} other than the candidates")
         is_blocked = {it: any(-literal in false for literal in self.live[it] if literal != -pivot) for it in self.holders[-pivot]}
         for candidate, own in groups:
             if candidate not in is_blocked:

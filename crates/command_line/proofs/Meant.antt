@@ -167,20 +167,20 @@ four_alone file other order cubes =
       differ [] = refl
       differ (file ∷ files) = λ i. not (sym (among_none file files) i) && differ files i
 
-pub rewrite_values : (values : ArgMatches) (file proof out further lax : Option Text)
+pub rewrite_values : (values : ArgMatches) (file proof out further lax : Option Text) (progress : Bool)
     → file ≡ first_value (found_of values) (codes "FILE") → proof ≡ first_value (found_of values) (codes "PROOF") → out
     ≡ first_value (found_of values) (codes "out")
-    → lax ≡ first_value (found_of values) (codes "lax")
+    → lax ≡ first_value (found_of values) (codes "lax") → progress ≡ progress_among (rows_of (found_of values))
     → rewrite_among further (rows_of (found_of values))
-    ≡ to_rewrite (two_names file proof (out ∷ further ∷ None ∷ [])) out (mode_given lax)
-rewrite_values values file proof out further lax file_is proof_is out_is lax_is =
+    ≡ to_rewrite (two_names file proof (out ∷ further ∷ None ∷ [])) out (mode_given lax) progress
+rewrite_values values file proof out further lax progress file_is proof_is out_is lax_is progress_is =
     let read : rewrite_among further (rows_of (found_of values))
-    ≡ to_rewrite (two_names file proof (out ∷ further ∷ [])) out (mode_given lax) = λ i.
+    ≡ to_rewrite (two_names file proof (out ∷ further ∷ [])) out (mode_given lax) progress = λ i.
     to_rewrite (two_names (of_row values (codes "FILE") file file_is i) (of_row values (codes "PROOF") proof proof_is i)
     (of_row values (codes "out") out out_is i ∷ further ∷ []))
     (of_row values (codes "out") out out_is i)
-    (mode_given (of_row values (codes "lax") lax lax_is i)) in
-    read ∙ ap (λ (names : Option (Text × Text)). to_rewrite names out (mode_given lax)) (four_alone file proof out further)
+    (mode_given (of_row values (codes "lax") lax lax_is i)) (sym progress_is i) in
+    read ∙ ap (λ (names : Option (Text × Text)). to_rewrite names out (mode_given lax) progress) (four_alone file proof out further)
 
 pub trim_values : (values : ArgMatches) (core : Option Text) → core ≡ first_value (found_of values) (codes "core")
     → trim_means (rows_of (found_of values)) ≡ to_trim (rewrite_among core (rows_of (found_of values))) core
@@ -188,32 +188,36 @@ trim_values values core core_is = λ i.
     to_trim (rewrite_among (of_row values (codes "core") core core_is i) (rows_of (found_of values)))
     (of_row values (codes "core") core core_is i)
 
-pub order_values : (values : ArgMatches) (file out method lax : Option Text)
+pub order_values : (values : ArgMatches) (file out method lax : Option Text) (progress : Bool)
     → file ≡ first_value (found_of values) (codes "FILE") → out ≡ first_value (found_of values) (codes "out") → method
     ≡ first_value (found_of values) (codes "by")
-    → lax ≡ first_value (found_of values) (codes "lax")
+    → lax ≡ first_value (found_of values) (codes "lax") → progress ≡ progress_among (rows_of (found_of values))
     → order_means (rows_of (found_of values)) ≡ to_order (two_names file out (None ∷ None ∷ None ∷ []))
-    (option_and_then method_named method) (mode_given lax)
-order_values values file out method lax file_is out_is method_is lax_is =
+    (option_and_then method_named method) (mode_given lax) progress
+order_values values file out method lax progress file_is out_is method_is lax_is progress_is =
     let found = option_and_then method_named method in
-    let read : order_means (rows_of (found_of values)) ≡ to_order (two_names file out []) found (mode_given lax) = λ i.
+    let read : order_means (rows_of (found_of values)) ≡ to_order (two_names file out []) found (mode_given lax) progress = λ i.
     to_order (two_names (of_row values (codes "FILE") file file_is i) (of_row values (codes "out") out out_is i) [])
     (option_and_then method_named (of_row values (codes "by") method method_is i))
-    (mode_given (of_row values (codes "lax") lax lax_is i)) in
-    read ∙ ap (λ (names : Option (Text × Text)). to_order names found (mode_given lax)) (two_alone file out)
+    (mode_given (of_row values (codes "lax") lax lax_is i)) (sym progress_is i) in
+    read ∙ ap (λ (names : Option (Text × Text)). to_order names found (mode_given lax) progress) (two_alone file out)
 
-pub ask_values : (values : ArgMatches) (file proof order cubes lax : Option Text) (limits : Option Limits)
+pub ask_values : (values : ArgMatches) (file proof order cubes lax : Option Text) (limits : Option Limits) (progress : Bool)
     → file ≡ first_value (found_of values) (codes "FILE") → proof ≡ first_value (found_of values) (codes "proof") → order
     ≡ first_value (found_of values) (codes "order") → cubes ≡ first_value (found_of values) (codes "cubes")
     → lax ≡ first_value (found_of values) (codes "lax") → limits ≡ limits_among (rows_of (found_of values))
-    → ask_means (rows_of (found_of values)) ≡ to_ask (two_names file proof (order ∷ cubes ∷ None ∷ [])) cubes (mode_given lax) order limits
-ask_values values file proof order cubes lax limits file_is proof_is order_is cubes_is lax_is limits_are =
-    let read : ask_means (rows_of (found_of values)) ≡ to_ask (two_names file proof (order ∷ cubes ∷ [])) cubes (mode_given lax) order limits
-    = λ i. to_ask (two_names (of_row values (codes "FILE") file file_is i) (of_row values (codes "proof") proof proof_is i)
+    → progress ≡ progress_among (rows_of (found_of values))
+    → ask_means (rows_of (found_of values))
+    ≡ to_ask (two_names file proof (order ∷ cubes ∷ None ∷ [])) cubes (mode_given lax) order limits progress
+ask_values values file proof order cubes lax limits progress file_is proof_is order_is cubes_is lax_is limits_are progress_is =
+    let read : ask_means (rows_of (found_of values))
+    ≡ to_ask (two_names file proof (order ∷ cubes ∷ [])) cubes (mode_given lax) order limits progress = λ i.
+    to_ask (two_names (of_row values (codes "FILE") file file_is i) (of_row values (codes "proof") proof proof_is i)
     (of_row values (codes "order") order order_is i ∷ of_row values (codes "cubes") cubes cubes_is i ∷ []))
     (of_row values (codes "cubes") cubes cubes_is i) (mode_given (of_row values (codes "lax") lax lax_is i))
-    (of_row values (codes "order") order order_is i) (sym limits_are i) in
-    read ∙ ap (λ (names : Option (Text × Text)). to_ask names cubes (mode_given lax) order limits) (four_alone file proof order cubes)
+    (of_row values (codes "order") order order_is i) (sym limits_are i) (sym progress_is i) in
+    read ∙ ap (λ (names : Option (Text × Text)). to_ask names cubes (mode_given lax) order limits progress)
+    (four_alone file proof order cubes)
 
 pub bench_values : (values : ArgMatches) (size : Option ℕ) (proof : Option Text) (limits : Option Limits) (progress : Bool)
     → size ≡ size_among (rows_of (found_of values)) → proof ≡ first_value (found_of values) (codes "proof") → limits

@@ -54,12 +54,14 @@ pub record ToCheck : Type 0 where
   pub mode : Mode
   pub progress : Bool
 
--- to judge the proof in a file over the formula in another one, read in a mode, and to write what it becomes to a third one
+-- to judge the proof in a file over the formula in another one, read in a mode, and to write what it becomes to a third one, and maybe to
+-- tell of the progress
 pub record ToRewrite : Type 0 where
   pub file : Text
   pub proof : Text
   pub mode : Mode
   pub out : Text
+  pub progress : Bool
 
 -- so for a trimmed proof, and to write its core to a further file, if one is named
 pub record ToTrim : Type 0 where
@@ -68,6 +70,7 @@ pub record ToTrim : Type 0 where
   pub mode : Mode
   pub out : Text
   pub core : Option Text
+  pub progress : Bool
 
 -- so for a proof in the other format, LRAT or DRAT
 pub record ToConvert : Type 0 where
@@ -76,16 +79,19 @@ pub record ToConvert : Type 0 where
   pub mode : Mode
   pub out : Text
   pub into : Conversion
+  pub progress : Bool
 
--- to write an order of the variables of the formula in a file, read in a mode, found by a method, to another file
+-- to write an order of the variables of the formula in a file, read in a mode, found by a method, to another file, and maybe to tell of the
+-- progress
 pub record ToOrder : Type 0 where
   pub file : Text
   pub method : OrderMethod
   pub mode : Mode
   pub out : Text
+  pub progress : Bool
 
 -- to answer the cubes in a file over the formula in another one, read in a mode, within limits, and to write the proof to a third one; the
--- order of its variables stands in the file of that name, if one is named
+-- order of its variables stands in the file of that name, if one is named; and maybe to tell of the progress
 pub record ToAsk : Type 0 where
   pub file : Text
   pub cubes : Text
@@ -93,6 +99,7 @@ pub record ToAsk : Type 0 where
   pub mode : Mode
   pub order : Option Text
   pub limits : Limits
+  pub progress : Bool
 
 -- to decide the board of so many squares a side by its column order and schedule, within limits, and to write the proof to a file; and
 -- maybe to tell of the progress
@@ -177,10 +184,10 @@ is_told (Solve task) = task.progress
 is_told (Check task) = task.progress
 is_told (Bench task) = task.progress
 is_told (Make task) = false
-is_told (Arrange task) = false
-is_told (Ask task) = false
-is_told (Convert task) = false
-is_told (Trim task) = false
+is_told (Arrange task) = task.progress
+is_told (Ask task) = task.progress
+is_told (Convert task) = task.progress
+is_told (Trim task) = task.progress
 
 -- a command is to add up the formula's parity equations first
 abbrev pub adds_equations : Command → Bool
@@ -344,27 +351,30 @@ to_check (Some names) (Some format) mode progress =
     Asks (Check (record { file = names.0; proof = names.1; format = format; mode = mode; progress = progress }))
 to_check _ _ _ _ = Misuse
 
--- two files, one to write a proof to, and a mode
-abbrev pub to_rewrite : Option (Text × Text) → Option Text → Mode → Option ToRewrite
-to_rewrite (Some names) (Some out) mode = Some (record { file = names.0; proof = names.1; mode = mode; out = out })
-to_rewrite _ _ _ = None
+-- two files, one to write a proof to, a mode, and whether progress is told
+abbrev pub to_rewrite : Option (Text × Text) → Option Text → Mode → Bool → Option ToRewrite
+to_rewrite (Some names) (Some out) mode progress =
+    Some (record { file = names.0; proof = names.1; mode = mode; out = out; progress = progress })
+to_rewrite _ _ _ _ = None
 
--- a formula's file and an order's, a method, and a mode
-abbrev pub to_order : Option (Text × Text) → Option OrderMethod → Mode → Meaning
-to_order (Some names) (Some method) mode = Asks (Arrange (record { file = names.0; method = method; mode = mode; out = names.1 }))
-to_order _ _ _ = Misuse
+-- a formula's file and an order's, a method, a mode, and whether progress is told
+abbrev pub to_order : Option (Text × Text) → Option OrderMethod → Mode → Bool → Meaning
+to_order (Some names) (Some method) mode progress =
+    Asks (Arrange (record { file = names.0; method = method; mode = mode; out = names.1; progress = progress }))
+to_order _ _ _ _ = Misuse
 
--- a formula's file and a proof's, one of cubes, a mode, an order, and limits to answer the cubes within
-abbrev pub to_ask : Option (Text × Text) → Option Text → Mode → Option Text → Option Limits → Meaning
-to_ask (Some names) (Some cubes) mode order (Some limits) = Asks (Ask (record {
+-- a formula's file and a proof's, one of cubes, a mode, an order, limits to answer the cubes within, and whether progress is told
+abbrev pub to_ask : Option (Text × Text) → Option Text → Mode → Option Text → Option Limits → Bool → Meaning
+to_ask (Some names) (Some cubes) mode order (Some limits) progress = Asks (Ask (record {
   file = names.0;
   cubes = cubes;
   proof = names.1;
   mode = mode;
   order = order;
   limits = limits;
+  progress = progress;
 }))
-to_ask _ _ _ _ _ = Misuse
+to_ask _ _ _ _ _ _ = Misuse
 
 -- a size, a proof's file, limits to decide the board of that size within, and whether progress is told
 abbrev pub to_bench : Option ℕ → Option Text → Option Limits → Bool → Meaning
@@ -421,13 +431,20 @@ check_means rows = to_check (two_names (first_of (codes "FILE") rows) (first_of 
 abbrev pub rewrite_among : Option Text → List Row → Option ToRewrite
 rewrite_among further rows =
     to_rewrite (two_names (first_of (codes "FILE") rows) (first_of (codes "PROOF") rows) (first_of (codes "out") rows ∷ further ∷ []))
-    (first_of (codes "out") rows) (mode_given (first_of (codes "lax") rows))
+    (first_of (codes "out") rows) (mode_given (first_of (codes "lax") rows)) (progress_among rows)
 
 -- a proof to be written in the other format
 abbrev pub to_convert : Option ToRewrite → Conversion → Meaning
 to_convert None into = Misuse
 to_convert (Some task) into =
-    Asks (Convert (record { file = task.file; proof = task.proof; mode = task.mode; out = task.out; into = into }))
+    Asks (Convert (record {
+      file = task.file;
+      proof = task.proof;
+      mode = task.mode;
+      out = task.out;
+      into = into;
+      progress = task.progress;
+    }))
 
 abbrev pub drat_means : List Row → Meaning
 drat_means rows = to_convert (rewrite_among None rows) (IntoDrat (fresh_among rows))
@@ -439,7 +456,14 @@ lrat_means rows = to_convert (rewrite_among None rows) (IntoLrat (any_order_amon
 abbrev pub to_trim : Option ToRewrite → Option Text → Meaning
 to_trim None core = Misuse
 to_trim (Some task) core =
-    Asks (Trim (record { file = task.file; proof = task.proof; mode = task.mode; out = task.out; core = core }))
+    Asks (Trim (record {
+      file = task.file;
+      proof = task.proof;
+      mode = task.mode;
+      out = task.out;
+      core = core;
+      progress = task.progress;
+    }))
 
 abbrev pub trim_means : List Row → Meaning
 trim_means rows = to_trim (rewrite_among (first_of (codes "core") rows) rows) (first_of (codes "core") rows)
@@ -447,13 +471,13 @@ trim_means rows = to_trim (rewrite_among (first_of (codes "core") rows) rows) (f
 abbrev pub order_means : List Row → Meaning
 order_means rows =
     to_order (two_names (first_of (codes "FILE") rows) (first_of (codes "out") rows) [])
-    (option_and_then method_named (first_of (codes "by") rows)) (mode_given (first_of (codes "lax") rows))
+    (option_and_then method_named (first_of (codes "by") rows)) (mode_given (first_of (codes "lax") rows)) (progress_among rows)
 
 abbrev pub ask_means : List Row → Meaning
 ask_means rows =
     to_ask (two_names (first_of (codes "FILE") rows) (first_of (codes "proof") rows)
     (first_of (codes "order") rows ∷ first_of (codes "cubes") rows ∷ [])) (first_of (codes "cubes") rows)
-    (mode_given (first_of (codes "lax") rows)) (first_of (codes "order") rows) (limits_among rows)
+    (mode_given (first_of (codes "lax") rows)) (first_of (codes "order") rows) (limits_among rows) (progress_among rows)
 
 -- the size of a board that is among these values
 abbrev pub size_among : List Row → Option ℕ

@@ -76,31 +76,32 @@ check_app = with_rules (new_app (codes "check"))
 abbrev pub fresh_rule : Rule
 fresh_rule = flag_rule (codes "fresh")
 
--- `drat FILE PROOF --out P [--lax]`, behind which `[--fresh] [--explain]` stands; so `lrat`, behind which `[--any-order] [--explain]` does,
--- and `trim`, behind which `[--core C] [--explain]` does
+-- `drat FILE PROOF --out P [--lax]`, behind which `[--fresh] [--progress] [--explain]` stands; so `lrat`, behind which
+-- `[--any-order] [--progress] [--explain]` does, and `trim`, behind which `[--core C] [--progress] [--explain]` does
 abbrev pub rewrite_app : Text → App
 rewrite_app name = with_rules (new_app name) (file_rule ∷ proof_file_rule ∷ needed_rule (codes "out") ∷ lax_rule ∷ [])
 
 abbrev pub drat_app : App
-drat_app = with_rules (rewrite_app (codes "drat")) (fresh_rule ∷ explain_rule ∷ [])
+drat_app = with_rules (rewrite_app (codes "drat")) (fresh_rule ∷ progress_rule ∷ explain_rule ∷ [])
 
 abbrev pub lrat_app : App
-lrat_app = with_rules (rewrite_app (codes "lrat")) (any_order_rule ∷ explain_rule ∷ [])
+lrat_app = with_rules (rewrite_app (codes "lrat")) (any_order_rule ∷ progress_rule ∷ explain_rule ∷ [])
 
 abbrev pub trim_app : App
-trim_app = with_rules (rewrite_app (codes "trim")) (option_rule (codes "core") ∷ explain_rule ∷ [])
+trim_app = with_rules (rewrite_app (codes "trim")) (option_rule (codes "core") ∷ progress_rule ∷ explain_rule ∷ [])
 
--- `order FILE --by METHOD --out F [--lax] [--explain]`
+-- `order FILE --by METHOD --out F [--lax] [--progress] [--explain]`
 abbrev pub order_app : App
 order_app =
     with_rules (new_app (codes "order"))
-    (file_rule ∷ needed_rule (codes "by") ∷ needed_rule (codes "out") ∷ lax_rule ∷ explain_rule ∷ [])
+    (file_rule ∷ needed_rule (codes "by") ∷ needed_rule (codes "out") ∷ lax_rule ∷ progress_rule ∷ explain_rule ∷ [])
 
--- `ask FILE --cubes Q --proof P [--order F] [--lax]`, and then the options of limits, and `[--explain]`
+-- `ask FILE --cubes Q --proof P [--order F] [--lax]`, and then the options of limits, and `[--progress] [--explain]`
 abbrev pub ask_app : App
 ask_app =
-    with_rule (with_rules (with_rules (new_app (codes "ask"))
-    (file_rule ∷ needed_rule (codes "cubes") ∷ proof_rule ∷ option_rule (codes "order") ∷ lax_rule ∷ [])) limit_rules) explain_rule
+    with_rules (with_rules (with_rules (new_app (codes "ask"))
+    (file_rule ∷ needed_rule (codes "cubes") ∷ proof_rule ∷ option_rule (codes "order") ∷ lax_rule ∷ [])) limit_rules)
+    (progress_rule ∷ explain_rule ∷ [])
 
 -- a word that must be there, without an option in front of it; help shows it by another name
 abbrev pub word_rule : Text → Rule

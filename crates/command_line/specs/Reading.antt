@@ -31,7 +31,13 @@ planned_of source.Search = Found
 
 -- what is to be rewritten
 abbrev pub rewrite_of : RewriteTask → ToRewrite
-rewrite_of task = record { file = task.files.formula.now; proof = task.files.proof.now; mode = task.mode; out = task.out.now }
+rewrite_of task = record {
+  file = task.files.formula.now;
+  proof = task.files.proof.now;
+  mode = task.mode;
+  out = task.out.now;
+  progress = task.progress;
+}
 
 -- a proof that is to be written in the other format
 abbrev pub convert_of : ConvertTask → ToConvert
@@ -41,6 +47,7 @@ convert_of task = record {
   mode = task.mode;
   out = task.out.now;
   into = task.into;
+  progress = task.progress;
 }
 
 -- a proof that is to be trimmed
@@ -51,6 +58,7 @@ trim_of task = record {
   mode = task.mode;
   out = task.out.now;
   core = text_of task.core;
+  progress = task.progress;
 }
 
 -- the command with its values
@@ -78,7 +86,13 @@ command_of (asked.Bench task) =
     Bench (record { size = task.size; proof = task.proof.now; limits = task.limits; progress = task.progress })
 command_of (asked.Make task) = Make (record { size = task.size; part = task.part; file = task.file.now })
 command_of (asked.Order task) =
-    Arrange (record { file = task.formula.now; method = task.method; mode = task.mode; out = task.out.now })
+    Arrange (record {
+      file = task.formula.now;
+      method = task.method;
+      mode = task.mode;
+      out = task.out.now;
+      progress = task.progress;
+    })
 command_of (asked.Ask task) =
     Ask (record {
       file = task.files.formula.now;
@@ -87,6 +101,7 @@ command_of (asked.Ask task) =
       mode = task.mode;
       order = text_of task.order;
       limits = task.limits;
+      progress = task.progress;
     })
 command_of (asked.Convert task) = Convert (convert_of task)
 command_of (asked.Trim task) = Trim (trim_of task)

@@ -5,7 +5,7 @@ ghost use Rattle.command_line.specs.Command.{Asks, Misuse, ask_means};
 ghost use Rattle.command_line.specs.Reading.{IsWithin, command_of};
 
 use crate::limits::limits_among;
-use crate::mode::mode_given;
+use crate::mode::{flag_among, mode_given};
 use crate::names::{FileNames, two_names};
 use crate::words::Asked;
 use clap::ArgMatches;
@@ -23,6 +23,8 @@ pub struct AskTask<'a> {
     /// The file of the variables' order, if one is named.
     pub order: Option<&'a str>,
     pub limits: Limits,
+    /// Whether progress is told.
+    pub progress: bool,
 }
 
 pub fn ask_asked<'a>(values: &ArgMatches<'a>) -> Option<Asked<'a>>
@@ -38,6 +40,7 @@ pub fn ask_asked<'a>(values: &ArgMatches<'a>) -> Option<Asked<'a>>
     let cubes = cubes?;
     let mode = mode_given(values.get_str("lax"));
     let limits = limits_among(values)?;
+    let progress = flag_among(values, "progress");
     let files = FileNames { formula, proof };
     Some(Asked::Ask(AskTask {
         files,
@@ -45,5 +48,6 @@ pub fn ask_asked<'a>(values: &ArgMatches<'a>) -> Option<Asked<'a>>
         mode,
         order,
         limits,
+        progress,
     }))
 }

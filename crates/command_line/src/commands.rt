@@ -45,48 +45,57 @@ const DRAT: Subcommand<'static> = Subcommand {
     name: "drat",
     texts: Texts {
         about: "Check PROOF, an LRAT proof, and write it in DRAT to P",
-        usage: "bddsat drat FILE PROOF --out P [--lax] [--fresh] [--explain]",
+        usage: "\
+bddsat drat FILE PROOF --out P [--lax] [--fresh] [--progress]
+                   [--explain]",
         after: "\
 Example:
   bddsat drat formula.cnf formula.lrat --out formula.drat",
     },
-    arguments: &[FILE, LRAT_PROOF, DRAT_OUT, LAX, FRESH, EXPLAIN],
+    arguments: &[FILE, LRAT_PROOF, DRAT_OUT, LAX, FRESH, PROGRESS, EXPLAIN],
 };
 
 const LRAT: Subcommand<'static> = Subcommand {
     name: "lrat",
     texts: Texts {
         about: "Check PROOF, a DRAT proof, and write it in LRAT to P",
-        usage: "bddsat lrat FILE PROOF --out P [--lax] [--any-order] [--explain]",
+        usage: "\
+bddsat lrat FILE PROOF --out P [--lax] [--any-order] [--progress]
+                   [--explain]",
         after: "\
 Example:
   bddsat lrat formula.cnf formula.drat --any-order --out formula.lrat",
     },
-    arguments: &[FILE, DRAT_PROOF, LRAT_OUT, LAX, ANY_ORDER, EXPLAIN],
+    arguments: &[
+        FILE, DRAT_PROOF, LRAT_OUT, LAX, ANY_ORDER, PROGRESS, EXPLAIN,
+    ],
 };
 
 const TRIM: Subcommand<'static> = Subcommand {
     name: "trim",
     texts: Texts {
         about: "Check PROOF, an LRAT proof, and write what it needs to P",
-        usage: "bddsat trim FILE PROOF --out P [--lax] [--core C] [--explain]",
+        usage: "\
+bddsat trim FILE PROOF --out P [--lax] [--core C] [--progress]
+                   [--explain]",
         after: "\
 Example:
   bddsat trim formula.cnf formula.lrat --out trimmed.lrat",
     },
-    arguments: &[FILE, LRAT_PROOF, TRIMMED_OUT, LAX, CORE, EXPLAIN],
+    arguments: &[FILE, LRAT_PROOF, TRIMMED_OUT, LAX, CORE, PROGRESS, EXPLAIN],
 };
 
 const ARRANGE: Subcommand<'static> = Subcommand {
     name: "order",
     texts: Texts {
         about: "Write an order of FILE's variables, found by METHOD, to F",
-        usage: "bddsat order FILE --by METHOD --out F [--lax] [--explain]",
+        usage: "\
+bddsat order FILE --by METHOD --out F [--lax] [--progress] [--explain]",
         after: "\
 Example:
   bddsat order formula.cnf --by degree --out formula.order",
     },
-    arguments: &[FILE, METHOD, ORDER_OUT, LAX, EXPLAIN],
+    arguments: &[FILE, METHOD, ORDER_OUT, LAX, PROGRESS, EXPLAIN],
 };
 
 const ASK: Subcommand<'static> = Subcommand {
@@ -95,13 +104,14 @@ const ASK: Subcommand<'static> = Subcommand {
         about: "Answer the cubes in Q over FILE and write one proof to P",
         usage: "\
 bddsat ask FILE --cubes Q --proof P [--lax] [--order F]
-                  [--max-nodes N] [--max-ids N] [--cache N] [--explain]",
+                  [--max-nodes N] [--max-ids N] [--cache N]
+                  [--progress] [--explain]",
         after: "\
 Example:
   bddsat ask formula.cnf --cubes questions.cubes --proof formula.lrat",
     },
     arguments: &[
-        FILE, CUBES, PROOF, ORDER, LAX, MAX_NODES, MAX_IDS, CACHE, EXPLAIN,
+        FILE, CUBES, PROOF, ORDER, LAX, MAX_NODES, MAX_IDS, CACHE, PROGRESS, EXPLAIN,
     ],
 };
 

@@ -16,6 +16,8 @@ use std::alloc::Global;
 pub enum Misuse<'a> {
     /// What the parser says.
     Parsed(String),
+    /// This flag of a command stands in front of it.
+    InFront(&'a str),
     /// No command is among the words.
     NoCommand,
     /// Two files have this name.
@@ -56,7 +58,23 @@ const VALUES: [(&str, &str, &str); 9] = [
 pub fn misuse_of(alloc: Global, words: &[String]) -> Option<Misuse<'_>> {
     match parser(alloc).ok()?.try_get_matches_from(words) {
         Ok(matches) => misuse_in(&matches),
-        Err(error) => Some(Misuse::Parsed(error.to_string(alloc).ok()?)),
+        Err(error) => match flag_in_front(words) {
+            Some(flag) => Some(Misuse::InFront(flag)),
+            None => Some(Misuse::Parsed(error.to_string(alloc).ok()?)),
+        },
+    }
+}
+
+// A flag that all commands have, if it is the first word behind the program's name.
+fn flag_in_front(words: &[String]) -> Option<&str> {
+    if words.len() < 2 {
+        return None;
+    }
+    let first = words[1].as_str();
+    if first == "--explain" || first == "--progress" {
+        Some(first)
+    } else {
+        None
     }
 }
 

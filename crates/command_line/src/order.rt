@@ -5,7 +5,7 @@ ghost use Rattle.command_line.specs.Command.{Asks, Misuse, order_means};
 ghost use Rattle.command_line.specs.Reading.{IsWithin, command_of};
 
 use crate::method::{OrderMethod, method_named};
-use crate::mode::mode_given;
+use crate::mode::{flag_among, mode_given};
 use crate::names::two_names;
 use crate::words::Asked;
 use clap::ArgMatches;
@@ -21,6 +21,8 @@ pub struct OrderTask<'a> {
     pub mode: Mode,
     /// The file that the order is written to.
     pub out: &'a str,
+    /// Whether progress is told.
+    pub progress: bool,
 }
 
 pub fn order_asked<'a>(values: &ArgMatches<'a>) -> Option<Asked<'a>>
@@ -37,10 +39,12 @@ pub fn order_asked<'a>(values: &ArgMatches<'a>) -> Option<Asked<'a>>
     )?;
     let method = method_named(values.get_str("by")?)?;
     let mode = mode_given(values.get_str("lax"));
+    let progress = flag_among(values, "progress");
     Some(Asked::Order(OrderTask {
         formula,
         method,
         mode,
         out,
+        progress,
     }))
 }

@@ -20,6 +20,8 @@ pub struct RewriteTask<'a> {
     pub mode: Mode,
     /// The file that the other proof is written to.
     pub out: &'a str,
+    /// Whether progress is told.
+    pub progress: bool,
 }
 
 /// What is to be judged and written in the other format, and where that goes.
@@ -33,6 +35,8 @@ pub struct ConvertTask<'a> {
     pub out: &'a str,
     /// The formats.
     pub into: Conversion,
+    /// Whether progress is told.
+    pub progress: bool,
 }
 
 pub fn drat_asked<'a>(values: &ArgMatches<'a>) -> Option<Asked<'a>>
@@ -60,12 +64,18 @@ fn convert_asked<'a>(values: &ArgMatches<'a>, into: Conversion) -> Option<Asked<
     ensures within { IfSome result (λ asked. IsWithin (command_of asked)) }
 {
     let task = rewrite_among(values, None)?;
-    let RewriteTask { files, mode, out } = task;
+    let RewriteTask {
+        files,
+        mode,
+        out,
+        progress,
+    } = task;
     Some(Asked::Convert(ConvertTask {
         files,
         mode,
         out,
         into,
+        progress,
     }))
 }
 
@@ -80,6 +90,8 @@ pub struct TrimTask<'a> {
     pub out: &'a str,
     /// The file that its core is written to, if one is named.
     pub core: Option<&'a str>,
+    /// Whether progress is told.
+    pub progress: bool,
 }
 
 pub fn trim_asked<'a>(values: &ArgMatches<'a>) -> Option<Asked<'a>>
@@ -89,12 +101,18 @@ pub fn trim_asked<'a>(values: &ArgMatches<'a>) -> Option<Asked<'a>>
 {
     let core = values.get_str("core");
     let task = rewrite_among(values, core)?;
-    let RewriteTask { files, mode, out } = task;
+    let RewriteTask {
+        files,
+        mode,
+        out,
+        progress,
+    } = task;
     Some(Asked::Trim(TrimTask {
         files,
         mode,
         out,
         core,
+        progress,
     }))
 }
 
@@ -109,6 +127,12 @@ fn rewrite_among<'a>(values: &ArgMatches<'a>, further: Option<&str>) -> Option<R
     let (formula, proof) = two_names(file, proof, out, further, None)?;
     let out = out?;
     let mode = mode_given(values.get_str("lax"));
+    let progress = flag_among(values, "progress");
     let files = FileNames { formula, proof };
-    Some(RewriteTask { files, mode, out })
+    Some(RewriteTask {
+        files,
+        mode,
+        out,
+        progress,
+    })
 }

@@ -4,7 +4,7 @@ use Rattle.std.proofs.Common.{Option, None, Some, Ok, Err, Result, is_some, refl
 use Rattle.std.specs.Cmp.{unsigned_tied}
 use Rattle.std.specs.FinMap as map
 use Rattle.std.specs.Ordering.{nat_cmp}
-use Rattle.std.specs.Prelude.{◌-◌, IfOk, IsErrAnd, if◌then◌else◌, slice_index_or}
+use Rattle.std.specs.Prelude.{◌-◌, IfOk, IsOk, IsErrAnd, if◌then◌else◌, slice_index_or}
 use Rattle.std.proofs.Math.Nat.{mul-le-mul_right, two-pow-succ}
 use Rattle.std.proofs.lemmas.Bool.{cases_lt}
 use Rattle.std.proofs.lemmas.Cmp.{nat_cmp_total}
@@ -12,7 +12,7 @@ use Rattle.std.proofs.lemmas.List.{get_or_append_left, get_or_push}
 use Rattle.cnf_base.specs.Truth.{Assignment}
 use Rattle.lrat_rules.specs.State.{Live}
 use Rattle.node_table.specs.declared.error.TableError.{TableError}
-use Rattle.node_table.specs.declared.error.TableError.TheVariants.{NodeLimit, OutOfMemory}
+use Rattle.node_table.specs.declared.error.TableError.TheVariants.{IdLimit, NodeLimit, OutOfMemory}
 use Rattle.node_table.specs.declared.node.Branch.{Branch}
 use Rattle.node_table.specs.declared.node.Node.{Node}
 use Rattle.node_table.specs.Diagram.{Graph, branch_at, is_node, levels}
@@ -24,20 +24,18 @@ use Rattle.node_table.specs.Progress.{Continues, error_of}
 use Rattle.node_table.specs.Table.{TableState, clauses_among, live_nodes}
 use Rattle.node_table.specs.Tied.{KeepsClauses}
 use Rattle.node_table.specs.Value.{value_of}
-use Rattle.term_runner.specs.declared.held.HeldTerm.{HeldTerm}
-use Rattle.term_runner.specs.declared.runner.Runner.{Runner}
-use Rattle.term_runner.specs.Counting.{Counting, IsPartOfOne}
-use Rattle.term_runner.specs.Derived.{Refuses}
-use Rattle.term_runner.specs.Price.{IsMovePrice}
-use Rattle.term_runner.specs.Runner.{IsListed, IsRunner, holds_in, nodes_of}
+use Rattle.bdd_terms.specs.declared.held.HeldTerm.{HeldTerm}
+use Rattle.bdd_terms.specs.declared.runner.Runner.{Runner}
+use Rattle.bdd_terms.specs.Counting.{Counting, IsPartOfOne}
+use Rattle.bdd_terms.specs.Derived.{Refuses}
+use Rattle.bdd_terms.specs.Runner.{IsListed, IsRunner, holds_in, nodes_of}
 use Rattle.cube_queries.specs.declared.answer.Answer.{Answer}
 use Rattle.cube_queries.specs.Answers.{IsAnswer}
 use Rattle.cube_queries.specs.Steps.{Costs, Replies, formula_holds, function_in, functions_out}
 use Rattle.cube_models.specs.Denied.{AreSums}
-use Rattle.cube_queries.specs.Sums.{Adds, AreAllReached, IsSumAt, one_at}
-use Rattle.cube_queries.specs.Width.{HaveMore, functions_at}
+use Rattle.cube_queries.specs.Sums.{Adds, AddsOnce, AreAllReached, IsSumAt, one_at}
+use Rattle.cube_queries.specs.Width.{HaveMore}
 use Rattle.cube_queries.proofs.Alone.{alone_good}
-use Rattle.cube_queries.proofs.Costed.{costs_at}
 use Rattle.cube_queries.proofs.Parts.{among_map, of_map}
 use Rattle.cube_queries.proofs.Stays.{Stays, goes_further, good_same, good_stands, keeps_same}
 use Rattle.cube_queries.proofs.Taken.{error_is}
@@ -52,6 +50,7 @@ adds_none steps runner is x most = record {
   top = omega arith;
   goes = goes_none steps runner is;
   no_limit = no_error;
+  spent = λ same. absurd (no_error same);
 }
 
 module _ {S : Type 0} (old new : Runner S) where
@@ -73,6 +72,7 @@ module _ {S : Type 0} (old new : Runner S) where
     top = let own = adds.top in omega (arith, own, less);
     goes = adds.goes;
     no_limit = no_error;
+    spent = λ same. absurd (no_error same);
   }
 
   -- an error that is handed on
@@ -87,6 +87,7 @@ module _ {S : Type 0} (old new : Runner S) where
     top = let own = adds.top in omega (arith, own, less);
     goes = adds.goes;
     no_limit = λ same. adds.no_limit (ap Err (same_error same));
+    spent = λ same. adds.spent (ap Err (same_error same));
   })
 
   -- memory ran out behind it
@@ -107,6 +108,7 @@ module _ {S : Type 0} (old new : Runner S) where
       leaves = adds.goes.leaves;
     };
     no_limit = λ same. let e : OutOfMemory ≡ NodeLimit = same_error same in cc;
+    spent = λ same. absurd (let e : OutOfMemory ≡ IdLimit = same_error same in cc);
   })
 
   -- a cube is refused
@@ -126,6 +128,7 @@ module _ {S : Type 0} (old new : Runner S) where
       leaves = is.leaves;
     };
     no_limit = is.goes_on.no_limit;
+    spent = is.goes_on.spent;
   }
 
   -- a cube is answered
@@ -138,6 +141,7 @@ module _ {S : Type 0} (old new : Runner S) where
     keeps = λ whole. keeps_same old new adds.nodes (good_same old new adds.out);
     clauses = adds.clauses;
     no_limit = adds.no_limit;
+    spent = adds.spent;
     answer = answer;
     goes = adds.goes;
   }
@@ -153,6 +157,7 @@ module _ {S : Type 0} (steps : StepByStep S) (old mid new : Runner S) where
     top = let one = first.top in let other = second.top in omega (arith, one, other, less);
     goes = goes_further steps old mid new (error_of r) first.goes second.goes;
     no_limit = second.no_limit;
+    spent = second.spent;
   }
 
 -- How many of the first keys nodes have: no more than there are nodes.
@@ -204,19 +209,6 @@ one_more_key key nodes all rest = by (is_some (map.get nodes key)) refl where
 pub standing_few : (key : ℕ) (nodes : map.FinMap nat_cmp Branch) → standing nodes key ≤ map.len nodes
 standing_few zero nodes = omega arith
 standing_few (suc key) nodes = one_more_key key nodes (standing_few key nodes) (standing_few key (map.remove nodes key))
-
--- a move's price is more than the width
-one_power : (n : ℕ) → 1 ≤ 2 ^ n
-one_power zero = omega arith
-one_power (suc n) = omega (arith, one_power n, two-pow-succ n)
-
-above_width : (vars size width price : ℕ) → IsMovePrice vars size width price → width + 1 ≤ price
-above_width vars size width price is = elim is [
-  | inl by_variables ↦ omega (arith, by_variables, one_power vars)
-  | inr by_width ↦
-      let square : 1 * (width + 1) ≤ (width + 1) * (width + 1) = mul-le-mul_right (width + 1) (omega arith) in
-      omega (arith, by_width.1, square)
-]
 
 none_among : (entries : List (ℕ × Branch)) → length entries ≡ 0 → clauses_among entries ≡ 0
 none_among [] none = refl
@@ -284,21 +276,6 @@ module _ {S : Type 0} (steps : StepByStep S) (counting : Counting S) (runner : R
       }) in
       omega (arith, few, map.len-empty nat_cmp Branch)
 
-  -- so sums of all of them and one clause more are no dearer than a move
-  pub costs_added : (new : Runner S) (held : HeldTerm) (cube : List ℤ) → IsListed [] runner.terms.out.items held
-      → ((a : Assignment) → holds_in runner held a ≡ formula_holds runner.formula.now a) → (r : Result Answer TableError)
-      → Adds (live_nodes graph + 1) runner new r
-      → Costs 1 (functions_at runner.formula.now runner.terms.table.graph.order cube) runner new (error_of r)
-  costs_added new held cube alone value r adds =
-      costs_at counting runner new held cube is alone (alone_good runner held alone) value (error_of r) (record {
-        short = λ limit. absurd (adds.no_limit (error_is r NodeLimit limit));
-        paid = λ width price most cost.
-            let few = few_nodes width most in
-            let dear = above_width (levels runner.terms.table.graph) runner.limits.cache width price cost in
-            let top = adds.top in
-            omega (arith, few, dear, top);
-      })
-
 -- all nodes are reached yet
 pub all_reached : {S : Type 0} (old new : Runner S) → new.terms.table.graph ≡ old.terms.table.graph
     → new.terms.out.items ≡ old.terms.out.items → AreAllReached old → AreAllReached new
@@ -337,3 +314,60 @@ sums_more graph live sums more id is were last key small = elim (cases_lt key (l
       (subst (IsSumAt graph live (length sums))
       (sym (get_or_push sums id 0 (length sums) refl) ∙ ap (λ (l : List ℕ). slice_index_or l (length sums) 0) (sym is)) last)
 ]
+
+-- Cubes one behind the other take a number each, and those of the sums once: while there are none yet, these weren't added.
+pub record AreFewYet {S : Type 0} (place : ℕ) (sums : List ℕ) (old new : Runner S) : Type 0 where
+  pub begun : place ≡ 0 → new.terms.table.book.state.top ≤ old.terms.table.book.state.top
+  pub most : new.terms.table.book.state.top ≤ old.terms.table.book.state.top + (live_nodes new.terms.table.graph + place)
+  pub none : sums ≡ [] → new.terms.table.book.state.top ≤ old.terms.table.book.state.top + place
+
+module _ {S T : Type 0} (place : ℕ) (old mid new : Runner S) (nodes : new.terms.table.graph ≡ mid.terms.table.graph)
+    (r : Result T TableError) where
+  pub few_most : (before after : List ℕ) → AreFewYet place before old mid → AddsOnce before after mid new r
+      → new.terms.table.book.state.top ≤ old.terms.table.book.state.top + (live_nodes new.terms.table.graph + (place + 1))
+  few_most [] after yet adds = omega (arith, yet.none refl, adds.most, ap live_nodes nodes)
+  few_most (id ∷ before) after yet adds =
+      let more = adds.there (λ is. let e : id ∷ before ≡ [] = is in cc) in omega (arith, yet.most, more, ap live_nodes nodes)
+
+  few_none : (before after : List ℕ) → IsOk r → AreFewYet place before old mid → AddsOnce before after mid new r → after ≡ []
+      → new.terms.table.book.state.top ≤ old.terms.table.book.state.top + (place + 1)
+  few_none [] after ok yet adds is = omega (arith, yet.none refl, adds.none ok is)
+  few_none (id ∷ before) after ok yet adds is = absurd (adds.stay (λ same. let e : id ∷ before ≡ [] = same in cc) is)
+
+  pub few_more : (before after : List ℕ) → IsOk r → AreFewYet place before old mid → AddsOnce before after mid new r
+      → AreFewYet (place + 1) after old new
+  few_more before after ok yet adds = record {
+    begun = λ is. absurd (omega (arith, is));
+    most = few_most before after yet adds;
+    none = few_none before after ok yet adds;
+  }
+
+-- a refusal behind the sums
+module _ {S T : Type 0} (before after : List ℕ) (old mid new : Runner S)
+    (few : mid.terms.table.book.state.top ≤ old.terms.table.book.state.top + live_nodes old.terms.table.graph)
+    (there : (before ≡ [] → ⊥) → (mid ≡ old) × (after ≡ before))
+    (more : new.terms.table.book.state.top ≤ mid.terms.table.book.state.top + 1) (r : Result T TableError) where
+  once_there : (before ≡ [] → ⊥) → new.terms.table.book.state.top ≤ old.terms.table.book.state.top + 1
+  once_there some =
+      let same = ap (λ (x : Runner S). x.terms.table.book.state.top) (there some).0 in
+      omega (arith, more, same)
+
+  pub once_behind : (after ≡ [] → mid.terms.table.book.state.top ≤ old.terms.table.book.state.top) → AddsOnce before after old new r
+  once_behind none = record {
+    most = omega (arith, few, more);
+    there = once_there;
+    stay = λ some is. some (sym (there some).1 ∙ is);
+    none = λ ok is. let own = none is in omega (arith, own, more);
+  }
+
+  pub once_failed : (error : TableError) → IsErrAnd r (λ e. e ≡ error) → AddsOnce before after old new r
+  once_failed error failed = record {
+    most = omega (arith, few, more);
+    there = once_there;
+    stay = λ some is. some (sym (there some).1 ∙ is);
+    none = λ ok. absurd (no_success r failed ok);
+  }
+    where
+      no_success : (x : Result T TableError) → IsErrAnd x (λ e. e ≡ error) → IsOk x → ⊥
+      no_success (Ok y) is ok = is
+      no_success (Err e) is ok = let no : false ≡ true = ok in cc

@@ -1,9 +1,9 @@
 -- A term that is out alone, or behind another one, and the release of one of them.
 use Rattle.std.proofs.Common.{◌≡◌, ◌≢◌, ◌⊎◌, ◌∙◌, ◌++◌, List, [], ◌∷◌, Contains, refl, sym, ap, subst, arith, inl, inr}
 use Rattle.node_table.specs.declared.node.Node.TheVariants.{True}
-use Rattle.term_runner.specs.declared.held.HeldTerm.{HeldTerm}
-use Rattle.term_runner.specs.declared.runner.Runner.{Runner}
-use Rattle.term_runner.specs.Runner.{IsGood, IsListed, IsWithout, true_term}
+use Rattle.bdd_terms.specs.declared.held.HeldTerm.{HeldTerm}
+use Rattle.bdd_terms.specs.declared.runner.Runner.{Runner}
+use Rattle.bdd_terms.specs.Runner.{IsGood, IsListed, IsWithout, true_term}
 
 -- one element of a short list is taken out
 one_of_one : (x y : HeldTerm) (front behind : List HeldTerm) → x ∷ [] ≡ front ++ y ∷ behind → front ++ behind ≡ []

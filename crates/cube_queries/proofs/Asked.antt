@@ -1,6 +1,6 @@
 -- Cubes that are answered one by one, beside the formula's term, which is released at the end.
-use Rattle.std.proofs.Common.{◌≡◌, ◌∙◌, ◌<◌, ◌+◌, ◌++◌, ℕ, zero, suc, Bool, true, false, ℤ, List, [], ◌∷◌, length, take}
-use Rattle.std.proofs.Common.{◌≢◌, None, Some, Ok, Err, Result, refl, sym, ap, subst, arith}
+use Rattle.std.proofs.Common.{◌≡◌, ◌⊎◌, ◌∙◌, ◌<◌, ◌≤◌, ◌+◌, ◌++◌, ℕ, zero, suc, Bool, true, false, ℤ, List, [], ◌∷◌, length, take}
+use Rattle.std.proofs.Common.{◌≢◌, None, Some, Ok, Err, Result, refl, sym, ap, subst, arith, inl, inr}
 use Rattle.std.specs.Prelude.{IsErrAnd, IsTrue, slice_index_or}
 use Rattle.std.specs.List.{list_all}
 use Rattle.std.proofs.lemmas.Bool.{and_parts}
@@ -14,12 +14,12 @@ use Rattle.node_table.specs.HandedOn.{no_error, same_error}
 use Rattle.node_table.specs.Laws.{StepByStep}
 use Rattle.lrat_rules.specs.State.{Live}
 use Rattle.node_table.specs.Table.{TableState}
-use Rattle.term_runner.specs.declared.held.HeldTerm.{HeldTerm}
-use Rattle.term_runner.specs.declared.runner.Runner.{Runner}
-use Rattle.term_runner.specs.Runner.{IsGood, IsListed, IsRunner, Releases, holds_in}
+use Rattle.bdd_terms.specs.declared.held.HeldTerm.{HeldTerm}
+use Rattle.bdd_terms.specs.declared.runner.Runner.{Runner}
+use Rattle.bdd_terms.specs.Runner.{IsGood, IsListed, IsRunner, Releases, holds_in}
 use Rattle.cube_queries.specs.declared.answer.Answer.{Answer}
 use Rattle.cube_queries.specs.Answers.{AreAnswers, IsAnswer}
-use Rattle.cube_queries.specs.Steps.{GivesBack, Goes, Replies, RepliesAll, TakesOver, formula_holds}
+use Rattle.cube_queries.specs.Steps.{GivesBack, Goes, IsSpent, Replies, RepliesAll, TakesOver, formula_holds}
 use Rattle.cube_queries.proofs.Alone.{released_alone}
 use Rattle.cube_queries.proofs.Formulas.{all_taken}
 use Rattle.cube_queries.proofs.Replied.{all_and_one, answers_further}
@@ -77,6 +77,7 @@ all_replied cubes old new answers stays are = record {
   goes_on = λ whole. stays.runner;
   answers = are;
   unrefuted = λ is. absurd (no_error is);
+  behind = λ is. absurd (no_error is);
   goes = stays.goes;
 }
 
@@ -93,6 +94,7 @@ module _ {S : Type 0} (steps : StepByStep S) (cubes : List (List ℤ)) (old mid 
     goes_on = λ whole. replies.goes_on (λ same. whole (ap Err (same_error same)));
     answers = tt;
     unrefuted = λ is. absurd (replies.no_limit (ap Err (same_error is)));
+    behind = λ is was. inr (replies.spent (ap Err (same_error is)));
     goes = goes_further steps old mid new (Some error) before.goes replies.goes;
   })
 
@@ -101,6 +103,7 @@ module _ {S : Type 0} (steps : StepByStep S) (cubes : List (List ℤ)) (old mid 
     goes_on = λ whole. back.goes_on (λ same. whole (ap Err (same_error same)));
     answers = tt;
     unrefuted = λ is. absurd (back.no_limit (ap Err (same_error is)));
+    behind = λ is. absurd (back.no_numbers (ap Err (same_error is)));
     goes = goes_further steps old mid new (Some error) before.goes back.goes;
   })
 
@@ -112,6 +115,7 @@ no_room_replied cubes old new stays (Err other) is = subst (λ (e : TableError).
   goes_on = λ whole. stays.runner;
   answers = tt;
   unrefuted = λ same. absurd (let e : OutOfMemory ≡ NodeLimit = same_error same in cc);
+  behind = λ same. absurd (let e : OutOfMemory ≡ IdLimit = same_error same in cc);
   goes = record {
     formula = stays.goes.formula;
     limits = stays.goes.limits;
@@ -133,8 +137,9 @@ module _ {S : Type 0} (steps : StepByStep S) (cubes : List (List ℤ)) (old mid 
     (before : Goes old mid None)
     (released : IsTrue two.terms.table.book.in_step → Releases held two new)
     (torn : two.terms.table.book.in_step ≡ false → new ≡ two) where
-  pub all_released : (r : Result (List Answer) TableError) → r ≢ Err NodeLimit → RepliesAll cubes mid two r → RepliesAll cubes old new r
-  all_released (Ok answers) no_limit replies =
+  pub all_released : (r : Result (List Answer) TableError) → r ≢ Err NodeLimit → (r ≡ Err IdLimit → IsSpent two) → RepliesAll cubes mid two r
+      → RepliesAll cubes old new r
+  all_released (Ok answers) no_limit spent replies =
       let one = released (replies.goes_on no_error).over.sound.in_step in
       let steps_are : new.terms.table.book.steps ≡ two.terms.table.book.steps = ap (λ (t : TableState S). t.book.steps) one.table in
       let live_is : new.terms.table.book.state.live ≡ two.terms.table.book.state.live =
@@ -151,12 +156,17 @@ module _ {S : Type 0} (steps : StepByStep S) (cubes : List (List ℤ)) (old mid 
             (subst (λ (l : Live). AreAnswers two.formula.now two.terms.table.graph.order two.terms.table.book.steps l cubes answers)
             (sym live_is) replies.answers)));
         unrefuted = λ is. absurd (no_error is);
+        behind = λ is. absurd (no_error is);
         goes = goes_released steps old two new held released torn None (goes_further steps old mid two None before replies.goes);
       }
-  all_released (Err error) no_limit replies = record {
+  all_released (Err error) no_limit spent replies = record {
     goes_on = λ whole. (released (replies.goes_on whole).over.sound.in_step).goes_on;
     answers = tt;
     unrefuted = λ is. absurd (no_limit is);
+    behind = λ is was.
+        let whole : ◌≢◌ {A = Result (List Answer) TableError} (Err error) (Err WriteFault) = λ torn. ids_whole (sym is ∙ torn) in
+        let one = released (replies.goes_on whole).over.sound.in_step in
+        inr (subst (λ (t : TableState S). t.book.limit ≤ t.book.state.top) (sym one.table) (spent is));
     goes = goes_released steps old two new held released torn (Some error)
         (goes_further steps old mid two (Some error) before replies.goes);
   }
@@ -178,6 +188,7 @@ taken_none cubes old new holds error (Err other) is over = subst (λ (e : TableE
   goes_on = λ whole. over.goes_on (λ same. whole (ap Err (same_error same)));
   answers = tt;
   unrefuted = λ is was. over.unrefuted (λ same. nodes_whole (sym (ap Err (same_error is)) ∙ same)) was tt;
+  behind = λ is was. inl (over.unrefuted (λ same. ids_whole (sym (ap Err (same_error is)) ∙ same)) was tt);
   goes = over.goes;
 })
 
@@ -203,3 +214,9 @@ pub handed_limit : (error : TableError) (r : Result (List Answer) TableError) �
     → r ≢ Err NodeLimit
 handed_limit error (Ok answers) is none same = absurd is
 handed_limit error (Err other) is none same = none (sym is ∙ same_error same)
+
+-- at their limit of numbers none is left where none was
+pub handed_spent : {P : Type 0} (error : TableError) (r : Result (List Answer) TableError) → IsErrAnd r (λ e. e ≡ error) → (error ≡ IdLimit → P)
+    → r ≡ Err IdLimit → P
+handed_spent error (Ok answers) is spent same = absurd is
+handed_spent error (Err other) is spent same = spent (sym is ∙ same_error same)

@@ -13,13 +13,14 @@ use Rattle.node_table.specs.Value.{Levels}
 use Rattle.clause_terms.specs.Term.{by_variable}
 use Rattle.schedule_plan.specs.declared.limits.Limits.{Limits}
 use Rattle.schedule_plan.specs.Plan.{input as input_term, term_holds}
-use Rattle.term_runner.specs.declared.held.HeldTerm.{HeldTerm}
-use Rattle.term_runner.specs.declared.runner.Runner.{Runner}
-use Rattle.term_runner.specs.Counting.{Counting}
-use Rattle.term_runner.specs.Price.{IsMovePrice}
-use Rattle.term_runner.specs.Runner.{IsGood, IsListed, IsRunner, Releases, holds_in}
+use Rattle.bdd_terms.specs.declared.held.HeldTerm.{HeldTerm}
+use Rattle.bdd_terms.specs.declared.runner.Runner.{Runner}
+use Rattle.bdd_terms.specs.Counting.{Counting}
+use Rattle.bdd_terms.specs.Price.{IsMovePrice}
+use Rattle.bdd_terms.specs.Runner.{IsGood, IsListed, IsRunner, Releases, holds_in}
 use Rattle.cube_queries.specs.Steps.{Costs, KeepsTerms, clause_in, formula_holds, function_in, functions_out, functions_with}
-use Rattle.cube_queries.specs.Width.{HaveMore, formula_function, functions_at}
+use Rattle.cube_queries.specs.Width.{HaveMore}
+use Rattle.cube_queries.proofs.Moves.{formula_function}
 use Rattle.cube_queries.proofs.Parts.{among_cases, among_map, first_among, later_among, more_within, of_map}
 use Rattle.cube_queries.proofs.Stays.{good_stands}
 
@@ -186,15 +187,15 @@ costs_without old new held number alone error first =
       | inr out ↦ (2, omega arith, sym (out_alone old held alone f out))
     ]) error first
 
--- A cube, beside the formula's term.
-module _ {S : Type 0} (counting : Counting S) (old new : Runner S) (held : HeldTerm) (cube : List ℤ) (is : IsRunner old)
-    (alone : IsListed [] old.terms.out.items held) (good : IsGood old held)
-    (value : (a : Assignment) → holds_in old held a ≡ formula_holds old.formula.now a) where
-  whole_is : function_in old held ≡ formula_function old.formula.now old.terms.table.graph.order
-  whole_is = function_is counting old is held good (formula_holds old.formula.now) value
+-- the function of the formula's term, which alone is out
+module _ {S : Type 0} (counting : Counting S) (runner : Runner S) (held : HeldTerm) (is : IsRunner runner)
+    (alone : IsListed [] runner.terms.out.items held) (good : IsGood runner held)
+    (value : (a : Assignment) → holds_in runner held a ≡ formula_holds runner.formula.now a) where
+  whole_is : function_in runner held ≡ formula_function runner.formula.now runner.terms.table.graph.order
+  whole_is = function_is counting runner is held good (formula_holds runner.formula.now) value
 
-  pub costs_at : (error : Option TableError) → Costs 1 (functions_out old) old new error
-      → Costs 1 (functions_at old.formula.now old.terms.table.graph.order cube) old new error
-  costs_at error costs =
-      costs_within old new 1 1 (omega arith) (functions_out old) (functions_at old.formula.now old.terms.table.graph.order cube)
-      (λ f there. (0, omega arith, sym (out_alone old held alone f there ∙ whole_is))) error costs
+  pub more_of_whole : (number : ℕ) → HaveMore (functions_out runner) number
+      → HaveMore (formula_function runner.formula.now runner.terms.table.graph.order ∷ []) number
+  more_of_whole number have =
+      more_within (functions_out runner) (formula_function runner.formula.now runner.terms.table.graph.order ∷ [])
+      (λ f there. (0, omega arith, sym (out_alone runner held alone f there ∙ whole_is))) number have

@@ -20,25 +20,26 @@ use Rattle.node_table.specs.Progress.{BreaksOff, error_of, number_limit}
 use Rattle.node_table.specs.Table.{TableState, UnlessTorn, live_nodes}
 use Rattle.node_table.specs.Tied.{IsTied}
 use Rattle.schedule_plan.specs.declared.limits.Limits.{Limits}
-use Rattle.term_runner.specs.declared.error.RunError.{RunError}
-use Rattle.term_runner.specs.declared.error.RunError.TheVariants.{OutOfMemory, WriteFault}
-use Rattle.term_runner.specs.declared.runner.Runner.{Runner}
-use Rattle.term_runner.specs.Price.{IsMovePrice}
-use Rattle.term_runner.specs.Counting.{IsPartOfOne}
+use Rattle.schedule_plan.specs.declared.plan.Move.{Move}
+use Rattle.bdd_terms.specs.declared.error.RunError.{RunError}
+use Rattle.bdd_terms.specs.declared.error.RunError.TheVariants.{OutOfMemory, WriteFault}
+use Rattle.bdd_terms.specs.declared.runner.Runner.{Runner}
+use Rattle.bdd_terms.specs.Price.{IsMovePrice}
 use Rattle.term_runner.specs.Proofs.{IsProof, IsProofSoFar, IsProofSoFarOfKind, KeepsWithin}
-use Rattle.term_runner.specs.Runner.{IsRunner}
-use Rattle.term_runner.specs.Unused.{IsOpenedOver}
-use Rattle.term_runner.specs.Width.{AreMore, IsPartInHand}
+use Rattle.bdd_terms.specs.Runner.{IsRunner}
+use Rattle.bdd_terms.specs.Unused.{IsOpenedOver}
+use Rattle.bdd_terms.specs.Parts.{AreMore}
+use Rattle.term_runner.specs.Width.{HasWidth, IsPartInHand, IsWider}
 use Rattle.cube_queries.specs.declared.answer.Answer.{Answer}
 use Rattle.cube_queries.specs.declared.answer.Outcome.{Outcome}
 use Rattle.cube_queries.specs.Answers.{AreAnswers}
 use Rattle.cube_queries.specs.Ends.{Ends, IsAnswered, IsFlushed, Says, Shows, outcome_of}
-use Rattle.cube_queries.specs.Steps.{CostsAll, Goes, RepliesAll}
-use Rattle.cube_queries.specs.Width.{AreAmple, IsPaid, NeedsAtMost, NeedsMore, functions_at, moves_of}
+use Rattle.cube_queries.specs.Steps.{CostsAll, Goes, IsSpent, RepliesAll}
+use Rattle.cube_queries.specs.Width.{AreAmple, IsPaid, plan_of}
 use Rattle.cube_queries.proofs.Replied.{answers_true}
 use Rattle.cube_queries.proofs.Stays.{ids_whole, memory_whole, nodes_whole}
 
--- More parts than a number are more than a smaller one, and so what is needed.
+-- More parts than a number are more than a smaller one, and so is the width.
 fewer : (kind : (Levels → Bool) → Type 0) (few number : ℕ) → few ≤ number → AreMore kind number → AreMore kind few
 fewer kind few number less more = record {
   parts = more.parts;
@@ -48,20 +49,19 @@ fewer kind few number less more = record {
   differ = more.differ;
 }
 
-needs_more : (formula : Formula) (order : List ℕ) (cubes : List (List ℤ)) (few number : ℕ) → few ≤ number
-    → NeedsMore formula order cubes number → NeedsMore formula order cubes few
-needs_more formula order cubes few number less (inl wider) = inl (record {
+wider_than : (formula : Formula) (order : List ℕ) (moves : List Move) (few number : ℕ) → few ≤ number → IsWider formula order moves number
+    → IsWider formula order moves few
+wider_than formula order moves few number less wider = record {
   count = wider.count;
   before = wider.before;
   after = wider.after;
   move = wider.move;
   more = fewer (IsPartInHand false formula order wider.before wider.after) few number less wider.more;
-})
-needs_more formula order cubes few number less (inr wider) = inr (record {
-  cube = wider.cube;
-  asked = wider.asked;
-  more = fewer (IsPartOfOne (functions_at formula order wider.cube)) few number less wider.more;
-})
+}
+
+-- the plan that conjoins the clauses is wider
+abbrev pub IsWide : Formula → List ℕ → ℕ → Type 0
+IsWide formula order number = IsWider formula order (plan_of formula) number
 
 -- A write failed in the last step: the state before it has no greater number, and both keep within the limits.
 pub record BrokeIn {S : Type 0} (formula : Formula) (limits : Limits) (runner : Runner S) : Type 0 where
@@ -83,11 +83,12 @@ pub record IsSession {S : Type 0} (formula : Formula) (order : List ℕ) (limits
   pub nodes : found ≡ Err table.NodeLimit → runner.terms.table.max_nodes ≤ live_nodes runner.terms.table.graph
   pub unrefuted : found ≡ Err table.NodeLimit → runner.refuted ≡ false
   pub ids : found ≡ Err table.IdLimit → runner.terms.table.book.limit < runner.terms.table.book.state.top + 4
+  pub behind : found ≡ Err table.IdLimit → (runner.refuted ≡ false) ⊎ IsSpent runner
   pub torn : found ≡ Err table.WriteFault → runner.terms.table.book.in_step ≡ false
   pub clauses : runner.terms.table.book.formula ≡ formula.clauses
-  pub short : found ≡ Err table.NodeLimit → NeedsMore formula order cubes limits.max_nodes
-  pub paid : (width price : ℕ) → NeedsAtMost formula order cubes width → IsMovePrice formula.vars limits.cache width price
-      → IsPaid formula cubes price runner.terms.table.book.state
+  pub short : found ≡ Err table.NodeLimit → IsWide formula order limits.max_nodes
+  pub paid : (width price : ℕ) → HasWidth formula order (plan_of formula) width → IsMovePrice formula.vars limits.cache width price
+      → IsPaid formula cubes width price runner.terms.table.book.state
   pub broken : found ≡ Err table.WriteFault → BrokeIn formula limits runner
 
 module _ {S : Type 0} (formula : Formula) (order : List ℕ) (limits : Limits) (cubes : List (List ℤ)) (sink : S) (old new : Runner S)
@@ -99,29 +100,32 @@ module _ {S : Type 0} (formula : Formula) (order : List ℕ) (limits : Limits) (
   old_clauses : old.terms.table.book.formula ≡ formula.clauses
   old_clauses = opened.unused.book.of_formula ∙ ap (λ (f : Formula). f.clauses) opened.of_formula
 
-  -- what was needed and paid, of the formula
-  needs : (number : ℕ) → NeedsMore old.formula.now old.terms.table.graph.order cubes number → NeedsMore formula order cubes number
-  needs number more =
-      subst (λ (f : Formula). NeedsMore f order cubes number) opened.of_formula
-      (subst (λ (o : List ℕ). NeedsMore old.formula.now o cubes number) opened.of_order more)
+  -- the width of the formula's plan
+  same_width : (width : ℕ) → HasWidth formula order (plan_of formula) width
+      → HasWidth old.formula.now old.terms.table.graph.order (plan_of old.formula.now) width
+  same_width width most wider =
+      most (subst (λ (f : Formula). IsWide f order width) opened.of_formula
+      (subst (λ (o : List ℕ). IsWide old.formula.now o width) opened.of_order wider))
 
-  costs_nothing_more : (error : Option TableError) → CostsAll cubes old new error → (width price : ℕ) → NeedsAtMost formula order cubes width
-      → IsMovePrice formula.vars limits.cache width price → IsPaid formula cubes price new.terms.table.book.state
+  costs_nothing_more : (error : Option TableError) → CostsAll cubes old new error → (width price : ℕ) → HasWidth formula order (plan_of formula) width
+      → IsMovePrice formula.vars limits.cache width price → IsPaid formula cubes width price new.terms.table.book.state
   costs_nothing_more error costs width price most is =
       let vars : levels old.terms.table.graph ≡ formula.vars = opened.unused.vars ∙ ap (λ (f : Formula). f.vars) opened.of_formula in
-      let one = costs.paid width price (λ more. most (needs width more))
+      let one = costs.paid width price (same_width width most)
       (subst (λ (n : ℕ). IsMovePrice n old.limits.cache width price) (sym vars)
       (subst (λ (l : Limits). IsMovePrice formula.vars l.cache width price) (sym opened.within) is)) in
       let first : old.terms.table.book.state.top ≡ length formula.clauses =
       ap (λ (s : State). s.top) opened.unused.book.state ∙ ap (λ (f : Formula). length f.clauses) opened.of_formula in
-      let moves : moves_of old.formula.now cubes * price ≡ moves_of formula cubes * price =
-      ap (λ (f : Formula). moves_of f cubes * price) opened.of_formula in
+      let moves : length (plan_of old.formula.now) * price ≡ length (plan_of formula) * price =
+      ap (λ (f : Formula). length (plan_of f) * price) opened.of_formula in
       omega (arith, one, first, moves)
 
   costs_short : (error : Option TableError) → CostsAll cubes old new error → error ≡ Some table.NodeLimit
-      → NeedsMore formula order cubes limits.max_nodes
+      → IsWide formula order limits.max_nodes
   costs_short error costs is =
-      subst (λ (l : Limits). NeedsMore formula order cubes l.max_nodes) opened.within (needs old.limits.max_nodes (costs.short is))
+      subst (λ (l : Limits). IsWide formula order l.max_nodes) opened.within
+      (subst (λ (f : Formula). IsWide f order old.limits.max_nodes) opened.of_formula
+      (subst (λ (o : List ℕ). IsWide old.formula.now o old.limits.max_nodes) opened.of_order (costs.short is)))
 
   -- the limits of the table that was opened
   vars_are : levels old.terms.table.graph ≡ formula.vars
@@ -182,6 +186,7 @@ module _ {S : Type 0} (formula : Formula) (order : List ℕ) (limits : Limits) (
         nodes = λ same. absurd (no_error same);
         unrefuted = λ same. absurd (no_error same);
         ids = λ same. absurd (no_error same);
+        behind = λ same. absurd (no_error same);
         torn = λ same. absurd (no_error same);
         clauses = runner_clauses runner is.0;
         short = λ same. absurd (no_error same);
@@ -199,6 +204,7 @@ module _ {S : Type 0} (formula : Formula) (order : List ℕ) (limits : Limits) (
         nodes = λ same. replies.goes.leaves.1;
         unrefuted = λ same. replies.unrefuted refl opened.unused.unrefuted;
         ids = λ same. absurd (let e : table.NodeLimit ≡ table.IdLimit = same_error same in cc);
+        behind = λ same. absurd (let e : table.NodeLimit ≡ table.IdLimit = same_error same in cc);
         torn = λ same. absurd (nodes_whole same);
         clauses = runner_clauses (replies.goes_on nodes_whole) is.0;
         short = λ same. costs_short (Some table.NodeLimit) costs refl;
@@ -216,6 +222,7 @@ module _ {S : Type 0} (formula : Formula) (order : List ℕ) (limits : Limits) (
         nodes = λ same. absurd (let e : table.IdLimit ≡ table.NodeLimit = same_error same in cc);
         unrefuted = λ same. absurd (let e : table.IdLimit ≡ table.NodeLimit = same_error same in cc);
         ids = λ same. replies.goes.leaves.1;
+        behind = λ same. replies.behind refl opened.unused.unrefuted;
         torn = λ same. absurd (ids_whole same);
         clauses = runner_clauses (replies.goes_on ids_whole) is.0;
         short = λ same. absurd (let e : table.IdLimit ≡ table.NodeLimit = same_error same in cc);
@@ -233,6 +240,7 @@ module _ {S : Type 0} (formula : Formula) (order : List ℕ) (limits : Limits) (
         nodes = λ same. absurd (let e : table.OutOfMemory ≡ table.NodeLimit = same_error same in cc);
         unrefuted = λ same. absurd (let e : table.OutOfMemory ≡ table.NodeLimit = same_error same in cc);
         ids = λ same. absurd (let e : table.OutOfMemory ≡ table.IdLimit = same_error same in cc);
+        behind = λ same. absurd (let e : table.OutOfMemory ≡ table.IdLimit = same_error same in cc);
         torn = λ same. absurd (memory_whole same);
         clauses = runner_clauses (replies.goes_on memory_whole) is.0;
         short = λ same. absurd (let e : table.OutOfMemory ≡ table.NodeLimit = same_error same in cc);
@@ -251,6 +259,7 @@ module _ {S : Type 0} (formula : Formula) (order : List ℕ) (limits : Limits) (
         nodes = λ same. absurd (let e : table.WriteFault ≡ table.NodeLimit = same_error same in cc);
         unrefuted = λ same. absurd (let e : table.WriteFault ≡ table.NodeLimit = same_error same in cc);
         ids = λ same. absurd (let e : table.WriteFault ≡ table.IdLimit = same_error same in cc);
+        behind = λ same. absurd (let e : table.WriteFault ≡ table.IdLimit = same_error same in cc);
         torn = λ same. replies.goes.leaves.out_of_step;
         clauses = same_clauses;
         short = λ same. absurd (let e : table.WriteFault ≡ table.NodeLimit = same_error same in cc);
@@ -391,11 +400,17 @@ module _ {S B : Type 0} (tells : Bool) (channel : S → Channel) (beside : S →
       let whole : found ≢ Err table.WriteFault = λ e. ids_whole (sym is ∙ e) in
       let goes_on = session.goes_on whole in
       let many = session.ids is in
+      let inputs : runner.terms.table.inputs ≡ length formula.clauses =
+      goes_on.over.counted ∙ ap (λ (f : Formula). length f.clauses) session.of_formula in
       let max : runner.terms.table.book.limit ≡ limits.max_ids = goes_on.within.max_ids ∙ ap (λ (l : Limits). l.max_ids) session.within in
       record {
         state = state;
         written = is_written whole t;
         used = omega (arith, many, max);
+        behind = elim (session.behind is) [
+          | inl unrefuted ↦ inl (λ id above. goes_on.unrefuted unrefuted id (omega (arith, above, inputs)))
+          | inr spent ↦ inr (omega (arith, spent, max))
+        ];
       }
   shows (Err table.OutOfMemory) is t = tt
   shows (Err table.WriteFault) is t = tt
@@ -425,11 +440,11 @@ module _ {S B : Type 0} (tells : Bool) (channel : S → Channel) (beside : S →
   ]
 
   -- the answers are certain where the limits are ample
-  certain : (width price : ℕ) → NeedsAtMost formula order cubes width → IsMovePrice formula.vars limits.cache width price
+  certain : (width price : ℕ) → HasWidth formula order (plan_of formula) width → IsMovePrice formula.vars limits.cache width price
       → AreAmple limits formula cubes width price → (f : Result (List Answer) TableError) → found ≡ f → IfOk (outcome_of f) IsAnswered
   certain width price most is ample (Ok answers) same = tt
   certain width price most is ample (Err table.NodeLimit) same =
-      most (needs_more formula order cubes width limits.max_nodes ample.0 (session.short same))
+      most (wider_than formula order (plan_of formula) width limits.max_nodes ample.0 (session.short same))
   certain width price most is ample (Err table.IdLimit) same =
       let whole : found ≢ Err table.WriteFault = λ e. ids_whole (sym same ∙ e) in
       let limit : runner.terms.table.book.limit ≡ limits.max_ids =
@@ -438,12 +453,12 @@ module _ {S B : Type 0} (tells : Bool) (channel : S → Channel) (beside : S →
   certain width price most is ample (Err table.OutOfMemory) same = tt
   certain width price most is ample (Err table.WriteFault) same = tt
 
-  paid : (width price : ℕ) → NeedsAtMost formula order cubes width → IsMovePrice formula.vars limits.cache width price → IsTrue tells
-      → IsProofSoFarOfKind formula.clauses (IsPaid formula cubes price) after.written
+  paid : (width price : ℕ) → HasWidth formula order (plan_of formula) width → IsMovePrice formula.vars limits.cache width price → IsTrue tells
+      → IsProofSoFarOfKind formula.clauses (IsPaid formula cubes width price) after.written
   paid width price most is t =
       let here = session.paid width price most is in
       elim (whole_or_torn found) [
-        | inl torn ↦ is_cut (IsPaid formula cubes price) here (λ broke. omega (arith, here, broke.no_less)) torn t
+        | inl torn ↦ is_cut (IsPaid formula cubes width price) here (λ broke. omega (arith, here, broke.no_less)) torn t
         | inr whole ↦ inl (record { state = state; written = is_written whole t; within = here })
       ]
 

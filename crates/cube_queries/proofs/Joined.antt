@@ -10,10 +10,10 @@ use Rattle.node_table.specs.HandedOn.{no_error}
 use Rattle.node_table.specs.Laws.{StepByStep}
 use Rattle.node_table.specs.Table.{TableState}
 use Rattle.node_table.specs.Value.{by_level, value_of}
-use Rattle.term_runner.specs.declared.held.HeldTerm.{HeldTerm}
-use Rattle.term_runner.specs.declared.runner.Runner.{Runner}
-use Rattle.term_runner.specs.declared.term.Term.{Term}
-use Rattle.term_runner.specs.Runner.{IsGood, IsListed, IsRunner, Releases, holds_in, true_term}
+use Rattle.bdd_terms.specs.declared.held.HeldTerm.{HeldTerm}
+use Rattle.bdd_terms.specs.declared.runner.Runner.{Runner}
+use Rattle.bdd_terms.specs.declared.term.Term.{Term}
+use Rattle.bdd_terms.specs.Runner.{IsGood, IsListed, IsRunner, Releases, holds_in, true_term}
 use Rattle.cube_queries.specs.Steps.{Takes, TakesOver}
 use Rattle.cube_queries.proofs.Alone.{alone_good, released_alone, released_first, released_middle, released_second}
 use Rattle.cube_queries.proofs.Stays.{goes_further, goes_released, ids_whole, memory_whole, nodes_whole}

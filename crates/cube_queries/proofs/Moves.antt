@@ -1,5 +1,5 @@
 -- The plan that conjoins the clauses one by one, move by move: what it has in hand, and where more is in hand than a number it is wider.
-use Rattle.std.proofs.Common.{◌≡◌, ◌∙◌, ℕ, zero, suc, ◌<◌, ◌≤◌, ◌+◌, ◌++◌, ◌&&◌, ◌||◌, Bool, true, false, not, List, [], ◌∷◌}
+use Rattle.std.proofs.Common.{◌≡◌, ◌∙◌, ℕ, zero, suc, ◌<◌, ◌≤◌, ◌+◌, ◌++◌, ◌&&◌, ◌||◌, Bool, true, false, not, ℤ, List, [], ◌∷◌}
 use Rattle.std.proofs.Common.{◌-◌, length, take, Contains, None, Some, refl, sym, ap, subst, arith, inl, inr, ne_eqb}
 use Rattle.std.specs.Prelude.{nat_lt, nat_le, if◌then◌else◌}
 use Rattle.std.specs.List.{list_all, slice_get}
@@ -9,15 +9,18 @@ use Rattle.std.proofs.lemmas.List.{length-append, map-append}
 use Rattle.std.proofs.Math.Seq.{take-append-add}
 use Rattle.cnf_base.specs.Formula.{Formula}
 use Rattle.cnf_base.specs.Truth.{Assignment, clause_holds}
-use Rattle.node_table.specs.Value.{IsSubfunction, Levels}
+use Rattle.node_table.specs.Value.{IsSubfunction, Levels, fixed_to}
+use Rattle.clause_terms.specs.Term.{by_variable}
 use Rattle.schedule_plan.specs.declared.plan.Move.{Move}
 use Rattle.schedule_plan.specs.declared.plan.Move.TheVariants.{Push, And}
 use Rattle.schedule_plan.specs.Plan.{Term, input, both, Stage, after_moves, after_move, after_push, clause_of_number, conjoin, is_pushed, no_stage}
 use Rattle.schedule_plan.specs.Plan.{term_holds}
 use Rattle.schedule_plan.specs.SetMove.{in_order, move_in_order}
-use Rattle.term_runner.specs.Width.{IsInHand, IsMove, IsWider, part_at, term_function}
+use Rattle.term_runner.specs.Width.{IsInHand, IsMove, IsWider}
+use Rattle.bdd_terms.specs.Parts.{part_at, term_function}
 use Rattle.cube_queries.specs.Width.{HaveMore}
-use Rattle.cube_queries.proofs.Formulas.{one_more}
+use Rattle.cube_queries.proofs.Formulas.{all_taken, one_more}
+use Rattle.cube_queries.proofs.Parts.{among_cases}
 
 -- the numbers up to one, the greatest first, and the conjunction of their clauses
 abbrev pub down : ℕ → List ℕ
@@ -226,3 +229,43 @@ front_holds formula (suc n) small a =
     ∙ (let back : suc (suc n) - 1 ≡ suc n = omega arith in
     ap (λ (k : ℕ). list_all (clause_holds a) (take k formula.clauses) && clause_holds a (clause_of_number formula (suc (suc n)))) back)
     ∙ ap (λ (b : Bool). b && clause_holds a (clause_of_number formula (suc (suc n)))) (front_holds formula n (omega (arith, small)) a)
+
+-- whether all clauses hold, by levels
+abbrev pub formula_function : Formula → List ℕ → Levels → Bool
+formula_function formula order a = list_all (clause_holds (by_variable order a)) formula.clauses
+
+-- Where the formula's function has more parts, the plan is wider: it is in hand at the last move.
+module _ (formula : Formula) (order : List ℕ) (number : ℕ) (have : HaveMore (formula_function formula order ∷ []) number) where
+  only : (f : Levels → Bool) → Contains (formula_function formula order ∷ []) f → f ≡ formula_function formula order
+  only f there = elim (among_cases (formula_function formula order) f [] there) [
+    | inl same ↦ sym same
+    | inr none ↦ absurd (omega (arith, none.1))
+  ]
+
+  last_is : (n : ℕ) → suc n ≡ length formula.clauses → formula_function formula order ≡ term_function formula order (all_up_to n)
+  last_is n last = λ i a. (ap (list_all (clause_holds (by_variable order a)))
+      (sym (all_taken formula.clauses) ∙ ap (λ (k : ℕ). take k formula.clauses) (sym last))
+      ∙ front_holds formula n (omega (arith, last)) (by_variable order a)) i
+
+  -- a formula without clauses always holds
+  none_matters : length formula.clauses ≡ 0 → ⊥
+  none_matters none =
+      let first : 0 < length have.parts = omega (arith, have.more) in
+      let part = have.are 0 first in
+      have.essential 0 first true (λ a.
+      part.is_part.same a ∙ (λ i. only part.function part.among i (fixed_to part.is_part.level part.is_part.fixed a))
+      ∙ always formula.clauses none (by_variable order (fixed_to part.is_part.level part.is_part.fixed a)))
+    where
+      always : (clauses : List (List ℤ)) → length clauses ≡ 0 → (a : Assignment) → list_all (clause_holds a) clauses ≡ true
+      always [] same a = refl
+      always (clause ∷ clauses) same a = absurd (omega (arith, same))
+
+  pub wider_whole : IsWider formula order (conjoin (length formula.clauses)) number
+  wider_whole = by_length (length formula.clauses) refl
+    where
+      by_length : (n : ℕ) → n ≡ length formula.clauses → IsWider formula order (conjoin (length formula.clauses)) number
+      by_length zero is = absurd (none_matters (sym is))
+      by_length (suc zero) is = wider_first formula order (omega (arith, is)) (formula_function formula order ∷ [])
+          (λ f there. only f there ∙ last_is 0 is) number have
+      by_length (suc (suc n)) is = wider_next formula order n (omega (arith, is)) (formula_function formula order ∷ [])
+          (λ f there. (both (all_up_to n) (input (suc (suc n))), both_there n, only f there ∙ last_is (suc n) is)) number have

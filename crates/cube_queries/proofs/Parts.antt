@@ -2,8 +2,8 @@
 use Rattle.std.proofs.Common.{◌≡◌, ℕ, zero, suc, Bool, List, [], ◌∷◌, map, Contains, refl, ap}
 use Rattle.std.proofs.Common.{◌⊎◌, arith, inl, inr}
 use Rattle.node_table.specs.Value.{IsSubfunction, Levels}
-use Rattle.term_runner.specs.Counting.{IsPartOfOne}
-use Rattle.term_runner.specs.Width.{AreMore}
+use Rattle.bdd_terms.specs.Counting.{IsPartOfOne}
+use Rattle.bdd_terms.specs.Parts.{AreMore}
 use Rattle.cube_queries.specs.Width.{HaveMore}
 
 -- those of some functions are those of more

@@ -20,11 +20,11 @@ use Rattle.node_table.specs.Laws.{Canonical}
 use Rattle.node_table.specs.Value.{Levels, value_of}
 use Rattle.clause_terms.specs.Term.{by_variable}
 use Rattle.cube_models.specs.Denied.{IsShutBy}
-use Rattle.term_runner.specs.declared.held.HeldTerm.{HeldTerm}
-use Rattle.term_runner.specs.declared.runner.Runner.{Runner}
-use Rattle.term_runner.specs.Counting.{Counting}
-use Rattle.term_runner.specs.Finds.{IsProved}
-use Rattle.term_runner.specs.Runner.{IsGood, IsRunner, holds_in}
+use Rattle.bdd_terms.specs.declared.held.HeldTerm.{HeldTerm}
+use Rattle.bdd_terms.specs.declared.runner.Runner.{Runner}
+use Rattle.bdd_terms.specs.Counting.{Counting}
+use Rattle.bdd_terms.specs.Finds.{IsProved}
+use Rattle.bdd_terms.specs.Runner.{IsGood, IsRunner, holds_in}
 
 -- no node but True needs no unit
 inner_unit : (o : Option Branch) → is_trivial (atom_in o ∷ []) ≡ true → ⊥

@@ -8,7 +8,7 @@ use Rattle.clause_ledger.specs.Book.{Book}
 use Rattle.lrat_rules.specs.Conservative.{IsAddedBy}
 use Rattle.lrat_rules.specs.State.{Live}
 use Rattle.node_table.specs.Tied.{KeepsClauses}
-use Rattle.term_runner.specs.declared.runner.Runner.{Runner}
+use Rattle.bdd_terms.specs.declared.runner.Runner.{Runner}
 use Rattle.cube_queries.specs.declared.answer.Answer.{Answer}
 use Rattle.cube_queries.specs.Answers.{AreAll, AreAnswers, AreTrue, IsAnswer, IsTrueOf}
 use Rattle.cube_queries.specs.Steps.{Goes}

@@ -13,10 +13,10 @@ use Rattle.node_table.specs.Laws.{StepByStep}
 use Rattle.node_table.specs.Progress.{Leaves}
 use Rattle.node_table.specs.Table.{TableState, live_nodes}
 use Rattle.node_table.specs.Value.{by_level, value_of}
-use Rattle.term_runner.specs.declared.held.HeldTerm.{HeldTerm}
-use Rattle.term_runner.specs.declared.runner.Runner.{Runner}
-use Rattle.term_runner.specs.Runner.{IsGood, IsRunner, Releases, nodes_of}
-use Rattle.term_runner.specs.Tidy.{LeavesReached}
+use Rattle.bdd_terms.specs.declared.held.HeldTerm.{HeldTerm}
+use Rattle.bdd_terms.specs.declared.runner.Runner.{Runner}
+use Rattle.bdd_terms.specs.Runner.{IsGood, IsRunner, Releases, nodes_of}
+use Rattle.bdd_terms.specs.Tidy.{LeavesReached}
 use Rattle.cube_queries.specs.Steps.{GivesBack, Goes, KeepsTerms}
 
 -- other errors than a failed write

@@ -3,18 +3,18 @@ use Rattle.std.proofs.Common.{◌≡◌, ◌⊎◌, ◌∙◌, ◌&&◌, ℕ, Bo
 use Rattle.std.proofs.Common.{inl, inr}
 use Rattle.cnf_base.specs.Truth.{Assignment}
 use Rattle.node_table.specs.declared.error.TableError.{TableError}
-use Rattle.node_table.specs.declared.error.TableError.TheVariants.{NodeLimit, OutOfMemory, WriteFault}
+use Rattle.node_table.specs.declared.error.TableError.TheVariants.{IdLimit, NodeLimit, OutOfMemory, WriteFault}
 use Rattle.node_table.specs.Diagram.{Graph}
 use Rattle.node_table.specs.HandedOn.{no_error, same_error}
 use Rattle.node_table.specs.Progress.{error_of}
 use Rattle.node_table.specs.Value.{Levels}
-use Rattle.term_runner.specs.declared.held.HeldTerm.{HeldTerm}
-use Rattle.term_runner.specs.declared.runner.Runner.{Runner}
-use Rattle.term_runner.specs.declared.term.Term.{Term}
-use Rattle.term_runner.specs.Counting.{Counting}
-use Rattle.term_runner.specs.Runner.{IsGood, IsRunner, holds_in}
-use Rattle.term_runner.specs.Takes.{asked_in}
-use Rattle.term_runner.specs.Takes as call
+use Rattle.bdd_terms.specs.declared.held.HeldTerm.{HeldTerm}
+use Rattle.bdd_terms.specs.declared.runner.Runner.{Runner}
+use Rattle.bdd_terms.specs.declared.term.Term.{Term}
+use Rattle.bdd_terms.specs.Counting.{Counting}
+use Rattle.bdd_terms.specs.Runner.{IsGood, IsRunner, holds_in}
+use Rattle.bdd_terms.specs.Takes.{asked_in}
+use Rattle.bdd_terms.specs.Takes as call
 use Rattle.cube_queries.specs.Steps.{Costs, GivesBack, Takes, function_in, functions_out}
 use Rattle.cube_queries.proofs.Costed.{function_is}
 use Rattle.cube_queries.proofs.Parts.{more_of_one}
@@ -76,6 +76,7 @@ gives_back old new (Ok count) back =
       out = items;
       keeps = λ whole. keeps_reached old new back.reached items;
       no_limit = no_error;
+      no_numbers = no_error;
       top = back.top;
       goes = record {
         formula = back.same.formula;
@@ -92,6 +93,7 @@ gives_back old new (Err e) back =
       out = items;
       keeps = λ whole. keeps_same old new back.kept.0 (good_same old new items);
       no_limit = λ is. by_error (same_error is) back.error;
+      no_numbers = λ is. by_numbers (same_error is) back.error;
       top = back.top;
       goes = record {
         formula = back.same.formula;
@@ -105,3 +107,7 @@ gives_back old new (Err e) back =
     by_error : e ≡ NodeLimit → (e ≡ OutOfMemory) ⊎ (e ≡ WriteFault) → ⊥
     by_error is (inl other) = let no : NodeLimit ≡ OutOfMemory = sym is ∙ other in cc
     by_error is (inr other) = let no : NodeLimit ≡ WriteFault = sym is ∙ other in cc
+
+    by_numbers : e ≡ IdLimit → (e ≡ OutOfMemory) ⊎ (e ≡ WriteFault) → ⊥
+    by_numbers is (inl other) = let no : IdLimit ≡ OutOfMemory = sym is ∙ other in cc
+    by_numbers is (inr other) = let no : IdLimit ≡ WriteFault = sym is ∙ other in cc

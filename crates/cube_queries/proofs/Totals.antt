@@ -1,6 +1,6 @@
 -- What it costs to conjoin all clauses, and to answer all cubes.
 use Rattle.std.proofs.Common.{◌≡◌, ◌∙◌, ◌<◌, ◌≤◌, ◌+◌, ◌*◌, ◌-◌, ◌&&◌, ℕ, suc, Bool, false, ℤ, List, [], ◌∷◌}
-use Rattle.std.proofs.Common.{length, map, take, Contains, Option, None, Some, Ok, Err, Result, sym, ap, subst, arith, inl, inr}
+use Rattle.std.proofs.Common.{length, map, take, Contains, Option, None, Some, Ok, Err, Result, refl, sym, ap, subst, arith, inl, inr}
 use Rattle.std.specs.Prelude.{IsErrAnd, IsTrue, slice_index_or}
 use Rattle.std.specs.List.{list_all}
 use Rattle.std.proofs.Math.Nat.{add-mul, mul-le-mul_right}
@@ -11,23 +11,28 @@ use Rattle.node_table.specs.declared.error.TableError.{TableError}
 use Rattle.node_table.specs.declared.error.TableError.TheVariants.{NodeLimit}
 use Rattle.node_table.specs.Diagram.{levels}
 use Rattle.node_table.specs.Progress.{error_of}
+use Rattle.node_table.specs.Laws.{StepByStep}
+use Rattle.node_table.specs.Table.{live_nodes}
 use Rattle.node_table.specs.Value.{Levels, fixed_to}
 use Rattle.clause_terms.specs.Term.{by_variable}
 use Rattle.schedule_plan.specs.declared.limits.Limits.{Limits}
 use Rattle.schedule_plan.specs.Plan.{Term, both, clause_of_number, conjoin, input as input_term, term_holds}
-use Rattle.term_runner.specs.declared.held.HeldTerm.{HeldTerm}
-use Rattle.term_runner.specs.declared.runner.Runner.{Runner}
-use Rattle.term_runner.specs.Counting.{Counting}
-use Rattle.term_runner.specs.Price.{IsMovePrice}
-use Rattle.term_runner.specs.Runner.{IsGood, IsRunner, Releases, holds_in}
-use Rattle.term_runner.specs.Width.{HasWidth, IsInHand, IsWider, term_function}
-use Rattle.cube_queries.specs.Steps.{Costs, CostsAll, CostsCubes, CostsPlan, GivesBack, Goes, clause_in, function_in, functions_out}
+use Rattle.bdd_terms.specs.declared.held.HeldTerm.{HeldTerm}
+use Rattle.bdd_terms.specs.declared.runner.Runner.{Runner}
+use Rattle.bdd_terms.specs.Counting.{Counting}
+use Rattle.bdd_terms.specs.Price.{IsMovePrice}
+use Rattle.bdd_terms.specs.Runner.{IsGood, IsListed, IsRunner, Releases, holds_in}
+use Rattle.term_runner.specs.Width.{HasWidth, IsInHand, IsWider}
+use Rattle.bdd_terms.specs.Parts.{term_function}
+use Rattle.cube_queries.specs.Steps.{Costs, CostsAll, CostsCubes, CostsPlan, Goes, clause_in, formula_holds, function_in, functions_out}
 use Rattle.cube_queries.specs.Steps.{functions_with}
-use Rattle.cube_queries.specs.Width.{HaveMore, IsWiderAt, functions_at, moves_of}
-use Rattle.cube_queries.proofs.Costed.{function_is, top_released}
-use Rattle.cube_queries.proofs.Moves.{all_up_to, both_there, clause_there, front_holds, front_there, moves_more, moves_rise, pushed_at}
-use Rattle.cube_queries.proofs.Moves.{stage_of, wider_first, wider_next}
-use Rattle.cube_queries.proofs.Parts.{among_cases}
+use Rattle.cube_queries.specs.Width.{HaveMore, numbers_of_cubes, plan_of}
+use Rattle.cube_queries.specs.Sums.{AreAllReached}
+use Rattle.cube_queries.proofs.Added.{few_nodes}
+use Rattle.cube_queries.proofs.Costed.{function_is, more_of_whole, top_released}
+use Rattle.cube_queries.proofs.Moves.{all_up_to, both_there, clause_there, formula_function, front_holds, front_there, moves_more, moves_rise, pushed_at}
+use Rattle.cube_queries.proofs.Moves.{stage_of, wider_first, wider_next, wider_whole}
+use Rattle.cube_queries.proofs.Parts.{among_cases, first_among}
 
 -- the formula is the runner's
 pub within_old : {S : Type 0} (old : Runner S) (formula : Formula) → old.formula.now ≡ formula → (place : ℕ) → place < length formula.clauses
@@ -198,103 +203,58 @@ pub plan_handed : {S T : Type 0} (old new : Runner S) (error : TableError) (r : 
 plan_handed old new error (Ok x) is costs = absurd is
 plan_handed old new error (Err e) is costs = subst (λ (e : TableError). CostsPlan old new (Some e)) (sym is) costs
 
--- no numbers but those of the first cubes
-pub record PaidCubes {S : Type 0} (cubes : List (List ℤ)) (place : ℕ) (old new : Runner S) : Type 0 where
-  pub paid : (width price : ℕ) → (IsWiderAt old.formula.now old.terms.table.graph.order cubes width → ⊥)
-      → IsMovePrice (levels old.terms.table.graph) old.limits.cache width price
-      → new.terms.table.book.state.top ≤ old.terms.table.book.state.top + place * price
+-- What the cubes cost: their own numbers, and those of the nodes' sums, of which there are no more than parts of the formula's function.
+module _ {S : Type 0} (steps : StepByStep S) (counting : Counting S) (cubes : List (List ℤ)) (old mid new : Runner S) (held : HeldTerm)
+    (goes : Goes old mid None) (is : IsRunner mid) (reached : AreAllReached mid) (alone : IsListed [] mid.terms.out.items held)
+    (good : IsGood mid held) (value : (a : Assignment) → holds_in mid held a ≡ formula_holds mid.formula.now a)
+    (few : new.terms.table.book.state.top ≤ old.terms.table.book.state.top + (live_nodes mid.terms.table.graph + length cubes))
+    (none : cubes ≡ [] → new.terms.table.book.state.top ≤ old.terms.table.book.state.top) where
+  nodes_within : (width : ℕ) → HasWidth old.formula.now old.terms.table.graph.order (plan_of old.formula.now) width
+      → live_nodes mid.terms.table.graph ≤ width
+  nodes_within width most = few_nodes steps counting mid is reached width (λ have. most
+      (wider_whole old.formula.now old.terms.table.graph.order width
+      (subst (λ (f : Formula). HaveMore (formula_function f old.terms.table.graph.order ∷ []) width) (ap (λ f. f.now) goes.formula)
+      (subst (λ (o : List ℕ). HaveMore (formula_function mid.formula.now o ∷ []) width) goes.order
+      (more_of_whole counting mid held is alone good value width have)))))
 
-pub no_cubes : {S : Type 0} (cubes : List (List ℤ)) (runner : Runner S) → PaidCubes cubes 0 runner runner
-no_cubes cubes runner = record { paid = λ width price most is. omega arith }
+  paid : (list : List (List ℤ)) → cubes ≡ list → (width : ℕ)
+      → HasWidth old.formula.now old.terms.table.graph.order (plan_of old.formula.now) width
+      → new.terms.table.book.state.top ≤ old.terms.table.book.state.top + numbers_of_cubes width list
+  paid [] same width most = let own = none same in omega (arith, own)
+  paid (cube ∷ more) same width most = omega (arith, few, nodes_within width most, ap length same)
 
--- nodes that are given back take no numbers
-pub cubes_back : {S T : Type 0} (cubes : List (List ℤ)) (place : ℕ) (old mid new : Runner S) (result : Result T TableError) → PaidCubes cubes place old mid
-    → GivesBack mid new result → PaidCubes cubes place old new
-cubes_back cubes place old mid new result before back = record {
-  paid = λ width price most is. let one = before.paid width price most is in omega (arith, one, back.top);
-}
+  pub cubes_cost : CostsCubes cubes old new
+  cubes_cost = record { paid = paid cubes refl }
 
--- some cubes are no more than all
-pub cubes_done : {S : Type 0} (cubes : List (List ℤ)) (place : ℕ) (old new : Runner S) (error : Option TableError) → place ≤ length cubes
-    → (error ≡ Some NodeLimit → ⊥) → PaidCubes cubes place old new → CostsCubes cubes old new error
-cubes_done cubes place old new error within no_limit before = record {
-  short = λ is. absurd (no_limit is);
-  paid = λ width price most is.
-      let one = before.paid width price most is in
-      let more : place * price ≤ length cubes * price = mul-le-mul_right price within in
-      omega (arith, one, more);
-}
-
--- One cube more.
-module _ {S : Type 0} (cubes : List (List ℤ)) (old mid new : Runner S) (place : ℕ) (within : place < length cubes) (goes : Goes old mid None)
-    (before : PaidCubes cubes place old mid) (error : Option TableError)
-    (costs : Costs 1 (functions_at mid.formula.now mid.terms.table.graph.order (slice_index_or cubes place [])) mid new error) where
-  wider_at : (number : ℕ) → HaveMore (functions_at mid.formula.now mid.terms.table.graph.order (slice_index_or cubes place [])) number
-      → IsWiderAt old.formula.now old.terms.table.graph.order cubes number
-  wider_at number have = record {
-    cube = slice_index_or cubes place [];
-    asked = Contains-get_or cubes place [] within;
-    more = subst (λ (f : Formula). HaveMore (functions_at f old.terms.table.graph.order (slice_index_or cubes place [])) number)
-        (ap (λ f. f.now) goes.formula)
-        (subst (λ (o : List ℕ). HaveMore (functions_at mid.formula.now o (slice_index_or cubes place [])) number) goes.order have);
-  }
-
-  pub cube_costs : PaidCubes cubes (place + 1) old new
-  cube_costs = record {
-    paid = λ width price most is.
-        let one = before.paid width price most is in
-        let other = costs.paid width price (λ have. most (wider_at width have))
-        (subst (λ (n : ℕ). IsMovePrice n mid.limits.cache width price) (sym (ap length goes.order))
-        (subst (λ (l : Limits). IsMovePrice (levels old.terms.table.graph) l.cache width price) (sym goes.limits) is)) in
-        omega (arith, one, other, add-mul place 1 price);
-  }
-
-  pub cube_short : CostsCubes cubes old new error
-  cube_short = record {
-    short = λ is. wider_at old.limits.max_nodes
-        (subst (λ (l : Limits). HaveMore (functions_at mid.formula.now mid.terms.table.graph.order (slice_index_or cubes place [])) l.max_nodes)
-        goes.limits (costs.short is));
-    paid = λ width price most is.
-        let one = cube_costs.paid width price most is in
-        let more : (place + 1) * price ≤ length cubes * price = mul-le-mul_right price (omega (arith, within)) in
-        omega (arith, one, more);
-  }
-
-pub cubes_handed : {S T : Type 0} (cubes : List (List ℤ)) (old new : Runner S) (error : TableError) (r : Result T TableError)
-    → IsErrAnd r (λ e. e ≡ error) → CostsCubes cubes old new (Some error) → CostsCubes cubes old new (error_of r)
-cubes_handed cubes old new error (Ok x) is costs = absurd is
-cubes_handed cubes old new error (Err e) is costs = subst (λ (e : TableError). CostsCubes cubes old new (Some e)) (sym is) costs
+-- none was answered
+pub no_cubes_cost : {S : Type 0} (cubes : List (List ℤ)) (old new : Runner S)
+    → new.terms.table.book.state.top ≡ old.terms.table.book.state.top → CostsCubes cubes old new
+no_cubes_cost cubes old new top = record { paid = λ width most. omega (arith, top) }
 
 -- the clauses, and then the cubes
 pub costs_all : {S : Type 0} (cubes : List (List ℤ)) (old mid new : Runner S) (error : Option TableError) → Goes old mid None
-    → CostsPlan old mid None → CostsCubes cubes mid new error → CostsAll cubes old new error
-costs_all cubes old mid new error goes plan all = record {
-  short = λ is. inr (still old.limits.max_nodes (subst (λ (l : Limits). IsWiderAt mid.formula.now mid.terms.table.graph.order cubes l.max_nodes)
-      goes.limits (all.short is)));
+    → (error ≡ Some NodeLimit → ⊥) → CostsPlan old mid None → CostsCubes cubes mid new → CostsAll cubes old new error
+costs_all cubes old mid new error goes no_limit plan all = record {
+  short = λ is. absurd (no_limit is);
   paid = λ width price most is.
-      let one = plan.paid width price (λ wider. most (inl wider)) is in
-      let other = all.paid width price (λ wider. most (inr (still width wider)))
-      (subst (λ (n : ℕ). IsMovePrice n mid.limits.cache width price) (sym (ap length goes.order))
-      (subst (λ (l : Limits). IsMovePrice (levels old.terms.table.graph) l.cache width price) (sym goes.limits) is)) in
-      omega (arith, one, other, add-mul (length (conjoin (length old.formula.now.clauses))) (length cubes) price);
+      let one = plan.paid width price most is in
+      let other = all.paid width (λ wider. most (still width wider)) in
+      omega (arith, one, other);
 }
   where
-    still : (number : ℕ) → IsWiderAt mid.formula.now mid.terms.table.graph.order cubes number
-        → IsWiderAt old.formula.now old.terms.table.graph.order cubes number
-    still number wider = subst (λ (f : Formula). IsWiderAt f old.terms.table.graph.order cubes number) (ap (λ f. f.now) goes.formula)
-        (subst (λ (o : List ℕ). IsWiderAt mid.formula.now o cubes number) goes.order wider)
+    still : (number : ℕ) → IsWider mid.formula.now mid.terms.table.graph.order (plan_of mid.formula.now) number
+        → IsWider old.formula.now old.terms.table.graph.order (plan_of old.formula.now) number
+    still number wider = subst (λ (f : Formula). IsWider f old.terms.table.graph.order (plan_of f) number) (ap (λ f. f.now) goes.formula)
+        (subst (λ (o : List ℕ). IsWider mid.formula.now o (plan_of mid.formula.now) number) goes.order wider)
 
 -- where the formula's term failed
 pub costs_plan : {S T : Type 0} (cubes : List (List ℤ)) (old new : Runner S) (error : TableError) (r : Result T TableError)
     → IsErrAnd r (λ e. e ≡ error) → CostsPlan old new (Some error) → CostsAll cubes old new (error_of r)
 costs_plan cubes old new error (Ok x) is plan = absurd is
 costs_plan cubes old new error (Err e) is plan = record {
-  short = λ met. inl (plan.short (ap Some (sym is) ∙ met));
+  short = λ met. plan.short (ap Some (sym is) ∙ met);
   paid = λ width price most cost.
-      let one = plan.paid width price (λ wider. most (inl wider)) cost in
-      let more : length (conjoin (length old.formula.now.clauses)) * price ≤ moves_of old.formula.now cubes * price =
-      mul-le-mul_right price (omega arith) in
-      omega (arith, one, more);
+      let one = plan.paid width price most cost in omega (arith, one);
 }
 
 -- and behind the release

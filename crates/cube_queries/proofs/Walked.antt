@@ -5,9 +5,9 @@ use Rattle.std.proofs.lemmas.Bool.{and_parts}
 use Rattle.cnf_base.specs.Cube.{cube_holds}
 use Rattle.cnf_base.specs.Truth.{Assignment, assignment_of}
 use Rattle.cube_models.specs.Least as walk
-use Rattle.term_runner.specs.declared.held.HeldTerm.{HeldTerm}
-use Rattle.term_runner.specs.declared.runner.Runner.{Runner}
-use Rattle.term_runner.specs.Runner.{IsRunner, holds_in}
+use Rattle.bdd_terms.specs.declared.held.HeldTerm.{HeldTerm}
+use Rattle.bdd_terms.specs.declared.runner.Runner.{Runner}
+use Rattle.bdd_terms.specs.Runner.{IsRunner, holds_in}
 use Rattle.cube_queries.specs.Answers.{IsLeastModel}
 use Rattle.cube_queries.specs.Steps.{formula_holds}
 

@@ -10,10 +10,10 @@ use Rattle.node_table.specs.declared.node.Node.TheVariants.{False}
 use Rattle.node_table.specs.Laws.{StepByStep}
 use Rattle.node_table.specs.Value.{by_level, value_of}
 use Rattle.schedule_plan.specs.Plan.{input as input_term, term_holds}
-use Rattle.term_runner.specs.declared.held.HeldTerm.{HeldTerm}
-use Rattle.term_runner.specs.declared.runner.Runner.{Runner}
-use Rattle.term_runner.specs.declared.term.Term.{Term}
-use Rattle.term_runner.specs.Runner.{IsListed, IsRunner, holds_in, true_term}
+use Rattle.bdd_terms.specs.declared.held.HeldTerm.{HeldTerm}
+use Rattle.bdd_terms.specs.declared.runner.Runner.{Runner}
+use Rattle.bdd_terms.specs.declared.term.Term.{Term}
+use Rattle.bdd_terms.specs.Runner.{IsListed, IsRunner, holds_in, true_term}
 use Rattle.cube_queries.specs.Steps.{Goes, Takes, TakesOver, formula_holds}
 use Rattle.cube_queries.proofs.Formulas.{all_taken, empty_holds, none_holds, one_more}
 use Rattle.cube_queries.proofs.Joined.{over_of}

@@ -1,11 +1,11 @@
 -- Steps of a session of cubes: calls of a runner.
-use Rattle.std.specs.Prelude.{◌≡◌, ◌≢◌, ◌≤◌, ◌+◌, ◌*◌, ◌&&◌, ℕ, Bool, false, List, [], ◌∷◌, Result, Err, IfOk, IsErr}
+use Rattle.std.specs.Prelude.{◌≡◌, ◌≢◌, ◌⊎◌, ◌≤◌, ◌+◌, ◌*◌, ◌&&◌, ℕ, Bool, false, List, [], ◌∷◌, Result, Err, IfOk, IsErr}
 use Rattle.std.specs.Prelude.{Option, Some, ℤ, length}
 use Rattle.std.specs.List.{list_all}
 use Rattle.cnf_base.specs.Formula.{Formula}
 use Rattle.cnf_base.specs.Truth.{Assignment, clause_holds}
 use Rattle.node_table.specs.declared.error.TableError.{TableError}
-use Rattle.node_table.specs.declared.error.TableError.TheVariants.{NodeLimit}
+use Rattle.node_table.specs.declared.error.TableError.TheVariants.{IdLimit, NodeLimit}
 use Rattle.node_table.specs.declared.node.Node.TheVariants.{False}
 use Rattle.node_table.specs.Diagram.{levels}
 use Rattle.node_table.specs.Progress.{Leaves, error_of}
@@ -13,17 +13,17 @@ use Rattle.node_table.specs.Table.{UnlessTorn}
 use Rattle.node_table.specs.Tied.{KeepsClauses}
 use Rattle.node_table.specs.Value.{Levels}
 use Rattle.clause_terms.specs.Term.{by_variable}
-use Rattle.schedule_plan.specs.Plan.{conjoin, input as input_term, term_holds}
-use Rattle.term_runner.specs.declared.held.HeldTerm.{HeldTerm}
-use Rattle.term_runner.specs.declared.runner.Runner.{Runner}
-use Rattle.term_runner.specs.declared.term.Term.{Term}
-use Rattle.term_runner.specs.Price.{IsMovePrice}
-use Rattle.term_runner.specs.Runner.{IsListed, IsRunner, holds_in}
-pub use Rattle.term_runner.specs.Takes.{KeepsTerms, function_in, functions_out}
+use Rattle.schedule_plan.specs.Plan.{input as input_term, term_holds}
+use Rattle.bdd_terms.specs.declared.held.HeldTerm.{HeldTerm}
+use Rattle.bdd_terms.specs.declared.runner.Runner.{Runner}
+use Rattle.bdd_terms.specs.declared.term.Term.{Term}
+use Rattle.bdd_terms.specs.Price.{IsMovePrice}
+use Rattle.bdd_terms.specs.Runner.{IsListed, IsRunner, holds_in}
+pub use Rattle.bdd_terms.specs.Takes.{KeepsTerms, function_in, functions_out}
 use Rattle.term_runner.specs.Width.{HasWidth, IsWider}
 use Rattle.cube_queries.specs.declared.answer.Answer.{Answer}
 use Rattle.cube_queries.specs.Answers.{AreAnswers, IsAnswer}
-use Rattle.cube_queries.specs.Width.{HaveMore, IsWiderAt, NeedsAtMost, NeedsMore, moves_of}
+use Rattle.cube_queries.specs.Width.{HaveMore, numbers_of_cubes, plan_of}
 
 -- What a step leaves, however it ends: the formula, the limits, the order and the sink stay, and the proof goes on.
 pub record Goes {S : Type 0} (old new : Runner S) (error : Option TableError) : Type 0 where
@@ -49,6 +49,7 @@ pub record GivesBack {S T : Type 0} (old new : Runner S) (result : Result T Tabl
   pub out : new.terms.out.items ≡ old.terms.out.items
   pub keeps : UnlessTorn result (KeepsTerms old new)
   pub no_limit : result ≢ Err NodeLimit
+  pub no_numbers : result ≢ Err IdLimit
   pub top : new.terms.table.book.state.top ≡ old.terms.table.book.state.top
   pub goes : Goes old new (error_of result)
 
@@ -71,23 +72,30 @@ TakesAlone holds old new result = TakesOver [] holds old new result
 abbrev pub formula_holds : Formula → Assignment → Bool
 formula_holds formula a = list_all (clause_holds a) formula.clauses
 
--- A step answers a cube, beside a term that stays. No clause is deleted, and no limit of nodes is met.
+-- no number is left
+abbrev pub IsSpent : {S : Type 0} → Runner S → Type 0
+IsSpent runner = runner.terms.table.book.limit ≤ runner.terms.table.book.state.top
+
+-- A step answers a cube, beside a term that stays. No clause is deleted, no limit of nodes is met, and that of numbers only where none is
+-- left.
 pub record Replies {S : Type 0} (cube : List ℤ) (old new : Runner S) (result : Result Answer TableError) : Type 0 where
   pub goes_on : UnlessTorn result (IsRunner new)
   pub out : new.terms.out.items ≡ old.terms.out.items
   pub keeps : UnlessTorn result (KeepsTerms old new)
   pub clauses : KeepsClauses old.terms.table.book.state.live new.terms.table.book.state.live
   pub no_limit : result ≢ Err NodeLimit
+  pub spent : result ≡ Err IdLimit → IsSpent new
   pub answer : IfOk result (IsAnswer new.formula.now new.terms.table.graph.order new.terms.table.book.steps new.terms.table.book.state.live
       cube)
   pub goes : Goes old new (error_of result)
 
--- Cubes are answered, one by one. Where the limit of nodes is met nothing is refuted.
+-- Cubes are answered, one by one. Where the limit of nodes is met nothing is refuted, and where that of numbers is, unless none is left.
 pub record RepliesAll {S : Type 0} (cubes : List (List ℤ)) (old new : Runner S) (result : Result (List Answer) TableError) : Type 0 where
   pub goes_on : UnlessTorn result (IsRunner new)
   pub answers : IfOk result (AreAnswers new.formula.now new.terms.table.graph.order new.terms.table.book.steps
       new.terms.table.book.state.live cubes)
   pub unrefuted : result ≡ Err NodeLimit → old.refuted ≡ false → new.refuted ≡ false
+  pub behind : result ≡ Err IdLimit → old.refuted ≡ false → (new.refuted ≡ false) ⊎ IsSpent new
   pub goes : Goes old new (error_of result)
 
 -- a clause's function by levels
@@ -110,22 +118,22 @@ pub record Costs {S : Type 0} (moves : ℕ) (functions : List (Levels → Bool))
 -- What it costs to conjoin all clauses: as the plan does.
 pub record CostsPlan {S : Type 0} (old new : Runner S) (error : Option TableError) : Type 0 where
   pub short : error ≡ Some NodeLimit
-      → IsWider old.formula.now old.terms.table.graph.order (conjoin (length old.formula.now.clauses)) old.limits.max_nodes
+      → IsWider old.formula.now old.terms.table.graph.order (plan_of old.formula.now) old.limits.max_nodes
   pub paid : (width price : ℕ)
-      → HasWidth old.formula.now old.terms.table.graph.order (conjoin (length old.formula.now.clauses)) width
+      → HasWidth old.formula.now old.terms.table.graph.order (plan_of old.formula.now) width
       → IsMovePrice (levels old.terms.table.graph) old.limits.cache width price
-      → new.terms.table.book.state.top ≤ old.terms.table.book.state.top + length (conjoin (length old.formula.now.clauses)) * price
+      → new.terms.table.book.state.top ≤ old.terms.table.book.state.top + length (plan_of old.formula.now) * price
 
--- What it costs to answer cubes: a move each.
-pub record CostsCubes {S : Type 0} (cubes : List (List ℤ)) (old new : Runner S) (error : Option TableError) : Type 0 where
-  pub short : error ≡ Some NodeLimit → IsWiderAt old.formula.now old.terms.table.graph.order cubes old.limits.max_nodes
-  pub paid : (width price : ℕ) → (IsWiderAt old.formula.now old.terms.table.graph.order cubes width → ⊥)
-      → IsMovePrice (levels old.terms.table.graph) old.limits.cache width price
-      → new.terms.table.book.state.top ≤ old.terms.table.book.state.top + length cubes * price
+-- What it costs to answer cubes: a number each, those of the formula's nodes once, and no node.
+pub record CostsCubes {S : Type 0} (cubes : List (List ℤ)) (old new : Runner S) : Type 0 where
+  pub paid : (width : ℕ) → HasWidth old.formula.now old.terms.table.graph.order (plan_of old.formula.now) width
+      → new.terms.table.book.state.top ≤ old.terms.table.book.state.top + numbers_of_cubes width cubes
 
 -- and both
 pub record CostsAll {S : Type 0} (cubes : List (List ℤ)) (old new : Runner S) (error : Option TableError) : Type 0 where
-  pub short : error ≡ Some NodeLimit → NeedsMore old.formula.now old.terms.table.graph.order cubes old.limits.max_nodes
-  pub paid : (width price : ℕ) → NeedsAtMost old.formula.now old.terms.table.graph.order cubes width
+  pub short : error ≡ Some NodeLimit
+      → IsWider old.formula.now old.terms.table.graph.order (plan_of old.formula.now) old.limits.max_nodes
+  pub paid : (width price : ℕ) → HasWidth old.formula.now old.terms.table.graph.order (plan_of old.formula.now) width
       → IsMovePrice (levels old.terms.table.graph) old.limits.cache width price
-      → new.terms.table.book.state.top ≤ old.terms.table.book.state.top + moves_of old.formula.now cubes * price
+      → new.terms.table.book.state.top ≤ old.terms.table.book.state.top + length (plan_of old.formula.now) * price
+      + numbers_of_cubes width cubes

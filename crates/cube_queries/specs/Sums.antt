@@ -1,25 +1,26 @@
 -- Sums of nodes on the proof, and steps that add clauses alone.
-use Rattle.std.specs.Prelude.{◌≡◌, ◌≢◌, ◌⊎◌, ◌≤◌, ◌+◌, ℕ, ℤ, List, [], Result, Err, Some, is_some}
+use Rattle.std.specs.Prelude.{◌≡◌, ◌≢◌, ◌⊎◌, ◌≤◌, ◌+◌, ℕ, ℤ, List, [], Result, Err, Some, IsOk, is_some}
 use Rattle.std.specs.FinMap as map
 use Rattle.std.specs.Ordering.{nat_cmp}
 use Rattle.lrat_rules.specs.State.{Live, clause_at}
 use Rattle.hint_chain.specs.Atoms.{clause_from_atoms}
 use Rattle.node_table.specs.declared.error.TableError.{TableError}
-use Rattle.node_table.specs.declared.error.TableError.TheVariants.{NodeLimit}
+use Rattle.node_table.specs.declared.error.TableError.TheVariants.{IdLimit, NodeLimit}
 use Rattle.node_table.specs.declared.node.Branch.{Branch}
 use Rattle.node_table.specs.Defined.{one_if}
 use Rattle.node_table.specs.Diagram.{Graph, branch_at}
 use Rattle.node_table.specs.Made.{inner}
 use Rattle.node_table.specs.Marks.{IsReached}
 use Rattle.node_table.specs.Progress.{error_of}
-use Rattle.node_table.specs.Table.{UnlessTorn}
+use Rattle.node_table.specs.Table.{UnlessTorn, live_nodes}
 use Rattle.node_table.specs.Tied.{KeepsClauses}
 use Rattle.cube_models.specs.Denied.{AreSums, sum_atoms}
-use Rattle.term_runner.specs.declared.runner.Runner.{Runner}
-use Rattle.term_runner.specs.Runner.{IsRunner, nodes_of}
-use Rattle.cube_queries.specs.Steps.{Goes}
+use Rattle.bdd_terms.specs.declared.runner.Runner.{Runner}
+use Rattle.bdd_terms.specs.Runner.{IsRunner, nodes_of}
+use Rattle.cube_queries.specs.Steps.{Goes, IsSpent}
 
--- Clauses are added, so many at most, beside the same terms and nodes. None is deleted, and no limit of nodes is met.
+-- Clauses are added, so many at most, beside the same terms and nodes. None is deleted, no limit of nodes is met, and that
+-- of numbers only where none is left.
 pub record Adds {S T : Type 0} (most : ℕ) (old new : Runner S) (result : Result T TableError) : Type 0 where
   pub goes_on : UnlessTorn result (IsRunner new)
   pub out : new.terms.out.items ≡ old.terms.out.items
@@ -28,6 +29,7 @@ pub record Adds {S T : Type 0} (most : ℕ) (old new : Runner S) (result : Resul
   pub top : new.terms.table.book.state.top ≤ old.terms.table.book.state.top + most
   pub goes : Goes old new (error_of result)
   pub no_limit : result ≢ Err NodeLimit
+  pub spent : result ≡ Err IdLimit → IsSpent new
 
 -- this is the number of the sum of a node, if it has one
 abbrev pub IsSumAt : Graph → Live → ℕ → ℕ → Type 0
@@ -41,6 +43,13 @@ one_at nodes key = one_if (is_some (map.get nodes key))
 -- none yet, or those of all nodes
 abbrev pub AreReady : Graph → Live → List ℕ → Type 0
 AreReady graph live sums = (sums ≡ []) ⊎ AreSums graph live sums
+
+-- A cube takes one number, and those of the sums where there are none yet: these are added once.
+pub record AddsOnce {S T : Type 0} (before after : List ℕ) (old new : Runner S) (result : Result T TableError) : Type 0 where
+  pub most : new.terms.table.book.state.top ≤ old.terms.table.book.state.top + live_nodes old.terms.table.graph + 1
+  pub there : before ≢ [] → new.terms.table.book.state.top ≤ old.terms.table.book.state.top + 1
+  pub stay : before ≢ [] → after ≢ []
+  pub none : IsOk result → after ≡ [] → new.terms.table.book.state.top ≤ old.terms.table.book.state.top + 1
 
 -- each node is one that a term reaches
 abbrev pub AreAllReached : {S : Type 0} → Runner S → Type 0

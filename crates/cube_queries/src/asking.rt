@@ -5,7 +5,9 @@ ghost use Rattle.cube_text.specs.CubeText.{AreCubes};
 ghost use Rattle.cube_queries.specs.Ends.{Ends, IsFlushed, outcome_of};
 
 use crate::answer::{Answers, Outcome};
+use crate::gauge::Gauge;
 use crate::session::reply_all;
+use bdd_terms::{Parts, RunError, Runner};
 use cnf_base::Cnf;
 use cube_text::Cubes;
 use host_io::Sink;
@@ -13,7 +15,6 @@ use lrat_rules::{derivation_law, marks_law, start_law};
 use node_table::{TableError, in_use_law};
 use schedule_plan::{Limits, Order};
 use std::alloc::Global;
-use term_runner::{Parts, RunError, Runner};
 
 /// Answers cubes over a formula, and writes one proof to a sink, which is handed back. With an answer, and where a limit is reached, all
 /// that was written is flushed.
@@ -33,11 +34,12 @@ pub fn ask<S: Sink + Drop>(
     ensures beside { S.beside result.0 ≡ S.beside sink }
 {
     let mut sink = sink;
-    let result = ask_into(alloc, formula, order, cubes, limits, &mut sink);
+    let gauge = Gauge::new();
+    let result = ask_into(alloc, formula, order, cubes, limits, &mut sink, &gauge);
     (sink, result)
 }
 
-/// As `ask`, over a sink that is lent.
+/// As `ask`, over a sink that is lent. The gauge shows how far it is.
 pub fn ask_into<S: Sink + Drop>(
     alloc: Global,
     formula: &Cnf,
@@ -45,6 +47,7 @@ pub fn ask_into<S: Sink + Drop>(
     cubes: &Cubes,
     limits: Limits,
     sink: &mut S,
+    gauge: &Gauge,
 ) -> Result<Outcome, RunError>
     requires order { length order.now ≡ formula.now.vars }
     requires cubes { AreCubes formula.now.vars cubes.now }
@@ -58,11 +61,12 @@ pub fn ask_into<S: Sink + Drop>(
     marks_law();
     in_use_law();
     formula.formula_law();
+    gauge.begin(formula.len() as u64, cubes.len());
     let Ok(parts) = Parts::new(alloc, order, limits.cache) else {
         return Err(RunError::OutOfMemory);
     };
     let mut runner = Runner::new(alloc, formula, order, parts, limits, sink);
-    let found = reply_all(alloc, &mut runner, formula, cubes);
+    let found = reply_all(alloc, &mut runner, formula, cubes, gauge);
     runner.proof_law();
     let (sink, result) = finish(runner, outcome_of(found));
     // What was lent goes back.

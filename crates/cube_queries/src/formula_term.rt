@@ -2,14 +2,14 @@
 ghost use Rattle.std.specs.Prelude.{◌≡◌, ◌↔◌, [], IsTrue};
 ghost use Rattle.node_table.specs.declared.node.Node.TheVariants.{False};
 ghost use Rattle.node_table.specs.Progress.{error_of};
-ghost use Rattle.term_runner.specs.Runner.{IsRunner};
+ghost use Rattle.bdd_terms.specs.Runner.{IsRunner};
 ghost use Rattle.cube_queries.specs.Steps.{CostsPlan, TakesAlone, formula_holds};
 
 use crate::steps::with_clause;
+use bdd_terms::{Runner, Term, counting_law};
 use cnf_base::Cnf;
 use host_io::Sink;
 use node_table::{Node, TableError, growth_law, steps_law};
-use term_runner::{Runner, Term, counting_law};
 
 /// The term that holds where the formula does. Where a clause is empty it is that of the first such clause.
 pub(crate) fn term_of_formula<S: Sink + Drop>(

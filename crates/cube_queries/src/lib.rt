@@ -7,6 +7,7 @@
 mod answer;
 mod asking;
 mod formula_term;
+mod gauge;
 mod refusal;
 mod session;
 mod steps;
@@ -15,4 +16,5 @@ mod walk;
 
 pub use answer::{Answer, Answers, Outcome};
 pub use asking::{ask, ask_into};
+pub use gauge::{Gauge, Reading};
 pub use values::Values;

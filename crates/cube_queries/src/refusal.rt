@@ -1,26 +1,24 @@
 // The refusal of a cube: one clause, by hints over the nodes' clauses and their sums. The sums of all nodes are added before the first one,
 // and stand while no clause is deleted.
-ghost use Rattle.std.specs.Prelude.{◌≡◌, ◌++◌, ◌∷◌, [], IfOk, IsTrue, OnOk, true};
+ghost use Rattle.std.specs.Prelude.{◌≡◌, ◌≢◌, ◌≤◌, ◌++◌, ◌∷◌, [], IfOk, IsTrue, OnOk, true};
 ghost use Rattle.std.specs.List.{list_all};
 ghost use Rattle.cnf_base.specs.Cube.{cube_holds};
 ghost use Rattle.cnf_base.specs.Truth.{Assignment, is_literal_of};
 ghost use Rattle.node_table.specs.Diagram.{levels};
-ghost use Rattle.node_table.specs.Progress.{error_of};
 ghost use Rattle.node_table.specs.Table.{live_nodes};
 ghost use Rattle.cube_models.specs.Denied.{AreSums};
 ghost use Rattle.cube_models.specs.Finder.{FindsNone};
-ghost use Rattle.term_runner.specs.Runner.{IsListed, IsRunner, holds_in};
-ghost use Rattle.cube_queries.specs.Steps.{Costs, Replies, formula_holds};
-ghost use Rattle.cube_queries.specs.Sums.{Adds, AreAllReached, AreReady, IsSumAt, one_at};
-ghost use Rattle.cube_queries.specs.Width.{functions_at};
+ghost use Rattle.bdd_terms.specs.Runner.{IsListed, IsRunner, holds_in};
+ghost use Rattle.cube_queries.specs.Steps.{Replies, formula_holds};
+ghost use Rattle.cube_queries.specs.Sums.{Adds, AddsOnce, AreReady, IsSumAt, one_at};
 
 use crate::answer::Answer;
+use bdd_terms::{Runner, Term, counting_law};
 use cnf_base::{Id, Lit, OutOfMemory};
 use cube_models::{Finder, sum_of};
 use host_io::Sink;
 use node_table::{TableError, canonical_law, growth_law, steps_law};
 use std::alloc::Global;
-use term_runner::{Runner, Term, counting_law};
 
 /// Refuses a cube, for which the search beside the one term that is out found nothing.
 pub(crate) fn refuse<S: Sink + Drop>(
@@ -33,17 +31,15 @@ pub(crate) fn refuse<S: Sink + Drop>(
 ) -> Result<Answer, TableError>
     requires runner { IsRunner runner.old }
     requires alone { IsListed [] runner.old.terms.out.items term.now.held }
-    requires reached { AreAllReached runner.old }
     requires sums { AreReady runner.old.terms.table.graph runner.old.terms.table.book.state.live sums.old.items }
     requires value { (a : Assignment) → holds_in runner.old term.now.held a ≡ formula_holds runner.old.formula.now a }
     requires variables { IsTrue (list_all (is_literal_of (levels runner.old.terms.table.graph)) cube.now) }
     requires none { (a : Assignment) → formula_holds runner.old.formula.now a ≡ true → cube_holds a cube.now ≡ true → ⊥ }
     requires found { FindsNone runner.old.terms.table.graph term.now.held.node cube.now finder.now }
     ensures replies { Replies cube.now runner.old runner.new result }
-    ensures costs { Costs 1 (functions_at runner.old.formula.now runner.old.terms.table.graph.order cube.now) runner.old runner.new
-        (error_of result) }
     ensures nodes { runner.new.terms.table.graph ≡ runner.old.terms.table.graph }
     ensures sums { IfOk result (λ _. AreSums runner.new.terms.table.graph runner.new.terms.table.book.state.live sums.new.items) }
+    ensures once { AddsOnce sums.old.items sums.new.items runner.old runner.new result }
 {
     canonical_law();
     counting_law::<S>();
@@ -68,6 +64,8 @@ fn ready<S: Sink + Drop>(
     requires sums { AreReady runner.old.terms.table.graph runner.old.terms.table.book.state.live sums.old.items }
     ensures adds { Adds (live_nodes runner.old.terms.table.graph) runner.old runner.new result }
     ensures sums { IfOk result (λ _. AreSums runner.new.terms.table.graph runner.new.terms.table.book.state.live sums.new.items) }
+    ensures there { sums.old.items ≢ [] → (runner.new ≡ runner.old) × (sums.new.items ≡ sums.old.items) }
+    ensures none { IfOk result (λ _. sums.new.items ≡ [] → runner.new.terms.table.book.state.top ≤ runner.old.terms.table.book.state.top) }
 {
     steps_law::<S>();
     if !sums.is_empty() {
@@ -85,6 +83,8 @@ fn add_sums<S: Sink + Drop>(
     requires { IsRunner runner.old }
     ensures adds { Adds (live_nodes runner.old.terms.table.graph) runner.old runner.new result }
     ensures sums { IfOk result (λ sums. AreSums runner.new.terms.table.graph runner.new.terms.table.book.state.live sums.items) }
+    ensures none { IfOk result (λ sums. sums.items ≡ []
+        → runner.new.terms.table.book.state.top ≤ runner.old.terms.table.book.state.top) }
 {
     steps_law::<S>();
     let mut sums = Vec::new(alloc);

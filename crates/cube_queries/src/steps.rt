@@ -6,23 +6,22 @@ ghost use Rattle.cnf_base.specs.Truth.{Assignment, is_literal_of};
 ghost use Rattle.node_table.specs.Diagram.{levels};
 ghost use Rattle.node_table.specs.Progress.{error_of};
 ghost use Rattle.schedule_plan.specs.Plan.{input as input_term, term_holds};
-ghost use Rattle.term_runner.specs.declared.held.HeldTerm.{HeldTerm as HeldValue};
-ghost use Rattle.term_runner.specs.Runner.{IsGood, IsListed, IsRunner, holds_in};
+ghost use Rattle.bdd_terms.specs.declared.held.HeldTerm.{HeldTerm as HeldValue};
+ghost use Rattle.bdd_terms.specs.Runner.{IsGood, IsListed, IsRunner, holds_in};
 ghost use Rattle.cube_queries.specs.Steps.{Costs, Replies, TakesAlone, TakesOver, formula_holds};
 ghost use Rattle.cube_queries.specs.Steps.{function_in, functions_out, functions_with};
 ghost use Rattle.cube_models.specs.Finder.{IsFinder};
-ghost use Rattle.cube_queries.specs.Sums.{AreAllReached, AreReady};
-ghost use Rattle.cube_queries.specs.Width.{functions_at};
+ghost use Rattle.cube_queries.specs.Sums.{AddsOnce, AreReady};
 
 use crate::answer::Answer;
 use crate::refusal::refuse;
 use crate::walk::least_values;
+use bdd_terms::{Runner, Term, counting_law};
 use cnf_base::{Id, Lit};
 use cube_models::Finder;
 use host_io::Sink;
 use node_table::{TableError, steps_law};
 use std::alloc::Global;
-use term_runner::{Runner, Term, counting_law};
 
 /// The conjunction of the one term that is out, which is released, and the clause of this number.
 pub(crate) fn with_clause<S: Sink + Drop>(
@@ -100,17 +99,15 @@ pub(crate) fn reply<S: Sink + Drop>(
     requires runner { IsRunner runner.old }
     requires finder { IsFinder finder.old }
     requires alone { IsListed [] runner.old.terms.out.items term.now.held }
-    requires reached { AreAllReached runner.old }
     requires sums { AreReady runner.old.terms.table.graph runner.old.terms.table.book.state.live sums.old.items }
     requires value { (a : Assignment) → holds_in runner.old term.now.held a ≡ formula_holds runner.old.formula.now a }
     requires variables { IsTrue (list_all (is_literal_of (levels runner.old.terms.table.graph)) cube.now) }
     requires consistent { IsTrue (is_consistent cube.now) }
     ensures replies { Replies cube.now runner.old runner.new result }
-    ensures costs { Costs 1 (functions_at runner.old.formula.now runner.old.terms.table.graph.order cube.now) runner.old runner.new
-        (error_of result) }
     ensures finder { IsFinder finder.new }
     ensures nodes { runner.new.terms.table.graph ≡ runner.old.terms.table.graph }
     ensures sums { IfOk result (λ _. AreReady runner.new.terms.table.graph runner.new.terms.table.book.state.live sums.new.items) }
+    ensures once { AddsOnce sums.old.items sums.new.items runner.old runner.new result }
 {
     steps_law::<S>();
     let Some(values) = least_values(alloc, runner, finder, term, cube)? else {

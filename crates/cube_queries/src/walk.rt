@@ -5,16 +5,16 @@ ghost use Rattle.cnf_base.specs.Cube.{cube_holds, is_consistent};
 ghost use Rattle.cnf_base.specs.Truth.{Assignment, is_literal_of};
 ghost use Rattle.node_table.specs.Diagram.{levels};
 ghost use Rattle.cube_models.specs.Finder.{FindsNone, IsFinder};
-ghost use Rattle.term_runner.specs.Runner.{IsGood, IsRunner, holds_in};
+ghost use Rattle.bdd_terms.specs.Runner.{IsGood, IsRunner, holds_in};
 ghost use Rattle.cube_queries.specs.Answers.{IsLeastModel};
 ghost use Rattle.cube_queries.specs.Steps.{formula_holds};
 
 use crate::values::Values;
+use bdd_terms::{Runner, Term};
 use cnf_base::{Lit, OutOfMemory};
 use cube_models::Finder;
 use host_io::Sink;
 use std::alloc::Global;
-use term_runner::{Runner, Term};
 
 /// The least assignment that satisfies the formula of the term and the cube, if there is one. Only want of memory is refused.
 pub(crate) fn least_values<S: Sink + Drop>(

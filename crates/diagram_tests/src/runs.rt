@@ -3,6 +3,7 @@ ghost use Rattle.std.specs.Prelude.{◌≡◌, length};
 ghost use Rattle.schedule_plan.specs.Limits.{AreLimits};
 ghost use Rattle.schedule_plan.specs.Plan.{IsAdmissible};
 
+use bdd_terms::{RunError, Runner};
 use cnf_base::Cnf;
 use dimacs_reader::{Mode, read_cnf};
 use host_io::{NoSink, SliceSource};
@@ -10,7 +11,7 @@ use schedule_plan::{Order, Plan};
 use std::alloc::Global;
 use std::process::Abort;
 use std::test::Fail;
-use term_runner::{Limits, Outcome, Run, RunError, Runner, Watch, run, run_plan, try_plan};
+use term_runner::{Limits, Outcome, Run, Watch, run, run_plan, try_plan};
 
 // A formula, the limits of nodes and of numbers, and how the run, the run of an opened runner and the trial of its clauses' conjunction end,
 // with the last number; of the trial also the moves until half of the numbers were used, and all. The plan has three moves. The first clause

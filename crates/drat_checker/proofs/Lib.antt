@@ -32,7 +32,5 @@ pub mod Lifts
 pub mod Ends
 pub mod Candidates
 pub mod Resolvents
-pub mod Turns
-pub mod Wanted
 pub mod Verdicts
 pub mod Written

@@ -12,8 +12,9 @@ use Rattle.cnf_base.specs.ProofText.{max_literal, all_given, split_at, is_empty,
 use Rattle.lrat_text.specs.LineSteps.{no_more, overlong, step_then}
 use Rattle.lrat_rules.specs.declared.outcome.Reason.{Reason}
 use Rattle.lrat_rules.specs.Soundness.{has_no_zero}
-use Rattle.lrat_checker.specs.declared.verdict.Verdict.TheVariants.{Verified}
-use Rattle.lrat_checker.specs.TextVerdict.{end_verdict, judged, max_bytes, verdict_as}
+use Rattle.proof_judging.specs.declared.verdict.Verdict.TheVariants.{Verified}
+use Rattle.proof_judging.specs.Verdict.{end_verdict, judged, verdict_as}
+use Rattle.cnf_base.specs.Limits.{max_bytes}
 use Rattle.drat_text.specs.declared.step.DratStep.{DratStep}
 use Rattle.drat_text.specs.declared.step.DratStep.TheVariants.{Add as adds, Delete as deletes}
 use Rattle.drat_text.specs.DratText.{DratLine, clause_with, clause_from, clause_of, drat_step_of, drat_line_of, drat_lines}

@@ -1,27 +1,32 @@
 -- What a DRAT text says over a formula: its steps in turn from the formula's clauses on, up to the first bad line, to the end, or
 -- to the limit. (The format: Wetzler, Heule, Hunt: DRAT-trim, SAT 2014.)
-use Rattle.std.specs.Prelude.{ℕ, ◌+◌, Bool, false, ◌||◌, ℤ, List, [], ◌∷◌, Option, None, Some}
+use Rattle.std.specs.Prelude.{ℕ, ◌+◌, Bool, false, ℤ, List, [], ◌∷◌, Option, None, Some}
+use Rattle.cnf_base.specs.Limits.{max_bytes}
+use Rattle.lrat_text.specs.LineSteps.{StepsOf, steps_so_far_by}
+use Rattle.proof_judging.specs.declared.verdict.Verdict.{Verdict}
+use Rattle.proof_judging.specs.Verdict.{Format, verdict_by}
 use Rattle.drat_text.specs.declared.step.DratStep.{DratStep}
 use Rattle.drat_text.specs.DratText.{DratLine, drat_step_of}
 use Rattle.drat_text.specs.DratSteps.{drat_steps_in}
-use Rattle.lrat_text.specs.LineSteps.{StepsOf, no_more, overlong, no_step, next_step, steps_so_far_by}
-use Rattle.lrat_rules.specs.declared.outcome.Reason.TheVariants.{Syntax}
-use Rattle.lrat_checker.specs.declared.verdict.Verdict.{Verdict}
-use Rattle.lrat_checker.specs.declared.verdict.Verdict.TheVariants.{Refused}
-use Rattle.lrat_checker.specs.TextVerdict.{end_verdict, judged, max_bytes}
 use Rattle.drat_rules.specs.Clauses.{Equality, same_list}
 use Rattle.drat_rules.specs.Run.{after_by, adds_empty, drat_step_fault}
 
+-- Where a proof stands: the clauses that stand, and when a deletion takes one for its own.
+abbrev pub DratPlace : Type 0
+DratPlace = Equality × List (List ℤ)
+
+-- the rules of DRAT
+abbrev pub drat_format : Format DratPlace DratStep
+drat_format = record {
+  fault = λ place step. drat_step_fault place.1 step;
+  after = λ place step. (place.0, after_by place.0 place.1 step);
+  adds_empty = adds_empty;
+}
+
 -- The verdict of these steps where these clauses stand, and where earlier ones did or didn't add the empty clause. Nothing where
--- they are good up to the limit.
--- Clauses are told to be the same by this equality.
+-- they are good up to the limit. Clauses are told to be the same by this equality.
 abbrev pub drat_steps_verdict_by : Equality → List (List ℤ) → Bool → StepsOf DratStep → Option Verdict
-drat_steps_verdict_by same clauses has_empty (no_more line) = Some (end_verdict has_empty line)
-drat_steps_verdict_by same clauses has_empty overlong = None
-drat_steps_verdict_by same clauses has_empty (no_step line) = Some (Refused line Syntax)
-drat_steps_verdict_by same clauses has_empty (next_step step line steps) =
-    judged (drat_step_fault clauses step) line
-    (drat_steps_verdict_by same (after_by same clauses step) (has_empty || adds_empty step) steps)
+drat_steps_verdict_by same clauses has_empty steps = verdict_by drat_format (same, clauses) has_empty steps
 
 -- the verdict of a text, nothing where it is too long and no line under the limit is bad
 abbrev pub drat_text_verdict_by : Equality → List (List ℤ) → List ℕ → Option Verdict

@@ -3,8 +3,9 @@ ghost use Rattle.std.specs.Prelude.{◌≡◌, ℕ, ◌+◌, ◌<◌, ◌≤◌,
 ghost use Rattle.std.specs.List.{list_all};
 ghost use Rattle.cnf_base.specs.Text.{end_line};
 ghost use Rattle.cnf_base.specs.Truth.{Assignment, AreClausesOf, Satisfies};
-ghost use Rattle.lrat_checker.specs.declared.verdict.Verdict.TheVariants.{Verified};
-ghost use Rattle.lrat_checker.specs.TextVerdict.{max_bytes, verdict_as};
+ghost use Rattle.proof_judging.specs.declared.verdict.Verdict.TheVariants.{Verified};
+ghost use Rattle.proof_judging.specs.Verdict.{verdict_as};
+ghost use Rattle.cnf_base.specs.Limits.{max_bytes};
 ghost use Rattle.drat_text.specs.declared.step.DratStep.{DratStep};
 ghost use Rattle.drat_text.specs.DratText.{drat_lines, drat_text, is_drat_printable};
 ghost use Rattle.drat_rules.specs.Clauses.{Equality};

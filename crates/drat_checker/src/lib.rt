@@ -4,7 +4,7 @@
 //! Clauses have numbers; unit propagation is over two watched literals of each, and the literals that are false whatever is added are kept
 //! from line to line. Each literal that is false has the clause that forced it, so that a good addition can be written as a line of an LRAT
 //! proof: by a `NumberedJudge` and its `LineHints`.
-//! Stands on the rules of drat_rules, and on drat_text, whose reader gives the steps.
+//! Stands on the rules of drat_rules, on drat_text, whose reader gives the steps, and on proof_judging, whose loop judges them.
 #![tactic(auto)]
 
 mod addition;

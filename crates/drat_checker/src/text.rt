@@ -1,25 +1,24 @@
 // The check of a DRAT text: a reader gives its steps in turn, and a judge takes them.
-ghost use Rattle.std.specs.Prelude.{◌≡◌, ◌≢◌, ◌||◌, ◌⊎◌, false, length, None, Err, IsTrue};
+ghost use Rattle.std.specs.Prelude.{◌≡◌, ◌≢◌, ◌||◌, ◌⊎◌, length, None, Err, IsTrue, ⊤};
 ghost use Rattle.host_io.specs.Channel.{Rose};
 ghost use Rattle.text_scan.specs.Decides.{gained, Decides, OnlyReads};
-ghost use Rattle.lrat_text.specs.declared.reader.ReaderStatus.TheVariants.{Reading};
-ghost use Rattle.lrat_text.specs.LineReader.{steps_ahead, so_far};
-ghost use Rattle.lrat_text.specs.LineWants.{wants_ahead};
-ghost use Rattle.lrat_checker.specs.declared.verdict.CheckError.TheVariants.{ReadFault, OutOfMemory};
-ghost use Rattle.lrat_checker.specs.TextVerdict.{Answers};
-ghost use Rattle.drat_text.specs.Draft.{drat_form};
-ghost use Rattle.drat_rules.specs.Run.{adds_empty};
-ghost use Rattle.drat_checker.specs.DratVerdict.{drat_steps_verdict_by, drat_text_verdict, drat_text_verdict_by};
-ghost use Rattle.drat_checker.specs.DratVerdict.{drat_verdict_so_far, drat_verdict_so_far_by};
-ghost use Rattle.drat_checker.specs.Memory.{drat_reading_may_want_memory, drat_check_may_want_memory, drat_check_may_want_memory_by};
+ghost use Rattle.proof_judging.specs.declared.verdict.CheckError.TheVariants.{ReadFault, OutOfMemory};
+ghost use Rattle.proof_judging.specs.Verdict.{Answers};
+ghost use Rattle.proof_judging.specs.Rules.{checking_rules};
 ghost use Rattle.drat_rules.specs.Clauses.{equality_of};
+ghost use Rattle.drat_rules.specs.Run.{adds_empty};
+ghost use Rattle.drat_checker.specs.DratVerdict.{drat_format, drat_text_verdict, drat_text_verdict_by};
+ghost use Rattle.drat_checker.specs.DratVerdict.{drat_verdict_so_far, drat_verdict_so_far_by};
+ghost use Rattle.drat_checker.specs.Memory.{drat_check_may_want_memory, drat_check_may_want_memory_by, is_addition};
 
 use crate::judge::DratJudge;
 use cnf_base::{Cnf, LitList};
 use drat_rules::Deletions;
-use drat_text::{DratReader, DratStep};
+use drat_text::{DratLine, DratReader, DratStep};
 use host_io::Source;
-use lrat_checker::{CheckError, Verdict, answer_to, verdict_at_end};
+use lrat_rules::Reason;
+use lrat_text::StepError;
+use proof_judging::{CheckError, StepJudge, Verdict, judge_steps};
 use std::alloc::Global;
 use text_scan::MAX_BYTES;
 
@@ -77,70 +76,60 @@ pub fn check_drat_by<S: Source>(
     ensures reads { OnlyReads (S.channel source.old) (S.channel source.new) }
     ensures beside { S.beside source.new ≡ S.beside source.old }
 {
-    let mut judge = DratJudge::open(alloc, formula)?;
-    judge_text(alloc, &mut judge, deletions, source)
-}
-
-// The same over the clauses that a judge has.
-fn judge_text<S: Source>(
-    alloc: Global,
-    judge: &mut DratJudge,
-    deletions: Deletions,
-    source: &mut S,
-) -> Result<Verdict, CheckError>
-    ensures decides { IsTrue S.tells → Decides (S.channel source.old) (S.channel source.new)
-        (λ bytes more. Answers result (drat_text_verdict_by (equality_of deletions) judge.old bytes)) }
-    ensures undecided { IsTrue S.tells → result ≡ Err ReadFault →
-        drat_verdict_so_far_by (equality_of deletions) judge.old (gained (S.channel source.old) (S.channel source.new)) ≡ None }
-    ensures fault { result ≡ Err ReadFault → Rose (S.channel source.old).faults (S.channel source.new).faults }
-    ensures unfailed { result ≢ Err ReadFault → (S.channel source.new).faults ≡ (S.channel source.old).faults }
-    ensures wants { IsTrue S.tells → result ≡ Err OutOfMemory → Decides (S.channel source.old) (S.channel source.new)
-        (λ bytes more. IsTrue (drat_check_may_want_memory_by (equality_of deletions) judge.old (length more) bytes)) }
-    ensures reads { OnlyReads (S.channel source.old) (S.channel source.new) }
-    ensures beside { S.beside source.new ≡ S.beside source.old }
-{
+    let judge = DratJudge::open(alloc, formula)?;
+    let mut checking = Checking { judge, deletions };
     let mut reader = DratReader::new(alloc, MAX_BYTES);
     let mut step = DratStep::Delete {
         lits: LitList::new(alloc),
     };
-    judge_steps(judge, deletions, &mut reader, &mut step, source)
+    judge_steps(&mut checking, &mut reader, &mut step, source)
 }
 
-// Judges the steps that the reader still gives, each in the same place.
-fn judge_steps<S: Source>(
-    judge: &mut DratJudge,
+// A judge, with what a deletion takes for its clause.
+#[derive(Drop)]
+struct Checking {
+    judge: DratJudge,
     deletions: Deletions,
-    reader: &mut DratReader,
-    step: &mut DratStep,
-    source: &mut S,
-) -> Result<Verdict, CheckError>
-    requires { reader.old.status ≡ Reading }
-    ensures decides { IsTrue S.tells → Decides (S.channel source.old) (S.channel source.new)
-        (λ bytes more. Answers result (drat_steps_verdict_by (equality_of deletions) judge.old false
-        (steps_ahead drat_form reader.old bytes))) }
-    ensures wants { IsTrue S.tells → result ≡ Err OutOfMemory → Decides (S.channel source.old) (S.channel source.new)
-        (λ bytes more. IsTrue (drat_reading_may_want_memory (equality_of deletions) (length more) judge.old
-        (wants_ahead drat_form reader.old bytes))) }
-    ensures undecided { IsTrue S.tells → result ≡ Err ReadFault → drat_steps_verdict_by (equality_of deletions) judge.old false
-        (so_far drat_form reader.old (gained (S.channel source.old) (S.channel source.new))) ≡ None }
-    ensures fault { result ≡ Err ReadFault → Rose (S.channel source.old).faults (S.channel source.new).faults }
-    ensures unfailed { result ≢ Err ReadFault → (S.channel source.new).faults ≡ (S.channel source.old).faults }
-    ensures reads { OnlyReads (S.channel source.old) (S.channel source.new) }
-    ensures beside { S.beside source.new ≡ S.beside source.old }
-{
-    let mut has_empty = false;
-    'steps: loop {
-        match reader.next_into(source, step) {
-            Ok(Some(line)) => {
-                reader.near_law();
-                match judge.step(deletions, step)? {
-                    Some(reason) => return Ok(Verdict::Refused { line, reason }),
-                    None => has_empty = or_adds_empty(has_empty, step),
-                }
-            }
-            Ok(None) => return Ok(verdict_at_end(has_empty, reader.line())),
-            Err(error) => return answer_to(error),
-        }
+}
+
+impl<S: Source> StepJudge<DratLine, S> for Checking {
+    type Error = CheckError;
+
+    ghost tells = { S.tells };
+
+    ghost channel = { S.channel };
+
+    ghost rules = { checking_rules drat_format (λ place step. is_addition step)
+        (λ checking. (equality_of checking.deletions, checking.judge)) S.beside };
+
+    ghost is_ready = { λ checking source. ⊤ };
+
+    fn told_law() {}
+
+    fn next(
+        &self,
+        reader: &mut DratReader,
+        step: &mut DratStep,
+        source: &mut S,
+    ) -> Result<Option<u64>, StepError> {
+        reader.next_into(source, step)
+    }
+
+    fn take(
+        &mut self,
+        step: &DratStep,
+        _has_empty: bool,
+        _source: &mut S,
+    ) -> Result<Option<Reason>, CheckError> {
+        Ok(self.judge.step(self.deletions, step)?)
+    }
+
+    fn or_adds_empty(has_empty: bool, step: &DratStep) -> bool {
+        or_adds_empty(has_empty, step)
+    }
+
+    fn error(error: CheckError) -> CheckError {
+        error
     }
 }
 

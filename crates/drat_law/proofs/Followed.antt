@@ -13,16 +13,20 @@ use Rattle.lrat_text.specs.Steps.{Steps, no_more, overlong, no_step, next_step, 
 use Rattle.lrat_rules.specs.State.{State, Live, clause_at, start, with_clause, without_clauses}
 use Rattle.lrat_rules.specs.Addition.{fault}
 use Rattle.lrat_rules.specs.Run.{step_fault, after_step, step_adds_empty}
-use Rattle.lrat_checker.specs.declared.verdict.Verdict.TheVariants.{Verified}
-use Rattle.lrat_checker.specs.TextVerdict.{max_bytes, end_verdict, judged, steps_verdict, text_verdict}
+use Rattle.proof_judging.specs.declared.verdict.Verdict.TheVariants.{Verified}
+use Rattle.proof_judging.specs.Verdict.{end_verdict, judged}
+use Rattle.lrat_checker.specs.TextVerdict.{max_bytes, steps_verdict, text_verdict}
 use Rattle.drat_text.specs.declared.step.DratStep.{DratStep}
 use Rattle.drat_text.specs.declared.step.DratStep.TheVariants.{Add as adds, Delete as deletes}
 use Rattle.drat_proof.specs.Drat.{deletion_of, deletions, drat_of_step, unless_fault, drat_of, drat_steps}
-use Rattle.drat_rules.specs.Clauses.{is_among}
+use Rattle.drat_rules.specs.declared.deletions.Deletions.{Deletions}
+use Rattle.drat_rules.specs.declared.deletions.Deletions.TheVariants.{ByList, BySet}
+use Rattle.drat_rules.specs.Clauses.{equality_of, is_among, same_set}
 use Rattle.drat_rules.specs.Addition.{drat_fault}
-use Rattle.drat_rules.specs.Run.{after, drat_step_fault, after_all, fault_or, first_fault, adds_empty, DratRefutes}
+use Rattle.drat_rules.specs.Run.{after, drat_step_fault, after_all, fault_or, first_fault, adds_empty, drat_verdict, drat_verdict_by}
+use Rattle.drat_rules.specs.Run.{DratRefutes}
 use Rattle.drat_rules.specs.FromLrat.{HaveSame, IsListOf}
-use Rattle.fresh_names.specs.Hits.{DeletesStanding}
+use Rattle.drat_rules.specs.Hits.{DeletesStanding}
 
 -- good steps behind good steps
 first_fault-append : (place : ℕ) (clauses : List (List ℤ)) (front rest : List DratStep) → first_fault place clauses front ≡ None
@@ -187,3 +191,11 @@ module _
       let are : AreGood clauses false (drat_of (start clauses) (steps max_bytes bytes)) =
       steps_good (start clauses) clauses false (steps max_bytes bytes) (starts clauses) h in
       record { verified = rw (are.good 1, are.empty) refl }
+
+-- the verdict on verified steps whose deletions name clauses that stand, by lists and by sets
+pub verdict-by : ((clauses : List (List ℤ)) (steps : List DratStep) → DeletesStanding clauses steps
+    → drat_verdict_by same_set clauses steps ≡ drat_verdict clauses steps)
+    → (deletions : Deletions) (clauses : List (List ℤ)) (steps : List DratStep) → DeletesStanding clauses steps
+    → DratRefutes clauses steps → drat_verdict_by (equality_of deletions) clauses steps ≡ None
+verdict-by any_order ByList clauses steps stand refutes = refutes.verified
+verdict-by any_order BySet clauses steps stand refutes = any_order clauses steps stand ∙ refutes.verified

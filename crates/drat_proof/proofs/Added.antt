@@ -1,11 +1,16 @@
 -- What was added to a channel, and the text of steps in parts.
-use Rattle.std.proofs.Common.{◌≡◌, ℕ, List, ◌++◌, take, drop, length, sym, ap, ◌∙◌, append_assoc}
-use Rattle.std.proofs.lemmas.List.{take-append-drop}
+use Rattle.std.proofs.Common.{◌≡◌, ℕ, List, [], ◌++◌, take, drop, length, Err, refl, sym, ap, subst, ◌∙◌, append_assoc}
+use Rattle.std.specs.Prelude.{Result}
+use Rattle.std.proofs.lemmas.List.{append-nil, take-append-drop}
 use Rattle.std.proofs.lemmas.Grind.{flat_map-append}
 use Rattle.std.proofs.Math.Seq.{drop-append_seam}
 use Rattle.host_io.specs.Channel.{Channel}
 use Rattle.drat_text.specs.declared.step.DratStep.{DratStep}
 use Rattle.drat_text.specs.DratText.{line_of_drat, drat_text}
+use Rattle.proof_judging.specs.declared.verdict.Verdict.{Verdict}
+use Rattle.drat_proof.specs.declared.error.ConvertError.{ConvertError}
+use Rattle.drat_proof.specs.declared.error.ConvertError.TheVariants.{OutOfMemory}
+use Rattle.drat_proof.specs.Conversion.{AreFirstLines, HasWritten}
 use Rattle.drat_proof.specs.TwoRoles.{added}
 
 pub added_is : (old new : Channel) (text : List ℕ) → new.written ≡ old.written ++ text → added old new ≡ text
@@ -42,3 +47,15 @@ front_of n front piece rest whole written parts is =
     ∙ ap (λ (l : List ℕ). drat_text front ++ l) (text-append piece rest ∙ halves)
     ∙ sym (append_assoc (drat_text front) (take n lines) (drop n lines ++ drat_text rest))
     ∙ ap (λ (l : List ℕ). l ++ (drop n lines ++ drat_text rest)) (sym is)
+
+-- nothing was written, for want of memory
+pub none_written : (result : Result Verdict ConvertError) (sink : Channel) (steps : List DratStep) → result ≡ Err OutOfMemory
+    → HasWritten result (added sink sink) steps
+none_written result sink steps is =
+    let lines : AreFirstLines (added sink sink) steps = record {
+      front = [];
+      rest = steps;
+      parts = refl;
+      lines = added_is sink sink [] (sym (append-nil sink.written));
+    } in
+    subst (λ (r : Result Verdict ConvertError). HasWritten r (added sink sink) steps) (sym is) lines

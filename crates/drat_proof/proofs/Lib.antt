@@ -1,7 +1,5 @@
 pub mod Roles
 pub mod Added
 pub mod Named
-pub mod DratTurns
-pub mod Leads
-pub mod Exits
+pub mod Converting
 pub mod Taking

@@ -1,5 +1,5 @@
 -- Calls of one of two roles, one after another, leave alone what a call of both does.
-use Rattle.std.proofs.Common.{◌≡◌, ℕ, Bool, List, None, Option, Result, refl, ◌∙◌, sym, arith}
+use Rattle.std.proofs.Common.{◌≡◌, ℕ, Bool, List, None, Option, Result, refl, ◌∙◌, sym, subst, arith}
 use Rattle.host_io.specs.declared.role.Role.{Role}
 use Rattle.host_io.specs.declared.source.Failed.{Failed}
 use Rattle.host_io.specs.Channel.{Channel, WritesAll}
@@ -27,6 +27,22 @@ module _ {first second : Role} {own : Option (List ℕ)} where
     files = λ file n. kept.files file (λ e. n (sym same ∙ e)) ∙ so_far.files file n;
   }
 
+  pub kept_first : {old new : Role → Channel} {old_files new_files : Files} → Kept first None old new old_files new_files
+      → KeptButTwo first second own old new old_files new_files
+  kept_first kept = kept_then_first (kept_none _ _) kept
+
+  pub kept_second : {old new : Role → Channel} {old_files new_files : Files} → Kept second own old new old_files new_files
+      → KeptButTwo first second own old new old_files new_files
+  kept_second kept = kept_then_second (kept_none _ _) kept refl
+
+pub kept_both : {first second : Role} {own name : Option (List ℕ)} {old mid new : Role → Channel} {old_files mid_files new_files : Files}
+    → KeptButTwo first second own old mid old_files mid_files → KeptButTwo first second name mid new mid_files new_files → name ≡ own
+    → KeptButTwo first second own old new old_files new_files
+kept_both before behind same = record {
+  others = λ other a b. behind.others other a b ∙ before.others other a b;
+  files = λ file n. behind.files file (λ e. n (sym same ∙ e)) ∙ before.files file n;
+}
+
 pub reads_none : (channel : Channel) → OnlyReads channel channel
 reads_none channel = record { written = refl; flushed = refl; name = refl; faults = omega arith }
 
@@ -45,3 +61,6 @@ OnlyWrites-then p q = record {
 pub only_writes : {T : Type 0} {tells : Bool} {old new : Channel} {piece : List ℕ} {result : Result T Failed}
     → WritesAll tells old new piece result → OnlyWrites old new
 only_writes w = record { taken = w.taken; left = w.left; flushed = w.flushed; name = w.name; faults = w.faults.no_less }
+
+pub same_writes : {old new : Channel} → new ≡ old → OnlyWrites old new
+same_writes {old} {new} same = subst (λ (c : Channel). OnlyWrites old c) (sym same) (writes_none old)

@@ -5,16 +5,14 @@ use Rattle.cnf_base.specs.declared.step.Step.{Step}
 use Rattle.host_io.specs.Channel.{Channel, Rose, WritesAll}
 use Rattle.host_io.specs.declared.source.Failed.{Failed}
 use Rattle.text_scan.specs.Decides.{gained, Decides, OnlyReads}
-use Rattle.lrat_text.specs.declared.error.StepError.{StepError}
-use Rattle.lrat_text.specs.declared.error.StepError.TheVariants.{ReadFault as FailedRead}
-use Rattle.lrat_text.specs.Reader.{Reader, Gives, GivesSoFar, Moves, steps_ahead, so_far}
-use Rattle.lrat_text.specs.Wants.{Spends, wants_ahead}
+use Rattle.lrat_text.specs.Reader.{Reader, steps_ahead, so_far}
+use Rattle.lrat_text.specs.Wants.{wants_ahead}
 use Rattle.lrat_rules.specs.declared.outcome.Reason.{Reason}
 use Rattle.lrat_rules.specs.State.{State}
 use Rattle.lrat_rules.specs.Run.{step_fault, after_step}
-use Rattle.lrat_checker.specs.declared.verdict.Verdict.{Verdict}
-use Rattle.lrat_checker.specs.declared.verdict.CheckError.{CheckError}
-use Rattle.lrat_checker.specs.declared.verdict.CheckError.TheVariants.{ReadFault as CheckFault, TooLong as LongText, OutOfMemory as CheckMemory}
+use Rattle.proof_judging.specs.declared.verdict.Verdict.{Verdict}
+use Rattle.proof_judging.specs.declared.verdict.CheckError.{CheckError}
+use Rattle.proof_judging.specs.declared.verdict.CheckError.TheVariants.{ReadFault as CheckFault, TooLong as LongText, OutOfMemory as CheckMemory}
 use Rattle.lrat_checker.specs.Memory.{may_want_memory, reading_may_want_memory}
 use Rattle.lrat_checker.specs.TextVerdict.{steps_verdict}
 use Rattle.drat_text.specs.declared.step.DratStep.{DratStep}
@@ -59,17 +57,6 @@ HasWritten (Err TooLong) written steps = written ≡ drat_text steps
 HasWritten (Err WriteFault) written steps = (rest : List ℕ) × (drat_text steps ≡ written ++ rest)
 HasWritten (Err ReadFault) written steps = AreFirstLines written steps
 HasWritten (Err OutOfMemory) written steps = AreFirstLines written steps
-
--- Within a call. The next step was read from a role, as a reader of proofs tells it.
-pub record ReadsStep (tells : Bool) (old new : Channel) (before after : Reader) (answer : Result (Option (Step × ℕ)) StepError) : Type 0 where
-  pub gives : IsTrue tells → Decides old new (λ bytes more. Gives answer after.line (steps_ahead before bytes) (steps_ahead after more))
-  pub so_far : IsTrue tells → GivesSoFar answer before after (gained old new)
-  pub moves : Moves answer before after
-  pub spends : IsTrue tells → Decides old new
-      (λ bytes more. Spends answer (length more) (wants_ahead before bytes) (wants_ahead after more))
-  pub fault : answer ≡ Err FailedRead → Rose old.faults new.faults
-  pub unfailed : answer ≢ Err FailedRead → new.faults ≡ old.faults
-  pub reads : OnlyReads old new
 
 -- A step was judged, and where it is good taken and written by its names, of which a front may be written where a write failed.
 abbrev pub Takes : Bool → Channel → Channel → State → State → NamesAhead → NamesAhead → Step → Result (Option Reason) ConvertError → Type 0

@@ -2,3 +2,4 @@ pub mod Drat
 pub mod Naming
 pub mod Conversion
 pub mod TwoRoles
+pub mod Converting

@@ -4,7 +4,7 @@ ghost use Rattle.drat_proof.specs.declared.error.ConvertError.TheVariants.{OutOf
 ghost use Rattle.drat_proof.specs.Conversion.{convert_error};
 
 use cnf_base::OutOfMemory;
-use lrat_checker::CheckError;
+use proof_judging::CheckError;
 use thiserror::Error;
 
 /// Why there is no verdict.

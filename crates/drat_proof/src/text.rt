@@ -2,25 +2,26 @@
 ghost use Rattle.std.specs.Prelude.{◌≡◌, ◌≢◌, ◌⊎◌, ◌++◌, length, None, Err, IsTrue};
 ghost use Rattle.host_io.specs.declared.role.Role.TheVariants.{ProofIn, ProofOut};
 ghost use Rattle.host_io.specs.Channel.{Rose};
-ghost use Rattle.host_io.specs.Files.{Kept};
 ghost use Rattle.text_scan.specs.Decides.{gained, Decides, OnlyReads};
 ghost use Rattle.lrat_text.specs.declared.reader.ReaderStatus.TheVariants.{Reading};
-ghost use Rattle.lrat_text.specs.Reader.{given};
 ghost use Rattle.lrat_checker.specs.Memory.{check_may_want_memory};
-ghost use Rattle.lrat_checker.specs.TextVerdict.{error_answer, text_verdict, verdict_so_far};
+ghost use Rattle.lrat_checker.specs.TextVerdict.{text_verdict, verdict_so_far};
 ghost use Rattle.drat_proof.specs.declared.error.ConvertError.TheVariants.{ReadFault, OutOfMemory, WriteFault};
 ghost use Rattle.drat_proof.specs.Drat.{named_drat_steps};
 ghost use Rattle.drat_proof.specs.Naming.{names_ahead};
-ghost use Rattle.drat_proof.specs.Conversion.{HasVerdict, HasWritten, ConvertsSteps, ReadsStep, converted};
+ghost use Rattle.drat_proof.specs.Conversion.{HasVerdict, HasWritten, ConvertsSteps};
+ghost use Rattle.drat_proof.specs.Converting.{converting_rules};
 ghost use Rattle.drat_proof.specs.TwoRoles.{KeptButTwo, OnlyWrites, added};
 
 use crate::error::ConvertError;
 use crate::naming::Naming;
 use crate::take::take_step;
 use cnf_base::{Cnf, Id, IdList, Step};
-use host_io::{Host, HostSource, Role, beside_kept};
-use lrat_checker::{Judge, Verdict, answer_to, or_adds_empty, verdict_at_end};
-use lrat_text::{StepError, StepReader};
+use host_io::Host;
+use lrat_checker::{Judge, or_adds_empty};
+use lrat_rules::Reason;
+use lrat_text::{LratLine, StepError, StepReader};
+use proof_judging::{CheckError, StepJudge, Verdict, judge_steps, read_step};
 use std::alloc::Global;
 use text_scan::MAX_BYTES;
 
@@ -62,20 +63,20 @@ pub fn convert<H: Host>(
         (H.files host.old) (H.files host.new) }
 {
     formula.formula_law();
-    let mut judge = Judge::open(alloc, formula)?;
-    let mut naming = Naming::new(alloc, formula.vars(), fresh);
+    let judge = Judge::open(alloc, formula)?;
+    let naming = Naming::new(alloc, formula.vars(), fresh);
+    let mut conversion = Conversion { judge, naming };
     let mut reader = StepReader::new(alloc, MAX_BYTES);
     let mut step = Step::Delete {
         id: Id(0),
         ids: IdList::new(alloc),
     };
-    convert_steps(&mut judge, &mut naming, &mut reader, &mut step, host)
+    convert_steps(&mut conversion, &mut reader, &mut step, host)
 }
 
 // Converts the steps that the reader still gives, each in the same place.
 fn convert_steps<H: Host>(
-    judge: &mut Judge,
-    naming: &mut Naming,
+    conversion: &mut Conversion,
     reader: &mut StepReader,
     step: &mut Step,
     host: &mut H,
@@ -84,47 +85,57 @@ fn convert_steps<H: Host>(
     requires created { (H.channel host.old ProofOut).name ≢ None }
     requires reading { reader.old.status ≡ Reading }
     ensures converts { ConvertsSteps H.tells (H.channel host.old ProofIn) (H.channel host.new ProofIn) (H.channel host.old ProofOut)
-        (H.channel host.new ProofOut) judge.old (names_ahead naming.old) reader.old result }
+        (H.channel host.new ProofOut) conversion.old.judge (names_ahead conversion.old.naming) reader.old result }
     ensures kept { KeptButTwo ProofIn ProofOut (H.channel host.old ProofOut).name (H.channel host.old) (H.channel host.new)
         (H.files host.old) (H.files host.new) }
 {
-    let mut has_empty = false;
-    'steps: loop {
-        match read_step(reader, host, step) {
-            Ok(Some(line)) => {
-                reader.near_law();
-                match take_step(judge, naming, step, host) {
-                    Ok(None) => has_empty = or_adds_empty(has_empty, step),
-                    Ok(Some(reason)) => return Ok(Verdict::Refused { line, reason }),
-                    Err(error) => return Err(error),
-                }
-            }
-            Ok(None) => return Ok(verdict_at_end(has_empty, reader.line())),
-            Err(error) => return answer_of(error),
-        }
+    judge_steps(conversion, reader, step, host)
+}
+
+// A judge, with the names that variables have.
+#[derive(Drop)]
+struct Conversion {
+    judge: Judge,
+    naming: Naming,
+}
+
+impl<H: Host> StepJudge<LratLine, H> for Conversion {
+    type Error = ConvertError;
+
+    ghost tells = { H.tells };
+
+    ghost channel = { λ host. H.channel host ProofIn };
+
+    ghost rules = { converting_rules H.tells (λ conversion. conversion.judge) (λ conversion. names_ahead conversion.naming) H.channel H.files };
+
+    // both roles have their names
+    ghost is_ready = { λ conversion host. ((H.channel host ProofIn).name ≢ None) × ((H.channel host ProofOut).name ≢ None) };
+
+    fn told_law() {}
+
+    fn next(
+        &self,
+        reader: &mut StepReader,
+        step: &mut Step,
+        host: &mut H,
+    ) -> Result<Option<u64>, StepError> {
+        read_step(reader, host, step)
     }
-}
 
-// A line that spells no step is refused; else there is no verdict.
-fn answer_of(error: StepError) -> Result<Verdict, ConvertError>
-    ensures { result ≡ converted (error_answer error) }
-{
-    Ok(answer_to(error)?)
-}
+    fn take(
+        &mut self,
+        step: &Step,
+        _has_empty: bool,
+        host: &mut H,
+    ) -> Result<Option<Reason>, ConvertError> {
+        take_step(&mut self.judge, &mut self.naming, step, host)
+    }
 
-// Reads the next step of the proof into its place.
-fn read_step<H: Host>(
-    reader: &mut StepReader,
-    host: &mut H,
-    step: &mut Step,
-) -> Result<Option<u64>, StepError>
-    requires opened { (H.channel host.old ProofIn).name ≢ None }
-    requires reading { reader.old.status ≡ Reading }
-    ensures reads { ReadsStep H.tells (H.channel host.old ProofIn) (H.channel host.new ProofIn) reader.old reader.new
-        (given step.new result) }
-    ensures kept { Kept ProofIn None (H.channel host.old) (H.channel host.new) (H.files host.old) (H.files host.new) }
-{
-    beside_kept::<H>();
-    let mut source = HostSource::new(host, Role::ProofIn);
-    reader.next_into(&mut source, step)
+    fn or_adds_empty(has_empty: bool, step: &Step) -> bool {
+        or_adds_empty(has_empty, step)
+    }
+
+    fn error(error: CheckError) -> ConvertError {
+        ConvertError::from(error)
+    }
 }

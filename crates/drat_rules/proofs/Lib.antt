@@ -12,3 +12,5 @@ pub mod Candidates
 pub mod LratAdditions
 pub mod States
 pub mod DratAdditions
+pub mod SameSets
+pub mod AnyOrder

@@ -3,12 +3,14 @@
 //! (Wetzler, Heule, Hunt: DRAT-trim: Efficient Checking and Trimming Using Expressive Clausal Proofs, SAT 2014.)
 #![tactic(auto)]
 
+mod any_order;
 mod deletions;
 mod examples;
 mod from_lrat;
 mod laws;
 mod soundness;
 
+pub use any_order::any_order_law;
 pub use deletions::Deletions;
 pub use examples::{addition_example, any_order_example, deletion_example};
 pub use from_lrat::from_lrat_law;

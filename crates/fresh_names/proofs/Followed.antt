@@ -15,7 +15,7 @@ use Rattle.drat_rules.specs.Clauses.{same_list, is_among, without_first}
 use Rattle.drat_rules.specs.Addition.{drat_fault}
 use Rattle.drat_rules.specs.Run.{fault_or, first_fault}
 use Rattle.fresh_names.specs.Fresh.{Names, is_new, entered_as, entered, all_entered, all_left, named, fresh_from}
-use Rattle.fresh_names.specs.Hits.{DeletesStanding}
+use Rattle.drat_rules.specs.Hits.{DeletesStanding}
 use Rattle.fresh_names.proofs.Given.{AreGiven, IsKnown, not-new}
 use Rattle.fresh_names.proofs.Literals.{abs-negated, negated-named, literal-apart, named-same}
 use Rattle.fresh_names.proofs.Counted.{AreNames, held_in, names-added, names-deleted, name-left, uses-entered, known_literal, literal-known}
@@ -47,7 +47,7 @@ still-known vars names u v (inr used) =
     let used : 0 < (entered vars names u).uses v = omega arith in
     inr used
 
-stay : (vars : ℕ) (names : Names) (clause : List ℤ) (v : ℕ) → IsKnown vars names v → (all_entered vars names clause).name v ≡ names.name v
+pub stay : (vars : ℕ) (names : Names) (clause : List ℤ) (v : ℕ) → IsKnown vars names v → (all_entered vars names clause).name v ≡ names.name v
 stay vars names [] v known = refl
 stay vars names (x ∷ xs) v known =
     stay vars (entered vars names (nat_abs x)) xs v (still-known vars names (nat_abs x) v known) ∙ stays vars names (nat_abs x) v known
@@ -60,7 +60,7 @@ list-stays vars names clause (x ∷ xs) known =
     λ i. named-same (all_entered vars names clause).name names.name x
     (stay vars names clause (nat_abs x) (literal-known vars names x parts.0)) i ∷ list-stays vars names clause xs parts.1 i
 
-lists-stay : (vars : ℕ) (names : Names) (clause : List ℤ) (cs : List (List ℤ)) → list_all (list_all (known_literal vars names)) cs ≡ true
+pub lists-stay : (vars : ℕ) (names : Names) (clause : List ℤ) (cs : List (List ℤ)) → list_all (list_all (known_literal vars names)) cs ≡ true
     → map (map (named (all_entered vars names clause).name)) cs ≡ map (map (named names.name)) cs
 lists-stay vars names clause [] known = refl
 lists-stay vars names clause (c ∷ cs) known =
@@ -97,7 +97,7 @@ module _ (vars : ℕ) (names : Names) (given : AreGiven vars names) where
       λ i. test-renamed to negates laws (known_literal vars names) negation-known known-apart x y one.0 two.0 i
       && same-stays laws xs ys one.1 two.1 i
 
-  without-stays : QuietLaws → (clauses : List (List ℤ)) (clause : List ℤ) → list_all (known_literal vars names) clause ≡ true
+  pub without-stays : QuietLaws → (clauses : List (List ℤ)) (clause : List ℤ) → list_all (known_literal vars names) clause ≡ true
       → list_all (list_all (known_literal vars names)) clauses ≡ true
       → without_first (map to clause) (map (map to) clauses) ≡ map (map to) (without_first clause clauses)
   without-stays laws [] clause own known = refl
@@ -112,7 +112,7 @@ module _ (vars : ℕ) (names : Names) (given : AreGiven vars names) where
         | false ↦ ap (λ l. map to c ∷ l) (without-stays laws cs clause own parts.1)
       ]
 
-among-known : (p : List ℤ → Bool) (clauses : List (List ℤ)) (clause : List ℤ) → list_all p clauses ≡ true → is_among clauses clause ≡ true
+pub among-known : (p : List ℤ → Bool) (clauses : List (List ℤ)) (clause : List ℤ) → list_all p clauses ≡ true → is_among clauses clause ≡ true
     → p clause ≡ true
 among-known p [] clause all among = cc
 among-known p (c ∷ cs) clause all among =

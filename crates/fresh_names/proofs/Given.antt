@@ -35,7 +35,7 @@ is-known vars names v h =
     ]
 
 -- a value at one place, and at another
-at-value : (f : ℕ → ℕ) (v value : ℕ) → with_value f v value v ≡ value
+pub at-value : (f : ℕ → ℕ) (v value : ℕ) → with_value f v value v ≡ value
 at-value f v value = ap (λ b. if b then value else f v) ((Decides-eqb v v).1 refl)
 
 at-other : (f : ℕ → ℕ) (v value w : ℕ) → nat_eq w v ≡ false → with_value f v value w ≡ f w

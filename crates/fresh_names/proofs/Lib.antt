@@ -4,3 +4,4 @@ pub mod Literals
 pub mod Counted
 pub mod Followed
 pub mod Refuted
+pub mod InTurn

@@ -20,7 +20,7 @@ negated-named name none (pos (suc n)) = ap (λ k. neg_ℤ (pos (name k))) (one-m
 negated-named name none (negsuc n) =
     ap (λ k. pos (name k)) (sym (one-more n)) ∙ sym (neg_ℤ-neg_ℤ (pos (name (n + 1))))
 
-abs-named : (name : ℕ → ℕ) (x : ℤ) → nat_abs (named name x) ≡ name (nat_abs x)
+pub abs-named : (name : ℕ → ℕ) (x : ℤ) → nat_abs (named name x) ≡ name (nat_abs x)
 abs-named name (pos n) = refl
 abs-named name (negsuc n) = abs-negated (pos (name (n + 1))) ∙ ap name (one-more n)
 

@@ -13,7 +13,7 @@ use Rattle.drat_text.specs.declared.step.DratStep.{DratStep}
 use Rattle.drat_text.specs.declared.step.DratStep.TheVariants.{Add as adds, Delete as deletes}
 use Rattle.drat_rules.specs.Run.{first_fault, adds_empty, DratRefutes, drat_verdict_at}
 use Rattle.fresh_names.specs.Fresh.{Names, names_after, named, named_step, fresh_from, first_names, fresh}
-use Rattle.fresh_names.specs.Hits.{DeletesStanding}
+use Rattle.drat_rules.specs.Hits.{DeletesStanding}
 use Rattle.fresh_names.proofs.Given.{given-first}
 use Rattle.fresh_names.proofs.Counted.{AreNames, held_in, held, one_if}
 use Rattle.fresh_names.proofs.Renamed.{QuietLaws}
@@ -28,7 +28,7 @@ all-own : (xs : List ℤ) → map (named (λ v. v)) xs ≡ xs
 all-own [] = refl
 all-own (x ∷ xs) = λ i. named-own x i ∷ all-own xs i
 
-every-own : (cs : List (List ℤ)) → map (map (named (λ v. v))) cs ≡ cs
+pub every-own : (cs : List (List ℤ)) → map (map (named (λ v. v))) cs ≡ cs
 every-own [] = refl
 every-own (c ∷ cs) = λ i. all-own c i ∷ every-own cs i
 
@@ -54,7 +54,7 @@ none-held-any vars v past (c ∷ cs) all =
     let both : held_in v c + held v cs ≡ 0 = omega arith in
     both
 
-names-first : (vars : ℕ) (clauses : List (List ℤ)) → AreClausesOf vars clauses → AreNames vars clauses (first_names vars)
+pub names-first : (vars : ℕ) (clauses : List (List ℤ)) → AreClausesOf vars clauses → AreNames vars clauses (first_names vars)
 names-first vars clauses are = record {
   given = given-first vars;
   counted = λ v past. sym (none-held-any vars v past clauses are);

@@ -1,3 +1,3 @@
 pub mod Fresh
-pub mod Hits
+pub mod Uses
 pub mod Renaming

@@ -3,8 +3,10 @@
 //! Stands on the rules of drat_rules, and on drat_text.
 #![tactic(auto)]
 
+mod examples;
 mod laws;
 mod renaming;
 
+pub use examples::fresh_example;
 pub use laws::fresh_law;
 pub use renaming::Renaming;

@@ -9,6 +9,4 @@ pub mod Indexed
 pub mod GroupFaults
 pub mod Cutting
 pub mod Verdicts
-pub mod Turns
-pub mod Wanted
 pub mod Overlong

@@ -12,9 +12,10 @@ use Rattle.lrat_rules.specs.declared.outcome.Reason.TheVariants.{Syntax}
 use Rattle.lrat_rules.specs.State.{State, start}
 use Rattle.lrat_rules.specs.Run.{Stopped, step_fault, after_step, step_adds_empty, judge_step, judge_line, run, verdict_at, verdict}
 use Rattle.lrat_rules.specs.Run.{adds_empty_clause}
-use Rattle.lrat_checker.specs.declared.verdict.Verdict.{Verdict}
-use Rattle.lrat_checker.specs.declared.verdict.Verdict.TheVariants.{Verified, Refused}
-use Rattle.lrat_checker.specs.TextVerdict.{max_bytes, judged, steps_verdict, text_verdict, verdict_within}
+use Rattle.proof_judging.specs.declared.verdict.Verdict.{Verdict}
+use Rattle.proof_judging.specs.declared.verdict.Verdict.TheVariants.{Verified, Refused}
+use Rattle.proof_judging.specs.Verdict.{judged}
+use Rattle.lrat_checker.specs.TextVerdict.{max_bytes, steps_verdict, text_verdict, verdict_within}
 
 -- that the text is too long verifies nothing
 front_open : (lines : List Line) (state : State) (has_empty : Bool) → steps_verdict state has_empty (lines_then lines overlong)

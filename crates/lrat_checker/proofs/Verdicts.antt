@@ -7,8 +7,9 @@ use Rattle.lrat_text.specs.Steps.{step_then, no_more, lines_then}
 use Rattle.lrat_rules.specs.declared.outcome.Reason.{Reason}
 use Rattle.lrat_rules.specs.State.{State}
 use Rattle.lrat_rules.specs.Run.{Reached, step_fault, after_step, step_adds_empty, line_adds_empty, judge_step, judge_line, run, verdict_at}
-use Rattle.lrat_checker.specs.declared.verdict.Verdict.TheVariants.{Verified, Refused}
-use Rattle.lrat_checker.specs.TextVerdict.{end_verdict, judged, steps_verdict, verdict_as}
+use Rattle.proof_judging.specs.declared.verdict.Verdict.TheVariants.{Verified, Refused}
+use Rattle.proof_judging.specs.Verdict.{end_verdict, judged, verdict_as}
+use Rattle.lrat_checker.specs.TextVerdict.{steps_verdict}
 
 or_assoc : (a b c : Bool) → ((a || b) || c) ≡ (a || (b || c))
 or_assoc true b c = refl

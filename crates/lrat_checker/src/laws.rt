@@ -5,9 +5,10 @@ ghost use Rattle.lrat_rules.specs.declared.outcome.Reason.{Reason};
 ghost use Rattle.lrat_rules.specs.State.{Live, start};
 ghost use Rattle.lrat_rules.specs.Run.{run, verdict, Refutes};
 ghost use Rattle.lrat_text.specs.Steps.{lines_within};
-ghost use Rattle.lrat_checker.specs.declared.verdict.Verdict.TheVariants.{Verified, Refused};
+ghost use Rattle.proof_judging.specs.declared.verdict.Verdict.TheVariants.{Verified, Refused};
 ghost use Rattle.lrat_checker.specs.Cuts.{cut_by, cut_of, uses_of};
-ghost use Rattle.lrat_checker.specs.TextVerdict.{max_bytes, text_verdict, verdict_as, verdict_within};
+ghost use Rattle.proof_judging.specs.Verdict.{verdict_as};
+ghost use Rattle.lrat_checker.specs.TextVerdict.{max_bytes, text_verdict, verdict_within};
 
 use lrat_text::{long_text_law, whole_text_law};
 

@@ -1,24 +1,21 @@
 // The check of a proof text: a reader gives its steps in turn, and a judge takes them.
-ghost use Rattle.std.specs.Prelude.{◌≡◌, ◌≢◌, ◌||◌, ◌⊎◌, false, length, None, Err, IsTrue};
-ghost use Rattle.lrat_text.specs.declared.error.StepError.TheVariants.{OutOfMemory as NoMemory};
-ghost use Rattle.lrat_text.specs.Draft.{has_numbers};
+ghost use Rattle.std.specs.Prelude.{◌≡◌, ◌≢◌, ◌||◌, ◌⊎◌, length, None, Err, IsTrue, ⊤};
 ghost use Rattle.host_io.specs.Channel.{Rose};
 ghost use Rattle.text_scan.specs.Decides.{gained, Decides, OnlyReads};
-ghost use Rattle.lrat_text.specs.declared.reader.ReaderStatus.TheVariants.{Reading, Failed};
-ghost use Rattle.lrat_text.specs.Reader.{steps_ahead, so_far};
-ghost use Rattle.lrat_text.specs.Wants.{wants_ahead};
 ghost use Rattle.lrat_rules.specs.Run.{step_adds_empty};
-ghost use Rattle.lrat_checker.specs.declared.verdict.CheckError.TheVariants.{ReadFault, OutOfMemory};
-ghost use Rattle.lrat_checker.specs.Memory.{steps_may_want_memory, reading_may_want_memory, check_may_want_memory};
-ghost use Rattle.lrat_checker.specs.TextVerdict.{end_verdict, error_answer, steps_verdict, text_verdict, verdict_so_far, Answers};
+ghost use Rattle.proof_judging.specs.declared.verdict.CheckError.TheVariants.{ReadFault, OutOfMemory};
+ghost use Rattle.proof_judging.specs.Verdict.{Answers};
+ghost use Rattle.proof_judging.specs.Rules.{checking_rules};
+ghost use Rattle.lrat_checker.specs.Memory.{check_may_want_memory, may_want_memory};
+ghost use Rattle.lrat_checker.specs.TextVerdict.{lrat_format, text_verdict, verdict_so_far};
 
 use crate::judge::Judge;
 use crate::uses::Uses;
-use crate::verdict::{CheckError, Verdict};
 use cnf_base::{Cnf, Id, IdList, Step};
 use host_io::Source;
 use lrat_rules::Reason;
-use lrat_text::{StepError, StepReader};
+use lrat_text::{LratLine, StepError, StepReader};
+use proof_judging::{CheckError, StepJudge, Verdict, judge_steps};
 use std::alloc::Global;
 use text_scan::MAX_BYTES;
 
@@ -43,72 +40,63 @@ pub fn check<S: Source>(alloc: Global, formula: &Cnf, source: &mut S) -> Result<
     ensures reads { OnlyReads (S.channel source.old) (S.channel source.new) }
     ensures beside { S.beside source.new ≡ S.beside source.old }
 {
-    let mut judge = Judge::open(alloc, formula)?;
+    let judge = Judge::open(alloc, formula)?;
+    let mut checking = Checking {
+        judge,
+        uses: Uses::new(alloc),
+    };
     let mut reader = StepReader::new(alloc, MAX_BYTES);
     let mut step = Step::Delete {
         id: Id(0),
         ids: IdList::new(alloc),
     };
-    let mut uses = Uses::new(alloc);
-    judge_steps(&mut judge, &mut reader, &mut step, &mut uses, source)
+    judge_steps(&mut checking, &mut reader, &mut step, source)
 }
 
-// Judges the steps that the reader still gives, each in the same place, with the same lists.
-fn judge_steps<S: Source>(
-    judge: &mut Judge,
-    reader: &mut StepReader,
-    step: &mut Step,
-    uses: &mut Uses,
-    source: &mut S,
-) -> Result<Verdict, CheckError>
-    requires { reader.old.status ≡ Reading }
-    ensures decides { IsTrue S.tells → Decides (S.channel source.old) (S.channel source.new)
-        (λ bytes more. Answers result (steps_verdict judge.old false (steps_ahead reader.old bytes))) }
-    // unless the reader wanted memory, a step did
-    ensures memory { IsTrue S.tells → result ≡ Err OutOfMemory → reader.new.status ≡ Reading →
-        Decides (S.channel source.old) (S.channel source.new)
-        (λ bytes more. IsTrue (steps_may_want_memory judge.old (steps_ahead reader.old bytes))) }
-    // both only at a place like this
-    ensures wants { IsTrue S.tells → result ≡ Err OutOfMemory → Decides (S.channel source.old) (S.channel source.new)
-        (λ bytes more. IsTrue (reading_may_want_memory (length more) judge.old (wants_ahead reader.old bytes))) }
-    // and where the reader did, it says so, at a line whose tokens so far are numbers
-    ensures reader_stops { result ≡ Err OutOfMemory → reader.new.status ≢ Reading → reader.new.status ≡ Failed NoMemory }
-    ensures reader_wants { result ≡ Err OutOfMemory → reader.new.status ≢ Reading → IsTrue (has_numbers reader.new.draft) }
-    ensures undecided { IsTrue S.tells → result ≡ Err ReadFault →
-        steps_verdict judge.old false (so_far reader.old (gained (S.channel source.old) (S.channel source.new))) ≡ None }
-    ensures fault { result ≡ Err ReadFault → Rose (S.channel source.old).faults (S.channel source.new).faults }
-    ensures unfailed { result ≢ Err ReadFault → (S.channel source.new).faults ≡ (S.channel source.old).faults }
-    ensures reads { OnlyReads (S.channel source.old) (S.channel source.new) }
-    ensures beside { S.beside source.new ≡ S.beside source.old }
-{
-    let mut has_empty = false;
-    'steps: loop {
-        match reader.next_into(source, step) {
-            Ok(Some(line)) => {
-                reader.near_law();
-                match judge.step_with(step, uses)? {
-                    Some(reason) => return Ok(Verdict::Refused { line, reason }),
-                    None => has_empty = or_adds_empty(has_empty, step),
-                }
-            }
-            Ok(None) => return Ok(verdict_at_end(has_empty, reader.line())),
-            Err(error) => return answer_to(error),
-        }
+// A judge, with lists that it uses again for each step.
+#[derive(Drop)]
+struct Checking {
+    judge: Judge,
+    uses: Uses,
+}
+
+impl<S: Source> StepJudge<LratLine, S> for Checking {
+    type Error = CheckError;
+
+    ghost tells = { S.tells };
+
+    ghost channel = { S.channel };
+
+    ghost rules = { checking_rules lrat_format may_want_memory (λ checking. checking.judge) S.beside };
+
+    ghost is_ready = { λ checking source. ⊤ };
+
+    fn told_law() {}
+
+    fn next(
+        &self,
+        reader: &mut StepReader,
+        step: &mut Step,
+        source: &mut S,
+    ) -> Result<Option<u64>, StepError> {
+        reader.next_into(source, step)
     }
-}
 
-/// The answer where the reader of the proof gives an error: a line that spells no step is refused; else there is no verdict.
-pub fn answer_to(error: StepError) -> Result<Verdict, CheckError>
-    ensures { result ≡ error_answer error }
-{
-    match error {
-        StepError::Syntax(line) => Ok(Verdict::Refused {
-            line,
-            reason: Reason::Syntax,
-        }),
-        StepError::TooLong => Err(CheckError::TooLong),
-        StepError::ReadFault => Err(CheckError::ReadFault),
-        StepError::OutOfMemory => Err(CheckError::OutOfMemory),
+    fn take(
+        &mut self,
+        step: &Step,
+        _has_empty: bool,
+        _source: &mut S,
+    ) -> Result<Option<Reason>, CheckError> {
+        Ok(self.judge.step_with(step, &mut self.uses)?)
+    }
+
+    fn or_adds_empty(has_empty: bool, step: &Step) -> bool {
+        or_adds_empty(has_empty, step)
+    }
+
+    fn error(error: CheckError) -> CheckError {
+        error
     }
 }
 
@@ -121,18 +109,4 @@ pub fn or_adds_empty(has_empty: bool, step: &Step) -> bool
             Step::Add { lits, .. } => lits.as_slice().is_empty(),
             Step::Delete { .. } => false,
         }
-}
-
-/// The verdict behind good steps, at the end of the proof, which stands on this line.
-pub fn verdict_at_end(has_empty: bool, line: u64) -> Verdict
-    ensures { result ≡ end_verdict has_empty line }
-{
-    if has_empty {
-        Verdict::Verified
-    } else {
-        Verdict::Refused {
-            line,
-            reason: Reason::NoEmptyClause,
-        }
-    }
 }

@@ -1,7 +1,6 @@
 -- What a step becomes, by what the judge tells of it.
 use Rattle.std.proofs.Common.{◌≡◌, ℕ, zero, suc, ◌+◌, ◌≤◌, Bool, true, false, ℤ, List, [], ◌∷◌, ◌++◌, length, map, is_none}
-use Rattle.std.proofs.Common.{Option, None, Some, Ok, Err, if◌then◌else◌, refl, sym, ap, ◌∙◌, subst, arith, inl, inr, nat_eq}
-use Rattle.std.specs.Prelude.{Result}
+use Rattle.std.proofs.Common.{None, Some, if◌then◌else◌, refl, sym, ap, ◌∙◌, arith, inl, inr, nat_eq}
 use Rattle.std.specs.Option.{option_map}
 use Rattle.std.proofs.lemmas.Bool.{cases_lt}
 use Rattle.std.proofs.lemmas.List.{append-nil, get_or_past, map-append}
@@ -9,21 +8,14 @@ use Rattle.cnf_base.specs.declared.list.Group.{Group}
 use Rattle.cnf_base.specs.declared.step.Step.{Step}
 use Rattle.cnf_base.specs.declared.step.Step.TheVariants.{Add, Delete}
 use Rattle.cnf_base.specs.ProofText.{is_empty}
-use Rattle.lrat_text.specs.declared.error.StepError.{StepError}
-use Rattle.lrat_text.specs.declared.error.StepError.TheVariants.{Syntax, TooLong}
-use Rattle.lrat_text.specs.LineSteps.{StepsOf, no_more, overlong, no_step, next_step}
-use Rattle.lrat_text.specs.LineReader.{Gives}
-use Rattle.lrat_rules.specs.declared.outcome.Reason.{Reason}
-use Rattle.drat_text.specs.declared.step.DratStep.{DratStep}
 use Rattle.drat_rules.specs.Clauses.{Equality}
 use Rattle.drat_rules.specs.Quiet.{has_quiet}
-use Rattle.drat_rules.specs.Run.{drat_step_fault}
 use Rattle.drat_checker.specs.Places.{IsFirst, IsNone, Place, Places, place_at, standing}
 use Rattle.drat_checker.specs.Hints.{is_tautology}
 use Rattle.drat_checker.specs.Lines.{group_ids, ids_of}
-use Rattle.lrat_from_drat.specs.Lrat.{Outline, Added, Deleted, addition, beginning_by, deletion, first_twin, is_dropped, lrat_of}
-use Rattle.lrat_from_drat.specs.Lrat.{lrat_of_step, number_if, outline}
-use Rattle.lrat_from_drat.specs.Lrat.{places_after, tautologies_below, tautologies_of, unless_fault}
+use Rattle.lrat_from_drat.specs.Lrat.{Outline, Added, Deleted, addition, beginning_by, deletion, first_twin, is_dropped}
+use Rattle.lrat_from_drat.specs.Lrat.{number_if, outline}
+use Rattle.lrat_from_drat.specs.Lrat.{tautologies_below, tautologies_of}
 
 -- outlines of steps one after another
 pub alike-append : (xs ys : List Step) (front piece : List Outline) → map outline xs ≡ front → map outline ys ≡ piece
@@ -100,40 +92,6 @@ twin-first same clause (Some other ∷ places) (suc n) own at twin least =
 pub first-twin : (same : Equality) (clause : List ℤ) (places : Places) (number : ℕ) → IsFirst same clause places number
     → first_twin same clause places ≡ Some number
 first-twin same clause places number first = twin-first same clause places number first.own first.stands first.twin first.least
-
--- what the reader's next answer says to what the steps ahead become
-module _ (same : Equality) (places : Places) (line : ℕ) (before after : StepsOf DratStep)
-    (answer : Result (Option (DratStep × ℕ)) StepError) (gives : Gives answer line before after) where
-  pub none_at_end : answer ≡ Ok None → lrat_of same places before ≡ []
-  none_at_end e =
-      let both : (before ≡ no_more line) × (after ≡ no_more line) = subst (λ r. Gives r line before after) e gives in
-      ap (lrat_of same places) both.0
-
-  pub none_at_no_step : (at : ℕ) → answer ≡ Err (Syntax at) → lrat_of same places before ≡ []
-  none_at_no_step at e =
-      let both : (before ≡ no_step at) × (after ≡ no_step at) = subst (λ r. Gives r line before after) e gives in
-      ap (lrat_of same places) both.0
-
-  pub none_at_limit : answer ≡ Err TooLong → lrat_of same places before ≡ []
-  none_at_limit e =
-      let both : (before ≡ overlong) × (after ≡ overlong) = subst (λ r. Gives r line before after) e gives in
-      ap (lrat_of same places) both.0
-
-  pub none_at_bad_step : (step : DratStep) (at : ℕ) (reason : Reason) → answer ≡ Ok (Some (step, at))
-      → drat_step_fault (standing places) step ≡ Some reason → lrat_of same places before ≡ []
-  none_at_bad_step step at reason e bad =
-      let given : before ≡ next_step step at after = subst (λ r. Gives r line before after) e gives in
-      ap (lrat_of same places) given
-      ∙ ap (λ f. unless_fault f (lrat_of_step same places step ++ lrat_of same (places_after same places step) after)) bad
-
-  pub some_at_good_step : (step : DratStep) (at : ℕ) (next : Places) → answer ≡ Ok (Some (step, at))
-      → drat_step_fault (standing places) step ≡ None → next ≡ places_after same places step
-      → lrat_of same places before ≡ lrat_of_step same places step ++ lrat_of same next after
-  some_at_good_step step at next e good moved =
-      let given : before ≡ next_step step at after = subst (λ r. Gives r line before after) e gives in
-      ap (lrat_of same places) given
-      ∙ ap (λ f. unless_fault f (lrat_of_step same places step ++ lrat_of same (places_after same places step) after)) good
-      ∙ ap (λ (ps : Places). lrat_of_step same places step ++ lrat_of same ps after) (sym moved)
 
 -- the formula's tautologies: one number more, and the end
 pub below-more : (places : Places) (ids more : List ℕ) (number : ℕ) → ids ≡ tautologies_below number places

@@ -3,5 +3,5 @@ pub mod Becoming
 pub mod Taken
 pub mod Started
 pub mod Leading
-pub mod Exits
+pub mod Converting
 pub mod Whole

@@ -18,8 +18,8 @@ use Rattle.lrat_rules.specs.Run.{Reached, Refutes, run, step_adds_empty}
 use Rattle.lrat_rules.specs.Derivation.{lines_from, text_of}
 use Rattle.cnf_base.specs.ProofText.{is_printable}
 use Rattle.std.specs.List.{list_all}
-use Rattle.lrat_checker.specs.declared.verdict.Verdict.{Verdict}
-use Rattle.lrat_checker.specs.declared.verdict.Verdict.TheVariants.{Refused, Verified}
+use Rattle.proof_judging.specs.declared.verdict.Verdict.{Verdict}
+use Rattle.proof_judging.specs.declared.verdict.Verdict.TheVariants.{Refused, Verified}
 use Rattle.drat_text.specs.Draft.{DratDraft, drat_form}
 use Rattle.drat_rules.specs.Clauses.{Equality}
 use Rattle.drat_proof.specs.declared.error.ConvertError.{ConvertError}

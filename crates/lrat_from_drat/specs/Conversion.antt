@@ -1,19 +1,16 @@
 -- What the answer of a conversion from DRAT to LRAT says of the text that was read, and of the bytes that were written.
-use Rattle.std.specs.Prelude.{◌≡◌, ◌≢◌, ◌⊎◌, ℕ, ℤ, Bool, false, List, ◌++◌, length, map, true, Option, None, Some, Result, Ok, Err, IsTrue}
+use Rattle.std.specs.Prelude.{◌≡◌, ◌≢◌, ◌⊎◌, ℕ, ℤ, Bool, false, List, ◌++◌, length, map, true, None, Some, Result, Ok, Err, IsTrue}
 use Rattle.std.specs.List.{list_any}
 use Rattle.cnf_base.specs.declared.step.Step.{Step}
 use Rattle.host_io.specs.Channel.{Channel, Rose}
 use Rattle.text_scan.specs.Decides.{gained, Decides, OnlyReads}
-use Rattle.lrat_text.specs.declared.error.StepError.{StepError}
-use Rattle.lrat_text.specs.declared.error.StepError.TheVariants.{ReadFault as FailedRead}
-use Rattle.lrat_text.specs.LineReader.{ReaderOf, Gives, GivesSoFar, Moves, steps_ahead, so_far}
-use Rattle.lrat_text.specs.LineWants.{Spends, wants_ahead}
+use Rattle.lrat_text.specs.LineReader.{ReaderOf, steps_ahead, so_far}
+use Rattle.lrat_text.specs.LineWants.{wants_ahead}
 use Rattle.lrat_rules.specs.State.{State, start}
 use Rattle.lrat_rules.specs.Run.{step_adds_empty}
 use Rattle.lrat_rules.specs.Derivation.{text_of}
-use Rattle.lrat_checker.specs.declared.verdict.Verdict.{Verdict}
-use Rattle.lrat_checker.specs.declared.verdict.Verdict.TheVariants.{Refused, Verified}
-use Rattle.drat_text.specs.declared.step.DratStep.{DratStep}
+use Rattle.proof_judging.specs.declared.verdict.Verdict.{Verdict}
+use Rattle.proof_judging.specs.declared.verdict.Verdict.TheVariants.{Refused, Verified}
 use Rattle.drat_text.specs.Draft.{DratDraft, drat_form}
 use Rattle.drat_rules.specs.Clauses.{Equality}
 use Rattle.drat_proof.specs.declared.error.ConvertError.{ConvertError}
@@ -72,19 +69,6 @@ HasLines (Err TooLong) becomes written = AreLinesOf becomes written
 HasLines (Err ReadFault) becomes written = AreFirstLinesOf becomes written
 HasLines (Err OutOfMemory) becomes written = AreFirstLinesOf becomes written
 HasLines (Err WriteFault) becomes written = (rest : List ℕ) × AreFirstLinesOf becomes (written ++ rest)
-
--- Within a call. The next step was read from a role, as a reader of proofs tells it.
-pub record ReadsStep (tells : Bool) (old new : Channel) (before after : ReaderOf DratDraft)
-    (answer : Result (Option (DratStep × ℕ)) StepError) : Type 0 where
-  pub gives : IsTrue tells → Decides old new
-      (λ bytes more. Gives answer after.line (steps_ahead drat_form before bytes) (steps_ahead drat_form after more))
-  pub so_far : IsTrue tells → GivesSoFar drat_form answer before after (gained old new)
-  pub moves : Moves drat_form answer before after
-  pub spends : IsTrue tells → Decides old new
-      (λ bytes more. Spends answer (length more) (wants_ahead drat_form before bytes) (wants_ahead drat_form after more))
-  pub fault : answer ≡ Err FailedRead → Rose old.faults new.faults
-  pub unfailed : answer ≢ Err FailedRead → new.faults ≡ old.faults
-  pub reads : OnlyReads old new
 
 -- The steps ahead of a judge and a reader were converted, reading one role and writing another.
 pub record ConvertsSteps (tells : Bool) (in_old in_new out_old out_new : Channel) (same : Equality) (places : Places)

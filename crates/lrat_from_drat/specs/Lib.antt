@@ -3,3 +3,4 @@ pub mod Lrat
 pub mod Writing
 pub mod Starting
 pub mod Conversion
+pub mod Converting

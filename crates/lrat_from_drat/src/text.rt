@@ -2,23 +2,21 @@
 ghost use Rattle.std.specs.Prelude.{◌≡◌, ◌≢◌, ◌⊎◌, ◌++◌, ℤ, List, length, map, None, Some, Ok, Err, IsTrue};
 ghost use Rattle.host_io.specs.declared.role.Role.TheVariants.{ProofIn, ProofOut};
 ghost use Rattle.host_io.specs.Channel.{Rose};
-ghost use Rattle.host_io.specs.Files.{Kept};
 ghost use Rattle.text_scan.specs.Decides.{gained, Decides, OnlyReads};
 ghost use Rattle.lrat_text.specs.declared.reader.ReaderStatus.TheVariants.{Reading};
-ghost use Rattle.lrat_text.specs.LineReader.{given};
 ghost use Rattle.lrat_rules.specs.State.{State, start};
 ghost use Rattle.lrat_rules.specs.Run.{Refutes};
-ghost use Rattle.lrat_checker.specs.declared.verdict.Verdict.TheVariants.{Verified};
-ghost use Rattle.lrat_checker.specs.TextVerdict.{error_answer};
+ghost use Rattle.proof_judging.specs.declared.verdict.Verdict.TheVariants.{Verified};
 ghost use Rattle.drat_rules.specs.Clauses.{equality_of};
 ghost use Rattle.drat_proof.specs.declared.error.ConvertError.TheVariants.{ReadFault, OutOfMemory, WriteFault};
-ghost use Rattle.drat_proof.specs.Conversion.{HasVerdict, converted};
+ghost use Rattle.drat_proof.specs.Conversion.{HasVerdict};
 ghost use Rattle.drat_proof.specs.TwoRoles.{KeptButTwo, OnlyWrites, added};
 ghost use Rattle.drat_checker.specs.DratVerdict.{drat_text_verdict_by, drat_verdict_so_far_by};
 ghost use Rattle.drat_checker.specs.Memory.{drat_check_may_want_memory_by};
 ghost use Rattle.lrat_from_drat.specs.Following.{Follows};
 ghost use Rattle.lrat_from_drat.specs.Lrat.{lrat_steps};
-ghost use Rattle.lrat_from_drat.specs.Conversion.{ConvertsFrom, ConvertsSteps, HasLines, HasSteps, ReadsStep};
+ghost use Rattle.lrat_from_drat.specs.Conversion.{ConvertsFrom, ConvertsSteps, HasLines, HasSteps};
+ghost use Rattle.lrat_from_drat.specs.Converting.{IsReady, converting_rules};
 
 use crate::start::begin_in;
 use crate::take::take_step;
@@ -26,11 +24,11 @@ use cnf_base::{Cnf, LitList};
 use drat_checker::{LineHints, NumberedJudge, or_adds_empty};
 use drat_proof::ConvertError;
 use drat_rules::Deletions;
-use drat_text::{DratReader, DratStep};
-use host_io::{Host, HostSource, Role, beside_kept};
-use lrat_checker::{Verdict, answer_to, verdict_at_end};
-use lrat_rules::steps_text_law;
+use drat_text::{DratLine, DratReader, DratStep};
+use host_io::Host;
+use lrat_rules::{Reason, steps_text_law};
 use lrat_text::StepError;
+use proof_judging::{CheckError, StepJudge, Verdict, judge_steps, read_step};
 use std::alloc::Global;
 use text_scan::MAX_BYTES;
 
@@ -77,29 +75,24 @@ pub fn convert<H: Host>(
         (H.files host.old) (H.files host.new) }
 {
     steps_text_law();
-    let mut judge = NumberedJudge::open(alloc, formula)?;
-    let mut line = LineHints::new(alloc, true);
+    let judge = NumberedJudge::open(alloc, formula)?;
+    let line = LineHints::new(alloc, true);
+    let mut conversion = Conversion {
+        judge,
+        line,
+        deletions,
+    };
     let mut reader = DratReader::new(alloc, MAX_BYTES);
     let mut step = DratStep::Delete {
         lits: LitList::new(alloc),
     };
-    convert_from(
-        alloc,
-        &mut judge,
-        &mut line,
-        deletions,
-        &mut reader,
-        &mut step,
-        host,
-    )
+    convert_from(alloc, &mut conversion, &mut reader, &mut step, host)
 }
 
 // Begins the proof, and converts the steps.
 fn convert_from<H: Host>(
     alloc: Global,
-    judge: &mut NumberedJudge,
-    line: &mut LineHints,
-    deletions: Deletions,
+    conversion: &mut Conversion,
     reader: &mut DratReader,
     step: &mut DratStep,
     host: &mut H,
@@ -107,25 +100,23 @@ fn convert_from<H: Host>(
     requires opened { (H.channel host.old ProofIn).name ≢ None }
     requires created { (H.channel host.old ProofOut).name ≢ None }
     requires reading { reader.old.status ≡ Reading }
-    requires wanted { IsTrue line.old.is_wanted }
-    requires clauses { (clauses : List (List ℤ)) × (judge.old ≡ map Some clauses) }
-    ensures converts { (clauses : List (List ℤ)) → judge.old ≡ map Some clauses → ConvertsFrom H.tells (H.channel host.old ProofIn)
-        (H.channel host.new ProofIn) (H.channel host.old ProofOut) (H.channel host.new ProofOut) (equality_of deletions) clauses
-        reader.old result }
+    requires wanted { IsTrue conversion.old.line.is_wanted }
+    requires clauses { (clauses : List (List ℤ)) × (conversion.old.judge ≡ map Some clauses) }
+    ensures converts { (clauses : List (List ℤ)) → conversion.old.judge ≡ map Some clauses → ConvertsFrom H.tells
+        (H.channel host.old ProofIn) (H.channel host.new ProofIn) (H.channel host.old ProofOut) (H.channel host.new ProofOut)
+        (equality_of conversion.old.deletions) clauses reader.old result }
     ensures kept { KeptButTwo ProofIn ProofOut (H.channel host.old ProofOut).name (H.channel host.old) (H.channel host.new)
         (H.files host.old) (H.files host.new) }
 {
-    match begin_in(alloc, judge, line, host) {
-        Ok(()) => convert_steps(judge, line, deletions, reader, step, host),
+    match begin_in(alloc, &conversion.judge, &mut conversion.line, host) {
+        Ok(()) => convert_steps(conversion, reader, step, host),
         Err(error) => Err(error),
     }
 }
 
 // Converts the steps that the reader still gives, each in the same place.
 fn convert_steps<H: Host>(
-    judge: &mut NumberedJudge,
-    line: &mut LineHints,
-    deletions: Deletions,
+    conversion: &mut Conversion,
     reader: &mut DratReader,
     step: &mut DratStep,
     host: &mut H,
@@ -133,50 +124,62 @@ fn convert_steps<H: Host>(
     requires opened { (H.channel host.old ProofIn).name ≢ None }
     requires created { (H.channel host.old ProofOut).name ≢ None }
     requires reading { reader.old.status ≡ Reading }
-    requires wanted { IsTrue line.old.is_wanted }
-    requires followed { (state : State) × Follows state judge.old }
+    requires wanted { IsTrue conversion.old.line.is_wanted }
+    requires followed { (state : State) × Follows state conversion.old.judge }
     ensures converts { ConvertsSteps H.tells (H.channel host.old ProofIn) (H.channel host.new ProofIn) (H.channel host.old ProofOut)
-        (H.channel host.new ProofOut) (equality_of deletions) judge.old reader.old result }
+        (H.channel host.new ProofOut) (equality_of conversion.old.deletions) conversion.old.judge reader.old result }
     ensures kept { KeptButTwo ProofIn ProofOut (H.channel host.old ProofOut).name (H.channel host.old) (H.channel host.new)
         (H.files host.old) (H.files host.new) }
 {
-    let mut has_empty = false;
-    'steps: loop {
-        match read_step(reader, host, step) {
-            Ok(Some(at)) => {
-                reader.near_law();
-                match take_step(judge, line, deletions, step, host) {
-                    Ok(None) => has_empty = or_adds_empty(has_empty, step),
-                    Ok(Some(reason)) => return Ok(Verdict::Refused { line: at, reason }),
-                    Err(error) => return Err(error),
-                }
-            }
-            Ok(None) => return Ok(verdict_at_end(has_empty, reader.line())),
-            Err(error) => return answer_of(error),
-        }
+    judge_steps(conversion, reader, step, host)
+}
+
+// A judge, with what a line needs that is written, and what a deletion takes for its clause.
+#[derive(Drop)]
+struct Conversion {
+    judge: NumberedJudge,
+    line: LineHints,
+    deletions: Deletions,
+}
+
+impl<H: Host> StepJudge<DratLine, H> for Conversion {
+    type Error = ConvertError;
+
+    ghost tells = { H.tells };
+
+    ghost channel = { λ host. H.channel host ProofIn };
+
+    ghost rules = { converting_rules H.tells (λ conversion. equality_of conversion.deletions) (λ conversion. conversion.judge) H.channel
+        H.files };
+
+    // both roles have their names, hints are wanted, and the clauses are followed
+    ghost is_ready = { λ conversion host. IsReady (H.channel host ProofIn) (H.channel host ProofOut) conversion.line.is_wanted conversion.judge };
+
+    fn told_law() {}
+
+    fn next(
+        &self,
+        reader: &mut DratReader,
+        step: &mut DratStep,
+        host: &mut H,
+    ) -> Result<Option<u64>, StepError> {
+        read_step(reader, host, step)
     }
-}
 
-// A line that spells no step is refused; else there is no verdict.
-fn answer_of(error: StepError) -> Result<Verdict, ConvertError>
-    ensures { result ≡ converted (error_answer error) }
-{
-    Ok(answer_to(error)?)
-}
+    fn take(
+        &mut self,
+        step: &DratStep,
+        _has_empty: bool,
+        host: &mut H,
+    ) -> Result<Option<Reason>, ConvertError> {
+        take_step(&mut self.judge, &mut self.line, self.deletions, step, host)
+    }
 
-// Reads the next step of the proof into its place.
-fn read_step<H: Host>(
-    reader: &mut DratReader,
-    host: &mut H,
-    step: &mut DratStep,
-) -> Result<Option<u64>, StepError>
-    requires opened { (H.channel host.old ProofIn).name ≢ None }
-    requires reading { reader.old.status ≡ Reading }
-    ensures reads { ReadsStep H.tells (H.channel host.old ProofIn) (H.channel host.new ProofIn) reader.old reader.new
-        (given step.new result) }
-    ensures kept { Kept ProofIn None (H.channel host.old) (H.channel host.new) (H.files host.old) (H.files host.new) }
-{
-    beside_kept::<H>();
-    let mut source = HostSource::new(host, Role::ProofIn);
-    reader.next_into(&mut source, step)
+    fn or_adds_empty(has_empty: bool, step: &DratStep) -> bool {
+        or_adds_empty(has_empty, step)
+    }
+
+    fn error(error: CheckError) -> ConvertError {
+        ConvertError::from(error)
+    }
 }

@@ -10,7 +10,7 @@ use Rattle.lrat_rules.specs.State.{start}
 use Rattle.node_table.specs.HandedOn.{same_error}
 use Rattle.schedule_plan.specs.declared.plan.Move.{Move}
 use Rattle.schedule_plan.specs.declared.limits.Limits.{Limits}
-use Rattle.term_runner.specs.declared.error.RunError.TheVariants.{OutOfMemory, WriteFault}
+use Rattle.bdd_terms.specs.declared.error.RunError.TheVariants.{OutOfMemory, WriteFault}
 use Rattle.term_runner.specs.Proofs.{IsProof, KeepsWithin}
 use Rattle.parity_runs.specs.Ends.{EndsBehind, EndsWithParity}
 

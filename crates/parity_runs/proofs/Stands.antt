@@ -17,17 +17,17 @@ use Rattle.node_table.specs.Table.{live_nodes}
 use Rattle.node_table.specs.Tied.{IsTied}
 use Rattle.schedule_plan.specs.declared.plan.Move.{Move}
 use Rattle.schedule_plan.specs.declared.limits.Limits.{Limits}
-use Rattle.term_runner.specs.declared.error.RunError.{RunError}
-use Rattle.term_runner.specs.declared.error.RunError.TheVariants.{OutOfMemory, WriteFault}
+use Rattle.bdd_terms.specs.declared.error.RunError.{RunError}
+use Rattle.bdd_terms.specs.declared.error.RunError.TheVariants.{OutOfMemory, WriteFault}
 use Rattle.term_runner.specs.declared.outcome.Outcome.TheVariants.{IdLimit}
 use Rattle.term_runner.specs.declared.outcome.Run.{Run}
-use Rattle.term_runner.specs.declared.runner.Runner.{Runner}
+use Rattle.bdd_terms.specs.declared.runner.Runner.{Runner}
 use Rattle.term_runner.specs.Clauses.{has_empty_clause, is_tautology}
 use Rattle.term_runner.specs.Ends.{EndsAs, ShowsFrom}
 use Rattle.term_runner.specs.Price.{AreAmpleFrom, IsPaidFrom}
 use Rattle.term_runner.specs.Proofs.{IsProof, IsProofOfKind, IsProofSoFarOfKind, KeepsWithin, UsesVariables}
-use Rattle.term_runner.specs.Runner.{IsRunner}
-use Rattle.term_runner.specs.Unused.{IsOpenedOver}
+use Rattle.bdd_terms.specs.Runner.{IsRunner}
+use Rattle.bdd_terms.specs.Unused.{IsOpenedOver}
 use Rattle.parity_runs.specs.Behind.{IsClosed, RunsPlan}
 
 -- numbers up to the first one were given before the plan, and each of its moves gave no more than this

@@ -1,5 +1,5 @@
 -- What a run tells behind the sums of the equations, whatever these came to.
-use Rattle.std.proofs.Common.{◌≡◌, ◌⊎◌, ◌∙◌, ◌<◌, ◌≤◌, ◌+◌, ◌*◌, ◌++◌, ℕ, max, Bool, true, false, List, [], ◌∷◌, length}
+use Rattle.std.proofs.Common.{◌≡◌, ◌⊎◌, ◌∙◌, ◌<◌, ◌≤◌, ◌+◌, ◌*◌, ◌++◌, ℕ, Bool, true, false, List, [], ◌∷◌, length}
 use Rattle.std.proofs.Common.{Result, Ok, Err, refl, sym, ap, subst, arith, inl, inr}
 use Rattle.std.specs.Prelude.{IfOk, IsFalse, IsTrue}
 use Rattle.std.specs.List.{list_all}
@@ -15,23 +15,24 @@ use Rattle.node_table.specs.declared.error.TableError.{TableError}
 use Rattle.node_table.specs.declared.error.TableError.TheVariants as table
 use Rattle.node_table.specs.Diagram.{Graph, levels}
 use Rattle.node_table.specs.HandedOn.{no_error, same_error}
+use Rattle.node_table.specs.Progress.{Leaves, error_of}
 use Rattle.node_table.specs.Table.{live_nodes}
 use Rattle.node_table.specs.Tied.{IsTied}
 use Rattle.schedule_plan.specs.declared.plan.Move.{Move}
 use Rattle.schedule_plan.specs.declared.limits.Limits.{Limits}
 use Rattle.parity_equations.specs.Conflict.{AreInConflict}
 use Rattle.parity_equations.specs.Equations.{equations}
-use Rattle.term_runner.specs.declared.error.RunError.{RunError}
-use Rattle.term_runner.specs.declared.error.RunError.TheVariants.{OutOfMemory, WriteFault}
+use Rattle.bdd_terms.specs.declared.error.RunError.{RunError}
+use Rattle.bdd_terms.specs.declared.error.RunError.TheVariants.{OutOfMemory, WriteFault}
 use Rattle.term_runner.specs.declared.outcome.Outcome.{Outcome}
 use Rattle.term_runner.specs.declared.outcome.Outcome.TheVariants.{IdLimit, NodeLimit, Sat, Unsat}
 use Rattle.term_runner.specs.declared.outcome.Run.{Run}
-use Rattle.term_runner.specs.declared.runner.Runner.{Runner}
+use Rattle.bdd_terms.specs.declared.runner.Runner.{Runner}
 use Rattle.term_runner.specs.Clauses.{has_empty_clause, is_tautology}
-use Rattle.term_runner.specs.Ends.{Shows, ShowsFrom}
-use Rattle.term_runner.specs.Price.{IsMovePrice}
-use Rattle.term_runner.specs.Runner.{IsRunner}
-use Rattle.term_runner.specs.Unused.{IsOpenedOver}
+use Rattle.term_runner.specs.Ends.{HasLast, Shows, ShowsFrom}
+use Rattle.bdd_terms.specs.Price.{IsMovePrice}
+use Rattle.bdd_terms.specs.Runner.{IsRunner}
+use Rattle.bdd_terms.specs.Unused.{IsOpenedOver}
 use Rattle.parity_terms.specs.Ends.{Ends as SumsEnd}
 use Rattle.parity_terms.specs.Limit.{CostsElimination, all_variables, nodes_needed, step_width}
 use Rattle.parity_terms.specs.Steps.{Keeps}
@@ -59,25 +60,28 @@ origin_kept all old new (Err table.IdLimit) sums = (sums.keeps ids_whole).origin
 origin_kept all old new (Err table.OutOfMemory) sums = (sums.keeps memory_whole).origin
 origin_kept all old new (Err table.WriteFault) sums = ap (λ b. b.origin) sums.leaves.told.is
 
--- no number is above the greatest, however the sums end
-module _ {S : Type 0} (old new : Runner S) (result : Result Run RunError)
-    (last : IfOk result (λ run. run.last_id ≤ max (length new.formula.now.clauses) new.limits.max_ids)) where
-  last_kept : Keeps [] old new → IfOk result (λ run. run.last_id ≤ max (length old.formula.now.clauses) old.limits.max_ids)
+-- the last number, however the sums end
+module _ {S : Type 0} (old new : Runner S) (result : Result Run RunError) (last : IfOk result (HasLast new.formula.now new.limits)) where
+  last_kept : Keeps [] old new → IfOk result (HasLast old.formula.now old.limits)
   last_kept keeps =
-      subst (λ (limits : Limits). IfOk result (λ run. run.last_id ≤ max (length old.formula.now.clauses) limits.max_ids)) keeps.limits
-      (subst (λ (formula : Formula). IfOk result (λ run. run.last_id ≤ max (length formula.clauses) new.limits.max_ids))
-      (ap (λ f. f.now) keeps.formula) last)
+      subst (λ (limits : Limits). IfOk result (HasLast old.formula.now limits)) keeps.limits
+      (subst (λ (formula : Formula). IfOk result (HasLast formula new.limits)) (ap (λ f. f.now) keeps.formula) last)
 
   pub last_within : (tells : Bool) (all : List (List ℕ × Bool)) (mid after : Channel) (moves : List Move) (found : Result Bool TableError)
       → SumsEnd all old new found → GoesOn tells mid after new moves found result
-      → IfOk result (λ run. run.last_id ≤ max (length old.formula.now.clauses) old.limits.max_ids)
+      → IfOk result (HasLast old.formula.now old.limits)
   last_within tells all mid after moves (Ok refuted) sums goes = last_kept (sums.keeps no_error)
   last_within tells all mid after moves (Err table.NodeLimit) sums goes = absurd goes
   last_within tells all mid after moves (Err table.IdLimit) sums goes = last_kept (sums.keeps ids_whole)
   last_within tells all mid after moves (Err table.OutOfMemory) sums goes = last_kept (sums.keeps memory_whole)
   last_within tells all mid after moves (Err table.WriteFault) sums goes =
-      subst (λ (r : Result Run RunError). IfOk r (λ run. run.last_id ≤ max (length old.formula.now.clauses) old.limits.max_ids))
-      (sym goes.0) tt
+      subst (λ (r : Result Run RunError). IfOk r (HasLast old.formula.now old.limits)) (sym goes.0) tt
+
+-- at their limit of numbers fewer than four are left
+pub sums_spent : {S : Type 0} (all : List (List ℕ × Bool)) (old new : Runner S) (found : Result Bool TableError) → SumsEnd all old new found
+    → found ≡ Err table.IdLimit → new.terms.table.book.limit < new.terms.table.book.state.top + 4
+sums_spent all old new found sums is =
+    (subst (λ (r : Result Bool TableError). Leaves old.terms.table new.terms.table (error_of r)) is sums.leaves).1
 
 -- another outcome than the limit of nodes
 other_outcome : (P : Type 0) (outcome : Outcome) → (outcome ≡ NodeLimit → ⊥) → (result : Result Run RunError)

@@ -17,7 +17,7 @@ use Rattle.parity_equations.specs.Equations.{equations, equations_over, sets_but
 use Rattle.parity_equations.specs.declared.equations.Equation.{Equation}
 use Rattle.parity_equations.specs.Walk.{listed}
 use Rattle.parity_equations.specs.LiteralSet.{has_both_signs}
-use Rattle.term_runner.specs.declared.error.RunError.{RunError}
+use Rattle.bdd_terms.specs.declared.error.RunError.{RunError}
 use Rattle.term_runner.specs.declared.outcome.Run.{Run}
 use Rattle.term_runner.specs.Clauses.{has_empty_clause, is_tautology}
 use Rattle.term_runner.specs.Ends.{Ends}

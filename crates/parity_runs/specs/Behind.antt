@@ -4,11 +4,11 @@ use Rattle.host_io.specs.Channel.{Channel, Rose}
 use Rattle.node_table.specs.declared.error.TableError.{TableError}
 use Rattle.node_table.specs.declared.error.TableError.TheVariants as table
 use Rattle.schedule_plan.specs.declared.plan.Move.{Move}
-use Rattle.term_runner.specs.declared.error.RunError.{RunError}
-use Rattle.term_runner.specs.declared.error.RunError.TheVariants.{OutOfMemory, WriteFault}
+use Rattle.bdd_terms.specs.declared.error.RunError.{RunError}
+use Rattle.bdd_terms.specs.declared.error.RunError.TheVariants.{OutOfMemory, WriteFault}
 use Rattle.term_runner.specs.declared.outcome.Outcome.TheVariants.{IdLimit, Unsat}
 use Rattle.term_runner.specs.declared.outcome.Run.{Run}
-use Rattle.term_runner.specs.declared.runner.Runner.{Runner}
+use Rattle.bdd_terms.specs.declared.runner.Runner.{Runner}
 use Rattle.term_runner.specs.Ends.{EndsFrom}
 
 -- The plan is run. Where the empty clause was there it isn't needed.

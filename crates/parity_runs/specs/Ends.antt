@@ -7,13 +7,13 @@ use Rattle.schedule_plan.specs.declared.plan.Move.{Move}
 use Rattle.schedule_plan.specs.declared.limits.Limits.{Limits}
 use Rattle.parity_equations.specs.Conflict.{AreInConflict}
 use Rattle.parity_equations.specs.Equations.{equations}
-use Rattle.term_runner.specs.declared.error.RunError.{RunError}
-use Rattle.term_runner.specs.declared.error.RunError.TheVariants.{OutOfMemory}
+use Rattle.bdd_terms.specs.declared.error.RunError.{RunError}
+use Rattle.bdd_terms.specs.declared.error.RunError.TheVariants.{OutOfMemory}
 use Rattle.term_runner.specs.declared.outcome.Outcome.TheVariants.{NodeLimit}
 use Rattle.term_runner.specs.declared.outcome.Run.{Run}
 use Rattle.term_runner.specs.Clauses.{has_empty_clause}
 use Rattle.term_runner.specs.Ends.{Ends, EndsAs, Shows}
-use Rattle.term_runner.specs.Price.{IsMovePrice}
+use Rattle.bdd_terms.specs.Price.{IsMovePrice}
 use Rattle.parity_terms.specs.Limit.{all_variables, nodes_needed, step_width}
 
 -- so many moves the equations' sums cost at most: two for each clause, and two for each variable of each equation

@@ -1,10 +1,12 @@
 // A run of a plan behind parity reasoning, from the formula to the flushed proof.
-ghost use Rattle.std.specs.Prelude.{◌≡◌, ◌≤◌, [], length, max, IfOk, IsTrue};
+ghost use Rattle.std.specs.Prelude.{◌≡◌, ◌≤◌, [], length, IfOk, IsTrue};
 ghost use Rattle.schedule_plan.specs.Limits.{AreLimits};
 ghost use Rattle.schedule_plan.specs.Plan.{IsAdmissible};
+ghost use Rattle.term_runner.specs.Ends.{HasLast};
 ghost use Rattle.parity_runs.specs.Ends.{EndsWithParity};
 
 use crate::behind::go_on;
+use bdd_terms::{Parts, RunError, Runner};
 use cnf_base::Cnf;
 use host_io::Sink;
 use lrat_rules::{derivation_law, marks_law, start_law};
@@ -13,7 +15,7 @@ use parity_equations::Equations;
 use parity_terms::eliminate;
 use schedule_plan::{Limits, Order, Plan};
 use std::alloc::Global;
-use term_runner::{Parts, Run, RunError, Runner, Watch, run_plan_into};
+use term_runner::{Run, Watch, run_plan_into};
 
 /// Adds up the formula's parity equations, and then runs a plan, with its proof behind theirs on one sink, which is lent. Where a clause is
 /// empty, or there is no equation, it is the run of the plan alone.
@@ -32,7 +34,7 @@ pub fn run_with_parity<S: Sink + Drop>(
     requires fresh { IsTrue S.tells → (S.channel sink.old).written ≡ [] }
     requires begun { watch.old.moves ≡ 0 }
     ensures ends { EndsWithParity S.tells (S.channel sink.old) (S.channel sink.new) formula.now order.now plan.now limits result }
-    ensures last { IfOk result (λ run. run.last_id ≤ max (length formula.now.clauses) limits.max_ids) }
+    ensures last { IfOk result (HasLast formula.now limits) }
     ensures counted { watch.new.moves ≤ length plan.now }
     ensures beside { S.beside sink.new ≡ S.beside sink.old }
 {

@@ -22,7 +22,7 @@ pub fn try_with_parity(
     requires order { length order.now ≡ formula.now.vars }
     requires plan { IsAdmissible formula.now plan.now }
     requires limits { AreLimits limits }
-    ensures { IfOk result (IsTrial formula.now plan.now limits) }
+    ensures { IfOk result (IsTrial formula.now order.now plan.now limits) }
 {
     let mut watch = Watch::of_trial();
     let mut sink = NoSink;

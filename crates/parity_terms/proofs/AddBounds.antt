@@ -11,14 +11,14 @@ use Rattle.node_table.specs.Diagram.{is_node, levels}
 use Rattle.node_table.specs.Laws.{Growth}
 use Rattle.node_table.specs.Value.{Levels}
 use Rattle.parity_nodes.specs.Sums.{sum_is}
-use Rattle.term_runner.specs.declared.held.HeldTerm.{HeldTerm}
-use Rattle.term_runner.specs.declared.runner.Runner.{Runner}
-use Rattle.term_runner.specs.declared.term.Term.{Term}
-use Rattle.term_runner.specs.Caches.{HaveSize}
-use Rattle.term_runner.specs.Counting.{Counting, IsPartOfOne}
-use Rattle.term_runner.specs.Price.{IsMovePrice}
-use Rattle.term_runner.specs.Runner.{IsRunner, holds_in}
-use Rattle.term_runner.specs.Width.{HasAtMost}
+use Rattle.bdd_terms.specs.declared.held.HeldTerm.{HeldTerm}
+use Rattle.bdd_terms.specs.declared.runner.Runner.{Runner}
+use Rattle.bdd_terms.specs.declared.term.Term.{Term}
+use Rattle.bdd_terms.specs.Caches.{HaveSize}
+use Rattle.bdd_terms.specs.Counting.{Counting, IsPartOfOne}
+use Rattle.bdd_terms.specs.Price.{IsMovePrice}
+use Rattle.bdd_terms.specs.Runner.{IsRunner, holds_in}
+use Rattle.bdd_terms.specs.Parts.{HasAtMost}
 use Rattle.parity_terms.specs.declared.row.Row.{Row}
 use Rattle.parity_terms.specs.Limit.{AreBounded, AreOf, IsBounded, functions_of, level_in}
 use Rattle.parity_terms.specs.Numbered.{AreNumbered}

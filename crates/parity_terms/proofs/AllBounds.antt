@@ -9,10 +9,10 @@ use Rattle.node_table.specs.declared.error.TableError.TheVariants.{NodeLimit}
 use Rattle.node_table.specs.Laws.{Growth}
 use Rattle.parity_equations.specs.declared.equations.Equation.{Equation}
 use Rattle.parity_equations.specs.Walk.{listed}
-use Rattle.term_runner.specs.declared.runner.Runner.{Runner}
-use Rattle.term_runner.specs.Counting.{Counting}
-use Rattle.term_runner.specs.Price.{IsMovePrice}
-use Rattle.term_runner.specs.Runner.{IsRunner}
+use Rattle.bdd_terms.specs.declared.runner.Runner.{Runner}
+use Rattle.bdd_terms.specs.Counting.{Counting}
+use Rattle.bdd_terms.specs.Price.{IsMovePrice}
+use Rattle.bdd_terms.specs.Runner.{IsRunner}
 use Rattle.parity_terms.specs.declared.row.Row.{Row}
 use Rattle.parity_terms.specs.Limit.{AreBounded, AreOf, AreRowsOf, CostsElimination, all_variables, nodes_needed, step_width}
 use Rattle.parity_terms.specs.Owned.{Owns}

@@ -12,11 +12,11 @@ use Rattle.node_table.specs.Laws.{StepByStep}
 use Rattle.node_table.specs.Progress.{Continues, Leaves}
 use Rattle.node_table.specs.Table.{live_nodes}
 use Rattle.parity_equations.specs.Laws.{Independent}
-use Rattle.term_runner.specs.declared.runner.Runner.{Runner}
-use Rattle.term_runner.specs.Runner.{IsRunner}
+use Rattle.bdd_terms.specs.declared.runner.Runner.{Runner}
+use Rattle.bdd_terms.specs.Runner.{IsRunner}
 use Rattle.parity_terms.specs.declared.row.Row.{Row}
 use Rattle.parity_terms.specs.Ends.{Ends, ReleasesAll}
-use Rattle.term_runner.specs.Full.{IsFull, LacksBehind}
+use Rattle.bdd_terms.specs.Full.{IsFull, LacksBehind}
 use Rattle.parity_terms.specs.Order.{ArePlaces}
 use Rattle.parity_terms.specs.Owned.{Owns}
 use Rattle.parity_terms.specs.Rows.{AreReduced, Eliminates, IsRow, TakesEquation, held_of, place_in, vector_of}

@@ -12,16 +12,16 @@ use Rattle.node_table.specs.Progress.{error_of}
 use Rattle.node_table.specs.Value.{Levels}
 use Rattle.clause_terms.specs.Term.{by_variable}
 use Rattle.quantify.specs.SomeValues.{function_of}
-use Rattle.term_runner.specs.declared.held.HeldTerm.{HeldTerm}
-use Rattle.term_runner.specs.declared.runner.Runner.{Runner}
-use Rattle.term_runner.specs.declared.term.Term.{Term}
-use Rattle.term_runner.specs.Caches.{HaveSize}
-use Rattle.term_runner.specs.Counting.{Counting, IsPartOfOne}
-use Rattle.term_runner.specs.Parity.{TakesNode, TakesWeaker, node_holds}
-use Rattle.term_runner.specs.Price.{IsMovePrice}
-use Rattle.term_runner.specs.Runner.{IsRunner, Releases}
-use Rattle.term_runner.specs.Takes.{Costs, asked_in, function_in, functions_out}
-use Rattle.term_runner.specs.Width.{AreMore, HasAtMost}
+use Rattle.bdd_terms.specs.declared.held.HeldTerm.{HeldTerm}
+use Rattle.bdd_terms.specs.declared.runner.Runner.{Runner}
+use Rattle.bdd_terms.specs.declared.term.Term.{Term}
+use Rattle.bdd_terms.specs.Caches.{HaveSize}
+use Rattle.bdd_terms.specs.Counting.{Counting, IsPartOfOne}
+use Rattle.bdd_terms.specs.Parity.{TakesNode, TakesWeaker, node_holds}
+use Rattle.bdd_terms.specs.Price.{IsMovePrice}
+use Rattle.bdd_terms.specs.Runner.{IsRunner, Releases}
+use Rattle.bdd_terms.specs.Takes.{Costs, asked_in, function_in, functions_out}
+use Rattle.bdd_terms.specs.Parts.{AreMore, HasAtMost}
 use Rattle.parity_terms.specs.Limit.{IsBounded, by_levels, functions_of, in_hand}
 use Rattle.parity_terms.specs.Owned.{Owns}
 use Rattle.parity_terms.specs.Steps.{Goes}
@@ -60,8 +60,8 @@ same_size : {S : Type 0} (runner : Runner S) → IsRunner runner → (size : ℕ
     → runner.limits.cache ≡ size
 same_size runner is size have = first (sym is.within.size ∙ have)
   where
-    first : ◌≡◌ {A = List ℕ} (runner.limits.cache ∷ runner.limits.cache ∷ runner.limits.cache ∷ runner.limits.cache ∷ [])
-        (size ∷ size ∷ size ∷ size ∷ []) → runner.limits.cache ≡ size
+    first : ◌≡◌ {A = List ℕ} (runner.limits.cache ∷ runner.limits.cache ∷ runner.limits.cache ∷ runner.limits.cache ∷ runner.limits.cache
+        ∷ []) (size ∷ size ∷ size ∷ size ∷ size ∷ []) → runner.limits.cache ≡ size
     first same = cc
 
 -- more parts, of more functions

@@ -7,11 +7,11 @@ use Rattle.node_table.specs.declared.error.TableError.{TableError}
 use Rattle.node_table.specs.declared.error.TableError.TheVariants.{NodeLimit}
 use Rattle.node_table.specs.Laws.{Growth}
 use Rattle.quantify.specs.SomeValues.{function_of}
-use Rattle.term_runner.specs.declared.held.HeldTerm.{HeldTerm}
-use Rattle.term_runner.specs.declared.runner.Runner.{Runner}
-use Rattle.term_runner.specs.declared.term.Term.{Term}
-use Rattle.term_runner.specs.Counting.{Counting}
-use Rattle.term_runner.specs.Runner.{IsRunner}
+use Rattle.bdd_terms.specs.declared.held.HeldTerm.{HeldTerm}
+use Rattle.bdd_terms.specs.declared.runner.Runner.{Runner}
+use Rattle.bdd_terms.specs.declared.term.Term.{Term}
+use Rattle.bdd_terms.specs.Counting.{Counting}
+use Rattle.bdd_terms.specs.Runner.{IsRunner}
 use Rattle.parity_terms.specs.Limit.{AreBounded, AreClausesAmong, CostsMoves, IsBounded, IsClauseAmong}
 use Rattle.parity_terms.specs.Numbered.{DependsOn}
 use Rattle.parity_terms.specs.Owned.{Owns}

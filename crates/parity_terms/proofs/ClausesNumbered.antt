@@ -10,7 +10,7 @@ use Rattle.std.proofs.lemmas.Nat.{pow_pos}
 use Rattle.std.proofs.Math.Nat.{two-pow-succ}
 use Rattle.cnf_base.specs.Truth.{clause_holds, literal_holds}
 use Rattle.node_table.specs.Value.{IsSubfunction, Levels, fixed_to}
-use Rattle.term_runner.specs.Width.{IsEssential}
+use Rattle.bdd_terms.specs.Parts.{IsEssential}
 use Rattle.parity_terms.specs.Numbered.{AreNumbered, DependsOn}
 use Rattle.parity_terms.proofs.FixedParts.{Agree, before, first_or_more, fixed_numbered, head_agrees, is_fixed, is_open, tail_agrees}
 

@@ -14,11 +14,11 @@ use Rattle.parity_equations.specs.OwnClauses.{OwnClauses}
 use Rattle.parity_equations.specs.Walk.{IsEquationOf}
 use Rattle.parity_nodes.specs.Sums.{exclusive_or}
 use Rattle.quantify.specs.SomeValues.{function_of}
-use Rattle.term_runner.specs.declared.held.HeldTerm.{HeldTerm}
-use Rattle.term_runner.specs.declared.runner.Runner.{Runner}
-use Rattle.term_runner.specs.Counting.{Counting, IsPartOfOne}
-use Rattle.term_runner.specs.Runner.{IsRunner}
-use Rattle.term_runner.specs.Width.{HasAtMost}
+use Rattle.bdd_terms.specs.declared.held.HeldTerm.{HeldTerm}
+use Rattle.bdd_terms.specs.declared.runner.Runner.{Runner}
+use Rattle.bdd_terms.specs.Counting.{Counting, IsPartOfOne}
+use Rattle.bdd_terms.specs.Runner.{IsRunner}
+use Rattle.bdd_terms.specs.Parts.{HasAtMost}
 use Rattle.parity_terms.specs.declared.row.Row.{Row}
 use Rattle.parity_terms.specs.Limit.{AreBounded, AreClausesAmong, AreOf, AreRowsOf, CostsMoves, functions_of, level_in, step_width}
 use Rattle.parity_terms.specs.Numbered.{AreNumbered}

@@ -8,11 +8,11 @@ use Rattle.node_table.specs.Laws.{Growth}
 use Rattle.parity_equations.specs.declared.equations.Equation.{Equation}
 use Rattle.parity_equations.specs.OwnClauses.{OwnClauses}
 use Rattle.parity_equations.specs.Walk.{IsEquationOf, listed}
-use Rattle.term_runner.specs.declared.held.HeldTerm.{HeldTerm}
-use Rattle.term_runner.specs.declared.runner.Runner.{Runner}
-use Rattle.term_runner.specs.declared.term.Term.{Term}
-use Rattle.term_runner.specs.Counting.{Counting}
-use Rattle.term_runner.specs.Runner.{IsRunner}
+use Rattle.bdd_terms.specs.declared.held.HeldTerm.{HeldTerm}
+use Rattle.bdd_terms.specs.declared.runner.Runner.{Runner}
+use Rattle.bdd_terms.specs.declared.term.Term.{Term}
+use Rattle.bdd_terms.specs.Counting.{Counting}
+use Rattle.bdd_terms.specs.Runner.{IsRunner}
 use Rattle.parity_terms.specs.declared.row.Row.{Row}
 use Rattle.parity_terms.specs.Limit.{AreBounded, AreClausesAmong, AreOf, level_in, step_width}
 use Rattle.parity_terms.specs.Order.{AreOrdered, HaveSameFirst}

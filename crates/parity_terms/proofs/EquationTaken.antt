@@ -22,10 +22,10 @@ use Rattle.parity_equations.specs.Conflict.{vector}
 use Rattle.parity_equations.specs.Laws.{ClausesSay}
 use Rattle.parity_equations.specs.Walk.{AreRisingUpTo, IsEquationOf, listed}
 use Rattle.parity_nodes.specs.Sums.{exclusive_or, odd_over}
-use Rattle.term_runner.specs.declared.held.HeldTerm.{HeldTerm}
-use Rattle.term_runner.specs.declared.runner.Runner.{Runner}
-use Rattle.term_runner.specs.declared.term.Term.{Term}
-use Rattle.term_runner.specs.Runner.{IsRunner, Releases, holds_in}
+use Rattle.bdd_terms.specs.declared.held.HeldTerm.{HeldTerm}
+use Rattle.bdd_terms.specs.declared.runner.Runner.{Runner}
+use Rattle.bdd_terms.specs.declared.term.Term.{Term}
+use Rattle.bdd_terms.specs.Runner.{IsRunner, Releases, holds_in}
 use Rattle.parity_terms.specs.declared.row.Row.{Row}
 use Rattle.parity_terms.specs.Clauses.{TakesClauses}
 use Rattle.parity_terms.specs.Order.{AreInOrder, AreOrdered, ArePlaces, HaveSameFirst, place_of}

@@ -5,7 +5,7 @@ use Rattle.std.proofs.Common.{subst, arith, inl, inr}
 use Rattle.std.specs.Prelude.{nat_lt, if◌then◌else◌}
 use Rattle.std.proofs.lemmas.Bool.{cases_lt, lt-ltb, le-ltb}
 use Rattle.node_table.specs.Value.{IsSubfunction, Levels, fixed_to}
-use Rattle.term_runner.specs.Width.{IsEssential}
+use Rattle.bdd_terms.specs.Parts.{IsEssential}
 use Rattle.parity_terms.specs.Numbered.{AreNumbered, DependsOn}
 
 abbrev pub one_if : Bool → ℕ

@@ -11,10 +11,10 @@ use Rattle.node_table.specs.Value.{IsSubfunction, Levels}
 use Rattle.parity_nodes.specs.Sums.{sum_is}
 use Rattle.clause_terms.specs.Term.{by_variable}
 use Rattle.quantify.specs.SomeValues.{function_of}
-use Rattle.term_runner.specs.declared.held.HeldTerm.{HeldTerm}
-use Rattle.term_runner.specs.declared.runner.Runner.{Runner}
-use Rattle.term_runner.specs.Counting.{Counting, IsPartOfOne}
-use Rattle.term_runner.specs.Runner.{IsRunner, holds_in}
+use Rattle.bdd_terms.specs.declared.held.HeldTerm.{HeldTerm}
+use Rattle.bdd_terms.specs.declared.runner.Runner.{Runner}
+use Rattle.bdd_terms.specs.Counting.{Counting, IsPartOfOne}
+use Rattle.bdd_terms.specs.Runner.{IsRunner, holds_in}
 use Rattle.parity_terms.specs.declared.row.Row.{Row}
 use Rattle.parity_terms.specs.Limit.{AreAmong, by_levels, functions_of, level_in}
 use Rattle.parity_terms.specs.Numbered.{AreNumbered}

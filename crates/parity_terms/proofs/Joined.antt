@@ -14,12 +14,12 @@ use Rattle.node_table.specs.Laws.{StepByStep}
 use Rattle.node_table.specs.Progress.{Continues, Leaves}
 use Rattle.node_table.specs.Table.{TableState, live_nodes}
 use Rattle.parity_equations.specs.Sums.{all_hold}
-use Rattle.term_runner.specs.declared.held.HeldTerm.{HeldTerm}
-use Rattle.term_runner.specs.declared.runner.Runner.{Runner}
-use Rattle.term_runner.specs.declared.term.Term.{Term}
-use Rattle.term_runner.specs.Runner.{IsRunner, Releases, holds_in}
+use Rattle.bdd_terms.specs.declared.held.HeldTerm.{HeldTerm}
+use Rattle.bdd_terms.specs.declared.runner.Runner.{Runner}
+use Rattle.bdd_terms.specs.declared.term.Term.{Term}
+use Rattle.bdd_terms.specs.Runner.{IsRunner, Releases, holds_in}
 use Rattle.parity_terms.specs.Clauses.{AreNumbers, Joins, TakesClauses}
-use Rattle.term_runner.specs.Full.{IsFull, LacksBehind}
+use Rattle.bdd_terms.specs.Full.{IsFull, LacksBehind}
 use Rattle.parity_terms.specs.Owned.{Owns}
 use Rattle.parity_terms.specs.Steps.{Goes, Keeps, Takes}
 use Rattle.parity_terms.proofs.Taken.{goes_released, keeps_further}

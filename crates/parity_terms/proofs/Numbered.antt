@@ -8,8 +8,8 @@ use Rattle.std.proofs.lemmas.Bool.{eqb-true, or_cases}
 use Rattle.std.proofs.lemmas.Map.Keys.{IsDistinct-cons}
 use Rattle.std.proofs.lemmas.Map.Steps.{length-le_from_distinct_below}
 use Rattle.node_table.specs.Value.{IsSubfunction, Levels}
-use Rattle.term_runner.specs.Counting.{IsPartOfOne}
-use Rattle.term_runner.specs.Width.{AreMore, HasAtMost, IsEssential, part_at}
+use Rattle.bdd_terms.specs.Counting.{IsPartOfOne}
+use Rattle.bdd_terms.specs.Parts.{AreMore, HasAtMost, IsEssential, part_at}
 use Rattle.parity_terms.specs.Numbered.{AreNumbered}
 
 last : (count : ℕ) → count < suc count

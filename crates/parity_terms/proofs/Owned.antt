@@ -12,8 +12,8 @@ use Rattle.node_table.specs.declared.node.Node.TheVariants.{False, True, Inner}
 use Rattle.node_table.specs.declared.node.NodeKey.{NodeKey}
 use Rattle.node_table.specs.declared.node.Justification.{Justification}
 use Rattle.node_table.specs.declared.node.Justification.TheVariants.{Clause, Trivial}
-use Rattle.term_runner.specs.declared.held.HeldTerm.{HeldTerm}
-use Rattle.term_runner.specs.Runner.{IsListed, IsWithout, true_term}
+use Rattle.bdd_terms.specs.declared.held.HeldTerm.{HeldTerm}
+use Rattle.bdd_terms.specs.Runner.{IsListed, IsWithout, true_term}
 use Rattle.parity_terms.specs.Owned.{Owns, takes_place}
 
 -- counting, one by one

@@ -15,9 +15,9 @@ use Rattle.node_table.specs.Value.{Levels, value_of}
 use Rattle.parity_equations.specs.Conflict.{AreRows, AreSpanned, Vector, vector}
 use Rattle.parity_nodes.specs.Sums.{sum_is}
 use Rattle.clause_terms.specs.Term.{by_variable}
-use Rattle.term_runner.specs.declared.held.HeldTerm.{HeldTerm}
-use Rattle.term_runner.specs.declared.runner.Runner.{Runner}
-use Rattle.term_runner.specs.Runner.{IsRunner}
+use Rattle.bdd_terms.specs.declared.held.HeldTerm.{HeldTerm}
+use Rattle.bdd_terms.specs.declared.runner.Runner.{Runner}
+use Rattle.bdd_terms.specs.Runner.{IsRunner}
 use Rattle.parity_terms.specs.declared.row.Row.{Row}
 use Rattle.parity_terms.specs.Order.{AreInOrder, ArePlaces, HaveSameFirst, place_of}
 use Rattle.parity_terms.specs.Owned.{Owns}

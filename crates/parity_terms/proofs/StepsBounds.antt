@@ -11,13 +11,13 @@ use Rattle.node_table.specs.Laws.{Growth}
 use Rattle.node_table.specs.Value.{Levels}
 use Rattle.parity_equations.specs.Sums.{all_hold}
 use Rattle.quantify.specs.SomeValues.{function_of}
-use Rattle.term_runner.specs.declared.held.HeldTerm.{HeldTerm}
-use Rattle.term_runner.specs.declared.runner.Runner.{Runner}
-use Rattle.term_runner.specs.declared.term.Term.{Term}
-use Rattle.term_runner.specs.Counting.{Counting, IsPartOfOne}
-use Rattle.term_runner.specs.Price.{IsMovePrice}
-use Rattle.term_runner.specs.Runner.{IsRunner, holds_in}
-use Rattle.term_runner.specs.Width.{HasAtMost}
+use Rattle.bdd_terms.specs.declared.held.HeldTerm.{HeldTerm}
+use Rattle.bdd_terms.specs.declared.runner.Runner.{Runner}
+use Rattle.bdd_terms.specs.declared.term.Term.{Term}
+use Rattle.bdd_terms.specs.Counting.{Counting, IsPartOfOne}
+use Rattle.bdd_terms.specs.Price.{IsMovePrice}
+use Rattle.bdd_terms.specs.Runner.{IsRunner, holds_in}
+use Rattle.bdd_terms.specs.Parts.{HasAtMost}
 use Rattle.parity_terms.specs.Limit.{AreBounded, AreClausesAmong, CostsMoves, IsBounded, IsClauseAmong, functions_of}
 use Rattle.parity_terms.specs.Numbered.{AreNumbered, DependsOn}
 use Rattle.parity_terms.specs.Owned.{Owns}

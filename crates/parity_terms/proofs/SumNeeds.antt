@@ -8,11 +8,11 @@ use Rattle.node_table.specs.Diagram.{Graph, is_node}
 use Rattle.node_table.specs.Value.{IsSubfunction, Levels}
 use Rattle.parity_nodes.specs.Sums.{sum_is}
 use Rattle.quantify.specs.SomeValues.{function_of}
-use Rattle.term_runner.specs.declared.held.HeldTerm.{HeldTerm}
-use Rattle.term_runner.specs.declared.runner.Runner.{Runner}
-use Rattle.term_runner.specs.Counting.{Counting, IsPartOfOne}
-use Rattle.term_runner.specs.Runner.{IsRunner, holds_in}
-use Rattle.term_runner.specs.Width.{AreMore, HasAtMost}
+use Rattle.bdd_terms.specs.declared.held.HeldTerm.{HeldTerm}
+use Rattle.bdd_terms.specs.declared.runner.Runner.{Runner}
+use Rattle.bdd_terms.specs.Counting.{Counting, IsPartOfOne}
+use Rattle.bdd_terms.specs.Runner.{IsRunner, holds_in}
+use Rattle.bdd_terms.specs.Parts.{AreMore, HasAtMost}
 use Rattle.parity_terms.specs.Limit.{AreAmong, by_levels, functions_of, level_in}
 use Rattle.parity_terms.specs.Numbered.{AreNumbered}
 use Rattle.parity_terms.proofs.InHand.{level_function, sum_term_numbered}

@@ -5,8 +5,8 @@ use Rattle.std.proofs.lemmas.List.{take_all}
 use Rattle.cnf_base.specs.Truth.{Assignment}
 use Rattle.parity_equations.specs.Conflict.{vector}
 use Rattle.parity_nodes.specs.Sums.{exclusive_or, sum_is}
-use Rattle.term_runner.specs.declared.runner.Runner.{Runner}
-use Rattle.term_runner.specs.Runner.{holds_in}
+use Rattle.bdd_terms.specs.declared.runner.Runner.{Runner}
+use Rattle.bdd_terms.specs.Runner.{holds_in}
 use Rattle.parity_terms.specs.declared.row.Row.{Row}
 use Rattle.parity_terms.specs.Order.{AreDifferent, AreInOrder, HaveSameFirst, place_of}
 use Rattle.parity_terms.specs.Rows.{IsRow, held_of, vector_of}

@@ -15,11 +15,11 @@ use Rattle.node_table.specs.Table.{IsSound}
 use Rattle.node_table.specs.Value.{Levels, by_level, value_of}
 use Rattle.clause_terms.specs.Term.{by_variable}
 use Rattle.parity_nodes.specs.Sums.{exclusive_or, sum_is}
-use Rattle.term_runner.specs.declared.held.HeldTerm.{HeldTerm}
-use Rattle.term_runner.specs.declared.runner.Runner.{Runner}
-use Rattle.term_runner.specs.declared.term.Term.{Term}
-use Rattle.term_runner.specs.Parity.{AreVariables}
-use Rattle.term_runner.specs.Runner.{IsRunner, Releases, holds_in}
+use Rattle.bdd_terms.specs.declared.held.HeldTerm.{HeldTerm}
+use Rattle.bdd_terms.specs.declared.runner.Runner.{Runner}
+use Rattle.bdd_terms.specs.declared.term.Term.{Term}
+use Rattle.bdd_terms.specs.Parity.{AreVariables}
+use Rattle.bdd_terms.specs.Runner.{IsRunner, Releases, holds_in}
 use Rattle.parity_terms.specs.declared.row.Row.{Row}
 use Rattle.parity_terms.specs.Order.{AreInOrder, ArePlaces}
 use Rattle.parity_terms.specs.Rows.{IsRow, Sums, held_of, vector_of}

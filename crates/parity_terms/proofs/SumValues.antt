@@ -9,7 +9,7 @@ use Rattle.std.proofs.lemmas.Bool.Decides.{Decides-eqb}
 use Rattle.cnf_base.specs.Truth.{Assignment}
 use Rattle.parity_equations.specs.Conflict.{vector}
 use Rattle.parity_nodes.specs.Sums.{exclusive_or, odd_over, sum_is}
-use Rattle.term_runner.specs.Parity.{AreVariables}
+use Rattle.bdd_terms.specs.Parity.{AreVariables}
 use Rattle.parity_terms.specs.Order.{AreDifferent, AreInOrder, place_of}
 use Rattle.parity_terms.proofs.Merged.{order_from}
 

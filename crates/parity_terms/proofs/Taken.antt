@@ -16,12 +16,12 @@ use Rattle.node_table.specs.Laws.{Growth, StepByStep}
 use Rattle.node_table.specs.Progress.{Continues, error_of}
 use Rattle.node_table.specs.Table.{TableState}
 use Rattle.node_table.specs.Value.{by_level, value_of}
-use Rattle.term_runner.specs.declared.held.HeldTerm.{HeldTerm}
-use Rattle.term_runner.specs.declared.runner.Runner.{Runner}
-use Rattle.term_runner.specs.declared.term.Term.{Term}
-use Rattle.term_runner.specs.Caches.{sizes}
-use Rattle.term_runner.specs.Runner.{IsListed, IsRunner, Releases, true_term}
-use Rattle.term_runner.specs.Takes.{Takes as Call}
+use Rattle.bdd_terms.specs.declared.held.HeldTerm.{HeldTerm}
+use Rattle.bdd_terms.specs.declared.runner.Runner.{Runner}
+use Rattle.bdd_terms.specs.declared.term.Term.{Term}
+use Rattle.bdd_terms.specs.Caches.{sizes}
+use Rattle.bdd_terms.specs.Runner.{IsListed, IsRunner, Releases, true_term}
+use Rattle.bdd_terms.specs.Takes.{Takes as Call}
 use Rattle.parity_terms.specs.Owned.{Owns}
 use Rattle.parity_terms.specs.Steps.{Goes, Keeps, Takes, with_given}
 use Rattle.parity_terms.proofs.Owned.{owned_good, owns_given, owns_released}

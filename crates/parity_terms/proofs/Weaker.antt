@@ -14,11 +14,11 @@ use Rattle.node_table.specs.Laws.{Cofactors, StepByStep}
 use Rattle.parity_nodes.specs.Sums.{sum_is}
 use Rattle.clause_terms.specs.Term.{by_variable}
 use Rattle.imply.specs.Implication.{IsRefuted}
-use Rattle.term_runner.specs.declared.held.HeldTerm.{HeldTerm}
-use Rattle.term_runner.specs.declared.runner.Runner.{Runner}
-use Rattle.term_runner.specs.declared.term.Term.{Term}
-use Rattle.term_runner.specs.Parity.{TakesNode, TakesWeaker, always, node_holds}
-use Rattle.term_runner.specs.Runner.{IsGood, IsListed, holds_in, true_term}
+use Rattle.bdd_terms.specs.declared.held.HeldTerm.{HeldTerm}
+use Rattle.bdd_terms.specs.declared.runner.Runner.{Runner}
+use Rattle.bdd_terms.specs.declared.term.Term.{Term}
+use Rattle.bdd_terms.specs.Parity.{TakesNode, TakesWeaker, always, node_holds}
+use Rattle.bdd_terms.specs.Runner.{IsGood, IsListed, holds_in, true_term}
 use Rattle.parity_terms.specs.Owned.{Owns}
 use Rattle.parity_terms.specs.Steps.{Goes, Takes}
 use Rattle.parity_terms.proofs.ByAssignment.{by_assignment}

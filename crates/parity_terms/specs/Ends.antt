@@ -4,10 +4,10 @@ use Rattle.node_table.specs.declared.error.TableError.{TableError}
 use Rattle.node_table.specs.declared.error.TableError.TheVariants.{NodeLimit}
 use Rattle.node_table.specs.Progress.{Continues, Leaves, error_of}
 use Rattle.node_table.specs.Table.{UnlessTorn}
-use Rattle.term_runner.specs.declared.runner.Runner.{Runner}
-use Rattle.term_runner.specs.Runner.{IsRunner}
+use Rattle.bdd_terms.specs.declared.runner.Runner.{Runner}
+use Rattle.bdd_terms.specs.Runner.{IsRunner}
 use Rattle.parity_equations.specs.Conflict.{AreInConflict}
-use Rattle.term_runner.specs.Full.{IsFull}
+use Rattle.bdd_terms.specs.Full.{IsFull}
 use Rattle.parity_terms.specs.Steps.{Keeps}
 
 -- all terms that were out are released, and the nodes stay

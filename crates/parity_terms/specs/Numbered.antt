@@ -2,7 +2,7 @@
 -- Boolean Function Manipulation, 1986, section 3.)
 use Rattle.std.specs.Prelude.{◌≡◌, ◌<◌, ℕ, Bool, List, Contains}
 use Rattle.node_table.specs.Value.{Levels}
-use Rattle.term_runner.specs.Width.{IsEssential}
+use Rattle.bdd_terms.specs.Parts.{IsEssential}
 
 -- Each part of this kind that isn't constant has a number below the bound, and two with one number are the same function.
 pub record AreNumbered (is_part : (Levels → Bool) → Type 0) (bound : ℕ) : Type 0 where

@@ -5,7 +5,7 @@ use Rattle.node_table.specs.declared.node.Node.{Node}
 use Rattle.node_table.specs.declared.node.Node.TheVariants.{True}
 use Rattle.node_table.specs.declared.node.Justification.{Justification}
 use Rattle.node_table.specs.declared.node.Justification.TheVariants.{Trivial}
-use Rattle.term_runner.specs.declared.held.HeldTerm.{HeldTerm}
+use Rattle.bdd_terms.specs.declared.held.HeldTerm.{HeldTerm}
 
 -- True, which needs no clause, is never among the terms that are out.
 abbrev pub takes_place : Node → Justification → Bool

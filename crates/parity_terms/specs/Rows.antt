@@ -11,9 +11,9 @@ use Rattle.node_table.specs.Progress.{Leaves, error_of}
 use Rattle.node_table.specs.Table.{UnlessTorn}
 use Rattle.parity_equations.specs.Conflict.{AreInConflict, AreRows, AreSpanned, Vector, vector}
 use Rattle.parity_nodes.specs.Sums.{exclusive_or, sum_is}
-use Rattle.term_runner.specs.declared.held.HeldTerm.{HeldTerm}
-use Rattle.term_runner.specs.declared.runner.Runner.{Runner}
-use Rattle.term_runner.specs.Runner.{IsGood, IsRunner, holds_in}
+use Rattle.bdd_terms.specs.declared.held.HeldTerm.{HeldTerm}
+use Rattle.bdd_terms.specs.declared.runner.Runner.{Runner}
+use Rattle.bdd_terms.specs.Runner.{IsGood, IsRunner, holds_in}
 use Rattle.parity_terms.specs.declared.row.Row.{Row}
 use Rattle.parity_terms.specs.Order.{AreInOrder, HaveSameFirst}
 use Rattle.parity_terms.specs.Owned.{Owns}

@@ -5,11 +5,11 @@ use Rattle.node_table.specs.declared.node.Node.TheVariants.{False}
 use Rattle.node_table.specs.Diagram.{is_node}
 use Rattle.node_table.specs.declared.error.TableError.{TableError}
 use Rattle.node_table.specs.Progress.{Continues, Leaves, error_of}
-use Rattle.term_runner.specs.declared.held.HeldTerm.{HeldTerm}
-use Rattle.term_runner.specs.declared.runner.Runner.{Runner}
-use Rattle.term_runner.specs.declared.term.Term.{Term}
-use Rattle.term_runner.specs.Caches.{sizes}
-use Rattle.term_runner.specs.Runner.{IsRunner, holds_in}
+use Rattle.bdd_terms.specs.declared.held.HeldTerm.{HeldTerm}
+use Rattle.bdd_terms.specs.declared.runner.Runner.{Runner}
+use Rattle.bdd_terms.specs.declared.term.Term.{Term}
+use Rattle.bdd_terms.specs.Caches.{sizes}
+use Rattle.bdd_terms.specs.Runner.{IsRunner, holds_in}
 use Rattle.parity_terms.specs.Owned.{Owns}
 use Rattle.node_table.specs.Table.{UnlessTorn}
 

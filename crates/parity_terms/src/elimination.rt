@@ -6,9 +6,9 @@ ghost use Rattle.parity_equations.specs.Conflict.{AreInConflict};
 ghost use Rattle.node_table.specs.declared.error.TableError.TheVariants.{NodeLimit};
 ghost use Rattle.parity_equations.specs.Equations.{equations as equations_of};
 ghost use Rattle.parity_equations.specs.Walk.{IsEquationOf, listed};
-ghost use Rattle.term_runner.specs.Runner.{IsRunner};
+ghost use Rattle.bdd_terms.specs.Runner.{IsRunner};
 ghost use Rattle.parity_terms.specs.Ends.{Ends, ReleasesAll};
-ghost use Rattle.term_runner.specs.Full.{IsFull};
+ghost use Rattle.bdd_terms.specs.Full.{IsFull};
 ghost use Rattle.parity_terms.specs.Limit.{AreBounded, AreOf, AreRowsOf, CostsElimination, all_variables, nodes_needed, step_width};
 ghost use Rattle.parity_terms.specs.Order.{ArePlaces};
 ghost use Rattle.parity_terms.specs.Owned.{Owns};
@@ -19,11 +19,11 @@ use crate::order::{in_order, places_of};
 use crate::row::{Row, row_for};
 use crate::steps::met_limit;
 use crate::sum::add;
+use bdd_terms::{Runner, counting_law};
 use host_io::Sink;
 use node_table::{TableError, canonical_law, cofactor_law, growth_law, steps_law};
 use parity_equations::{Equation, Equations, clauses_law, independence_law, own_clauses_law};
 use std::alloc::Global;
-use term_runner::{Runner, counting_law};
 
 /// Whether the empty clause came on the proof, by sums of the formula's equations. Where it didn't these aren't in conflict, or the limit
 /// of nodes was met. All terms are released, unless a write failed. The limit of nodes is no error.

@@ -3,18 +3,18 @@ ghost use Rattle.std.specs.Prelude.{◌≡◌, ◌≤◌, ◌<◌, ◌&&◌, ◌
 ghost use Rattle.cnf_base.specs.Truth.{clause_holds};
 ghost use Rattle.node_table.specs.declared.error.TableError.TheVariants.{NodeLimit};
 ghost use Rattle.quantify.specs.SomeValues.{function_of};
-ghost use Rattle.term_runner.specs.declared.held.HeldTerm.{HeldTerm as HeldValue};
-ghost use Rattle.term_runner.specs.Runner.{IsRunner, holds_in};
+ghost use Rattle.bdd_terms.specs.declared.held.HeldTerm.{HeldTerm as HeldValue};
+ghost use Rattle.bdd_terms.specs.Runner.{IsRunner, holds_in};
 ghost use Rattle.parity_terms.specs.Clauses.{AreNumbers, Joins, TakesClauses};
-ghost use Rattle.term_runner.specs.Full.{IsFull};
+ghost use Rattle.bdd_terms.specs.Full.{IsFull};
 ghost use Rattle.parity_terms.specs.Limit.{AreBounded, AreClausesAmong, IsClauseAmong};
 ghost use Rattle.parity_terms.specs.Numbered.{DependsOn};
 ghost use Rattle.parity_terms.specs.Owned.{AreOwned, IsOwned, Owns};
 
 use crate::steps::both_into;
+use bdd_terms::{Runner, Term, counting_law};
 use host_io::Sink;
 use node_table::{TableError, growth_law, steps_law};
-use term_runner::{Runner, Term, counting_law};
 
 /// The term that holds where the clauses of these numbers do; none where the empty clause came.
 pub(crate) fn term_of_clauses<S: Sink + Drop>(

@@ -4,7 +4,7 @@ ghost use Rattle.parity_terms.specs.Order.{HaveSameFirst};
 ghost use Rattle.parity_terms.specs.Rows.{NoneHasFirst};
 
 use crate::order::have_same_first;
-use term_runner::Term;
+use bdd_terms::Term;
 
 /// An equation with its term: the sum of its variables, in the order, is the bit, modulo 2.
 #[derive(Drop)]

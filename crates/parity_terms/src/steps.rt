@@ -3,17 +3,17 @@ ghost use Rattle.std.specs.Prelude.{◌≡◌, ◌&&◌, ◌↔◌, ◌∷◌, L
 ghost use Rattle.cnf_base.specs.Truth.{Assignment};
 ghost use Rattle.node_table.specs.declared.error.TableError.TheVariants.{NodeLimit};
 ghost use Rattle.parity_nodes.specs.Sums.{sum_is};
-ghost use Rattle.term_runner.specs.declared.held.HeldTerm.{HeldTerm as HeldValue};
-ghost use Rattle.term_runner.specs.Parity.{AreVariables};
-ghost use Rattle.term_runner.specs.Full.{IsFull};
-ghost use Rattle.term_runner.specs.Runner.{IsGood, IsRunner, holds_in};
+ghost use Rattle.bdd_terms.specs.declared.held.HeldTerm.{HeldTerm as HeldValue};
+ghost use Rattle.bdd_terms.specs.Parity.{AreVariables};
+ghost use Rattle.bdd_terms.specs.Full.{IsFull};
+ghost use Rattle.bdd_terms.specs.Runner.{IsGood, IsRunner, holds_in};
 ghost use Rattle.parity_terms.specs.Limit.{IsBounded};
 ghost use Rattle.parity_terms.specs.Owned.{AreOwned, IsOwned, Owns};
 ghost use Rattle.parity_terms.specs.Steps.{Takes};
 
+use bdd_terms::{Runner, Term, counting_law};
 use host_io::Sink;
 use node_table::{TableError, cofactor_law, growth_law, steps_law};
-use term_runner::{Runner, Term, counting_law};
 
 /// The term that holds where both do. The second one is released, however it ends.
 pub(crate) fn both_into<S: Sink + Drop>(

@@ -1,9 +1,9 @@
 // The sum of an equation and a row that begins with the same variable.
 ghost use Rattle.std.specs.Prelude.{◌≡◌, ◌∷◌, ◌*◌, ℕ, Err, List, length};
 ghost use Rattle.node_table.specs.declared.error.TableError.TheVariants.{NodeLimit};
-ghost use Rattle.term_runner.specs.declared.held.HeldTerm.{HeldTerm as HeldValue};
-ghost use Rattle.term_runner.specs.Runner.{IsRunner};
-ghost use Rattle.term_runner.specs.Full.{IsFull};
+ghost use Rattle.bdd_terms.specs.declared.held.HeldTerm.{HeldTerm as HeldValue};
+ghost use Rattle.bdd_terms.specs.Runner.{IsRunner};
+ghost use Rattle.bdd_terms.specs.Full.{IsFull};
 ghost use Rattle.parity_terms.specs.Limit.{AreBounded, AreOf};
 ghost use Rattle.parity_terms.specs.Order.{ArePlaces, HaveSameFirst};
 ghost use Rattle.parity_terms.specs.Owned.{IsOwned, Owns};
@@ -12,10 +12,10 @@ ghost use Rattle.parity_terms.specs.Rows.{IsRow, Sums, held_of};
 use crate::merge::difference;
 use crate::row::Row;
 use crate::steps::{both_into, sum_into};
+use bdd_terms::{Runner, counting_law};
 use host_io::Sink;
 use node_table::{TableError, canonical_law, cofactor_law, growth_law, steps_law};
 use std::alloc::Global;
-use term_runner::{Runner, counting_law};
 
 /// The sum of an equation and a row, in place of the equation, whose term is released, however it ends; none where the empty clause came.
 pub(crate) fn add<S: Sink + Drop>(

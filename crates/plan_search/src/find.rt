@@ -1,8 +1,9 @@
 // The search: trials of the pairs in turn, until one decides the formula.
-ghost use Rattle.std.specs.Prelude.{◌≡◌, length, IfOk, IfSome};
+ghost use Rattle.std.specs.Prelude.{◌≡◌, length, IfOk, IfSome, IsTrue};
+ghost use Rattle.schedule_plan.specs.declared.limits.Limits.{Limits as LimitsValue};
 ghost use Rattle.schedule_plan.specs.Limits.{AreLimits};
-ghost use Rattle.plan_search.specs.Found.{IsBucketPlan, IsFound};
-ghost use Rattle.plan_search.specs.Orders.{IsMade, MakesMore};
+ghost use Rattle.plan_search.specs.Found.{IsBucketPlan, IsFound, WasDecided, WasDecidedBy};
+ghost use Rattle.plan_search.specs.Orders.{IsMade, MakesMore, order_of};
 
 use crate::candidates::{Candidates, NATURAL, Next, Pair};
 use crate::estimate::estimate;
@@ -23,6 +24,8 @@ const MOST_TRIALS: u32 = 180;
 pub struct FoundPlan {
     pub order: Order,
     pub plan: Plan,
+    /// Whether a trial of both decided the formula.
+    pub decided: bool,
 }
 
 /// Looks for a plan that decides a formula soon, behind the sums of its parity equations where these are added up. `natural` is the order of the variables that is tried beside those that are
@@ -40,14 +43,19 @@ pub fn find_plan<O: Observer>(
     requires order { length natural ≡ formula.now.vars }
     requires limits { AreLimits limits }
     ensures found { IfOk result (λ found. IsFound formula.now found.order found.plan) }
+    ensures decided { IfOk result (λ found. IsTrue found.decided → WasDecided formula.now limits found.order found.plan) }
     ensures beside { O.beside observer.new ≡ O.beside observer.old }
 {
     let mut orders = Orders::new(formula.vars(), natural);
     let answer = search(alloc, formula, limits, parity, &mut orders, observer);
     observer.found(answer.pair);
-    let (kind, plan) = settled(alloc, formula, &mut orders, answer)?;
+    let (kind, plan, decided) = settled(alloc, formula, &mut orders, answer)?;
     let order = orders.into_order(kind);
-    Ok(FoundPlan { order, plan })
+    Ok(FoundPlan {
+        order,
+        plan,
+        decided,
+    })
 }
 
 // The pair that was found, and its plan where a trial of it decided the formula.
@@ -70,6 +78,7 @@ fn search<O: Observer>(
     requires orders { orders.old.vars ≡ formula.now.vars }
     ensures plan { IfSome result.plan (IsBucketPlan formula.now) }
     ensures made { IfSome result.plan (λ _. IsMade result.pair.diagrams orders.new) }
+    ensures decided { IfSome result.plan (WasDecidedBy formula.now limits (order_of result.pair.diagrams orders.new)) }
     ensures more { MakesMore orders.old orders.new }
     ensures beside { O.beside observer.new ≡ O.beside observer.old }
 {
@@ -123,6 +132,7 @@ fn tried<O: Observer>(
     requires orders { orders.old.vars ≡ formula.now.vars }
     ensures plan { IfSome result (IsBucketPlan formula.now) }
     ensures made { IfSome result (λ _. IsMade next.now.pair.diagrams orders.new) }
+    ensures decided { IfSome result (WasDecidedBy formula.now limits (order_of next.now.pair.diagrams orders.new)) }
     ensures more { MakesMore orders.old orders.new }
     ensures beside { O.beside observer.new ≡ O.beside observer.old }
 {
@@ -151,28 +161,31 @@ fn tried<O: Observer>(
     }
 }
 
-// The plan of the answer with the kind of its order of the diagrams; the plan over the given order where there is no memory.
+// The plan of the answer with the kind of its order of the diagrams, and whether a trial decided the formula by both; the plan over the
+// given order where there is no memory.
 #[tactic(auto, using(crate::proofs::More::more_none, crate::proofs::More::more_then))]
 fn settled(
     alloc: Global,
     formula: &Cnf,
     orders: &mut Orders,
     answer: Answer,
-) -> Result<(Kind, Plan), OutOfMemory>
+) -> Result<(Kind, Plan, bool), OutOfMemory>
     requires orders { orders.old.vars ≡ formula.now.vars }
     requires plan { IfSome answer.plan (IsBucketPlan formula.now) }
     requires made { IfSome answer.plan (λ _. IsMade answer.pair.diagrams orders.old) }
     ensures plan { IfOk result (λ found. IsBucketPlan formula.now found.1) }
     ensures made { IfOk result (λ found. IsMade found.0 orders.new) }
+    ensures decided { (limits : LimitsValue) → IfSome answer.plan (WasDecidedBy formula.now limits (order_of answer.pair.diagrams orders.old))
+        → IfOk result (λ found. IsTrue found.2 → WasDecidedBy formula.now limits (order_of found.0 orders.new) found.1) }
     ensures more { MakesMore orders.old orders.new }
 {
     let Answer { pair, plan } = answer;
     if let Some(plan) = plan {
-        return Ok((pair.diagrams, plan));
+        return Ok((pair.diagrams, plan, true));
     }
     if let Ok(plan) = planned(alloc, formula, orders, pair) {
-        return Ok((pair.diagrams, plan));
+        return Ok((pair.diagrams, plan, false));
     }
     let plan = planned(alloc, formula, orders, NATURAL)?;
-    Ok((Kind::Natural, plan))
+    Ok((Kind::Natural, plan, false))
 }

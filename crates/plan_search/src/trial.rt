@@ -1,9 +1,8 @@
 // A trial of a pair of orders.
 ghost use Rattle.std.specs.Prelude.{◌≡◌, length, IfOk, OnOk};
 ghost use Rattle.schedule_plan.specs.Limits.{AreLimits};
-ghost use Rattle.term_runner.specs.Trial.{IsTrial};
 ghost use Rattle.schedule_plan.specs.Bucket.{bucket};
-ghost use Rattle.plan_search.specs.Found.{IsBucketPlan, IsPlanBy, limits_of_trial};
+ghost use Rattle.plan_search.specs.Found.{IsBucketPlan, IsPlanBy, IsTrialBy, limits_of_trial};
 ghost use Rattle.plan_search.specs.Orders.{IsMade, MakesMore, order_of};
 
 use crate::candidates::{Next, Pair};
@@ -35,7 +34,8 @@ pub fn attempt(
     requires orders { orders.old.vars ≡ formula.now.vars }
     ensures plan { IfOk result (λ tried. IsBucketPlan formula.now tried.plan) }
     ensures of_pair { IfOk result (λ tried. IsPlanBy formula.now (order_of next.now.pair.buckets orders.new) tried.plan) }
-    ensures trial { IfOk result (λ tried. IsTrial formula.now tried.plan (limits_of_trial formula.now next.now.above limits) tried.trial) }
+    ensures trial { IfOk result (λ tried. IsTrialBy formula.now (order_of next.now.pair.diagrams orders.new) tried.plan
+        (limits_of_trial formula.now next.now.above limits) tried.trial) }
     ensures made { OnOk result (IsMade next.now.pair.diagrams orders.new) }
     ensures more { MakesMore orders.old orders.new }
 {

@@ -1,6 +1,6 @@
 // The texts of errors that no answer prints.
 use clause_ledger::LedgerError;
-use lrat_checker::CheckError;
+use proof_judging::CheckError;
 use std::test::Fail;
 
 #[test]

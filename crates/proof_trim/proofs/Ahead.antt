@@ -1,20 +1,28 @@
 -- What is cut of a proof so far, and what is ahead of it.
-use Rattle.std.proofs.Common.{◌≡◌, ℕ, ◌+◌, Bool, true, false, ◌||◌, List, [], ◌∷◌, ◌++◌, Ok, refl, sym, ap, ◌∙◌, append_assoc, arith}
-use Rattle.std.specs.Prelude.{reverse}
+use Rattle.std.proofs.Common.{◌≡◌, ℕ, ◌+◌, Bool, true, false, ◌||◌, List, [], ◌∷◌, ◌++◌, Ok, Err, refl, sym, ap, ◌∙◌, append_assoc, arith}
+use Rattle.std.specs.Prelude.{Result, reverse, IsTrue}
 use Rattle.std.proofs.lemmas.List.{append-nil}
 use Rattle.cnf_base.specs.declared.step.Step.{Step}
-use Rattle.lrat_text.specs.declared.error.StepError.{StepError}
-use Rattle.lrat_text.specs.declared.error.StepError.TheVariants.{Syntax, ReadFault, TooLong, OutOfMemory}
+use Rattle.host_io.specs.Beside.{Beside}
+use Rattle.host_io.specs.Channel.{Channel}
+use Rattle.text_scan.specs.Decides.{Decides, Decides-map}
+use Rattle.lrat_text.specs.Draft.{lrat_form}
+use Rattle.lrat_text.specs.Reader.{Reader, steps_ahead}
 use Rattle.lrat_text.specs.Steps.{Steps, no_more, next_step}
 use Rattle.lrat_rules.specs.State.{State}
 use Rattle.lrat_rules.specs.Run.{after_step, step_adds_empty}
-use Rattle.lrat_checker.specs.declared.verdict.Verdict.TheVariants.{Verified}
-use Rattle.lrat_checker.specs.TextVerdict.{error_answer}
+use Rattle.proof_judging.specs.declared.verdict.Verdict.{Verdict}
+use Rattle.proof_judging.specs.declared.verdict.Verdict.TheVariants.{Verified}
+use Rattle.proof_judging.specs.declared.verdict.CheckError.{CheckError}
+use Rattle.proof_judging.specs.Run.{Exit, IsNext, Leads, Leaves, Runs, answer_at, before_all, at_end, at_bad_line, at_limit, at_fault}
+use Rattle.proof_judging.specs.Run.{at_memory, at_step}
+use Rattle.proof_judging.proofs.Covered.{runs_covered}
 use Rattle.proof_trim.specs.declared.cutting.CutProof.{CutProof}
 use Rattle.proof_trim.specs.Trimmed.{cut_step, cut_steps, none_if, one_if_addition, additions_ahead}
 use Rattle.proof_trim.specs.Packed.{packed_back, packed_if}
 use Rattle.proof_trim.specs.Sweep.{pile_of}
 use Rattle.proof_trim.specs.Answer.{with_step}
+use Rattle.proof_trim.specs.Trimming.{Work, trimming_rules}
 use Rattle.proof_trim.proofs.Piles.{pile_later}
 
 -- what was cut so far, with what will be cut of these steps
@@ -69,12 +77,51 @@ cut_end cut ended state before line none =
     let count : cut.total + 0 ≡ cut.total = omega arith in
     ap (cut_then cut ended state) none ∙ (λ i. record { steps = none_ahead ended cut.steps i; total = count i })
 
--- an error of the reader verifies nothing
-pub error_open : (error : StepError) → error_answer error ≡ Ok Verified → ⊥
-error_open error =
-    elim error as (λ x. error_answer x ≡ Ok Verified → ⊥) [
-      | Syntax at ↦ λ e. cc
-      | ReadFault ↦ λ e. cc
-      | TooLong ↦ λ e. cc
-      | OutOfMemory ↦ λ e. cc
-    ]
+-- The same over a run.
+module _ {Judge Source : Type 0} (state_of : Judge → State) (cut_of : Judge → CutProof) (beside_of : Source → Beside) where
+  leads_cut : (taken : List (Step × ℕ)) (state last : State) (work now : Work) (had has : Bool) (rest : Steps)
+      → Leads (trimming_rules state_of cut_of beside_of) state work had taken last now has
+      → cut_then work.cut had state (before_all taken rest) ≡ cut_then now.cut has last rest
+  leads_cut [] state last work now had has rest leads =
+      λ i. cut_then (ap (λ (w : Work). w.cut) leads.1 i) (leads.2 i) (leads.0 i) rest
+  leads_cut ((step, line) ∷ taken) state last work now had has rest leads =
+      cut_on work.cut leads.1.cut had (had || step_adds_empty step) state (after_step state step)
+      (next_step step line (before_all taken rest)) (before_all taken rest) step line refl refl refl
+      (leads.3.1 ∙ ap (λ (w : Work). with_step had state step w.cut) leads.2)
+      ∙ leads_cut taken (after_step state step) last leads.1 now (had || step_adds_empty step) has rest leads.5
+
+  -- a run that ends in this verdict was read to the end
+  at_the_end : (last : State) (read new : Work) (has : Bool) (exit : Exit Step CheckError) (rest : Steps)
+      → Leaves (trimming_rules state_of cut_of beside_of) last read new has exit → answer_at (λ error. error) has exit ≡ Ok Verified
+      → IsNext exit rest → (read ≡ new) × ((line : ℕ) × (rest ≡ no_more line))
+  at_the_end last read new has (at_end line) rest leaves e next = (leaves, (line, next))
+  at_the_end last read new has (at_bad_line line) rest leaves e next = cc
+  at_the_end last read new has at_limit rest leaves e next = cc
+  at_the_end last read new has at_fault rest leaves e next = cc
+  at_the_end last read new has at_memory rest leaves e next = cc
+  at_the_end last read new has (at_step step line (Ok reason)) rest leaves e next = cc
+  at_the_end last read new has (at_step step line (Err error)) rest leaves e next = cc
+
+  pub runs_cut : (tells : Bool) (in_old in_new : Channel) (state : State) (old new : Work) (reader : Reader)
+      (result : Result Verdict CheckError)
+      → Runs lrat_form tells (trimming_rules state_of cut_of beside_of) in_old in_new state old new reader result
+      → old.cut ≡ record { steps = []; total = 0 } → IsTrue tells → result ≡ Ok Verified
+      → Decides in_old in_new (λ bytes more. new.cut ≡ whole_cut state (steps_ahead reader bytes))
+  runs_cut tells in_old in_new state old new reader result runs none told verified =
+      Decides-map _ (runs.ahead told) (λ bytes more ahead.
+      let ends = at_the_end runs.last runs.read new runs.has_empty runs.exit ahead.rest runs.leaves
+      (sym runs.answer ∙ verified) ahead.next in
+      sym (cut_first state (steps_ahead reader bytes) old.cut none
+      ∙ ap (cut_then old.cut false state) ahead.parts
+      ∙ leads_cut runs.taken state runs.last old runs.done false runs.has_empty ahead.rest runs.leads
+      ∙ cut_end runs.done.cut runs.has_empty runs.last ahead.rest ends.1.0 ends.1.1
+      ∙ ap (λ (w : Work). w.cut) (sym runs.reads ∙ ends.0)))
+
+  pub runs_beside : (tells : Bool) (in_old in_new : Channel) (state : State) (old new : Work) (reader : Reader)
+      (result : Result Verdict CheckError)
+      → Runs lrat_form tells (trimming_rules state_of cut_of beside_of) in_old in_new state old new reader result → new.beside ≡ old.beside
+  runs_beside tells in_old in_new state old new reader result runs =
+      runs_covered (trimming_rules state_of cut_of beside_of) (λ before after. after.beside ≡ before.beside) (λ work. refl)
+      (λ before now after first second. second ∙ first) (λ before after e. ap (λ (w : Work). w.beside) e)
+      (λ at before after has step answer does. does.0)
+      lrat_form tells in_old in_new state old new reader result runs

@@ -4,11 +4,11 @@ use Rattle.std.specs.Prelude.{Result, reverse}
 use Rattle.cnf_base.specs.declared.step.Step.{Step}
 use Rattle.host_io.specs.Channel.{Channel}
 use Rattle.text_scan.specs.Decides.{gained, Decides}
-use Rattle.lrat_checker.specs.declared.verdict.Verdict.{Verdict}
-use Rattle.lrat_checker.specs.declared.verdict.Verdict.TheVariants.{Verified}
-use Rattle.lrat_checker.specs.declared.verdict.CheckError.{CheckError}
-use Rattle.lrat_checker.specs.declared.verdict.CheckError.TheVariants.{ReadFault, TooLong, OutOfMemory}
-use Rattle.lrat_checker.specs.TextVerdict.{Answers}
+use Rattle.proof_judging.specs.declared.verdict.Verdict.{Verdict}
+use Rattle.proof_judging.specs.declared.verdict.Verdict.TheVariants.{Verified}
+use Rattle.proof_judging.specs.declared.verdict.CheckError.{CheckError}
+use Rattle.proof_judging.specs.declared.verdict.CheckError.TheVariants.{ReadFault, TooLong, OutOfMemory}
+use Rattle.proof_judging.specs.Verdict.{Answers}
 use Rattle.proof_trim.specs.declared.text.Trimmed.{Trimmed}
 use Rattle.proof_trim.specs.declared.text.Trimmed.TheVariants.{Steps, Refused as IsRefused}
 use Rattle.proof_trim.specs.declared.cutting.CutProof.{CutProof}

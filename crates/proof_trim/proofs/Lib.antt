@@ -21,6 +21,11 @@ pub mod Replay
 pub mod Again
 pub mod Printed
 pub mod Least
+pub mod Closed
+pub mod WordLengths
+pub mod LineLengths
+pub mod TextLengths
+pub mod Shortened
 pub mod Listed
 pub mod Alone
 pub mod Theorems

@@ -15,9 +15,10 @@ use Rattle.lrat_rules.specs.Chain.{literals_of, chain}
 use Rattle.lrat_rules.specs.Addition.{fault, fault_after_hints}
 use Rattle.lrat_rules.specs.Derivation.{lines_from}
 use Rattle.lrat_rules.specs.Run.{Reached, run, judge_step, step_fault, after_step, step_adds_empty}
-use Rattle.lrat_checker.specs.declared.verdict.Verdict.{Verdict}
-use Rattle.lrat_checker.specs.declared.verdict.Verdict.TheVariants.{Verified}
-use Rattle.lrat_checker.specs.TextVerdict.{judged, steps_verdict}
+use Rattle.proof_judging.specs.declared.verdict.Verdict.{Verdict}
+use Rattle.proof_judging.specs.declared.verdict.Verdict.TheVariants.{Verified}
+use Rattle.proof_judging.specs.Verdict.{judged}
+use Rattle.lrat_checker.specs.TextVerdict.{steps_verdict}
 use Rattle.lrat_checker.specs.Cuts.{Cut, cut_of}
 use Rattle.proof_trim.specs.Trimmed.{live_ids, cut_addition, cut_step, none_if, cut_steps, needed, kept, deletion_of, is_there}
 use Rattle.proof_trim.specs.Trimmed.{trimmed_steps}
@@ -84,11 +85,11 @@ pub record Beside (count : ℕ) (there : ℕ → Bool) (state other : State) : T
   pub below : (id : ℕ) → is_some (clause_at state.live id) ≡ true → id ≤ state.top
   pub formula : count ≤ state.top
 
-was_there : (b : Bool) (p : Option (List ℤ)) → is_some (if b then None else p) ≡ true → is_some p ≡ true
+pub was_there : (b : Bool) (p : Option (List ℤ)) → is_some (if b then None else p) ≡ true → is_some p ≡ true
 was_there true p h = cc
 was_there false p h = h
 
-and_none : (a b c : Bool) → b ≡ false → ((a && b) || c) ≡ c
+pub and_none : (a b c : Bool) → b ≡ false → ((a && b) || c) ≡ c
 and_none true b c e = ap (λ (d : Bool). d || c) e
 and_none false b c e = refl
 

@@ -16,7 +16,7 @@ use Rattle.lrat_rules.specs.Addition.{fault}
 use Rattle.lrat_rules.specs.Soundness.{LiveHasNoZero, SatisfiesUpToPivot, lines_have_no_zero, step_has_no_zero}
 use Rattle.lrat_rules.specs.Derivation.{lines_from, text_of}
 use Rattle.lrat_rules.specs.Run.{Judged, Reached, Stopped, run, after_step, step_adds_empty, Refutes}
-use Rattle.lrat_checker.specs.declared.verdict.Verdict.TheVariants.{Verified}
+use Rattle.proof_judging.specs.declared.verdict.Verdict.TheVariants.{Verified}
 use Rattle.lrat_checker.specs.TextVerdict.{max_bytes, text_verdict, verdict_within}
 use Rattle.proof_trim.specs.Trimmed.{cut_steps, needed, is_there, each_named, trimmed_of, trimmed, trim}
 use Rattle.proof_trim.specs.Core.{RefutesFrom, clauses_at, core, core_start}

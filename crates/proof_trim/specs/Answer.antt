@@ -11,10 +11,10 @@ use Rattle.lrat_checker.specs.declared.uses.Uses.{Uses}
 use Rattle.lrat_checker.specs.Memory.{check_may_want_memory}
 use Rattle.lrat_checker.specs.TextVerdict.{text_verdict}
 use Rattle.lrat_checker.specs.Cuts.{cut_by}
-use Rattle.lrat_checker.specs.declared.verdict.Verdict.{Verdict}
-use Rattle.lrat_checker.specs.declared.verdict.Verdict.TheVariants.{Verified, Refused}
-use Rattle.lrat_checker.specs.declared.verdict.CheckError.{CheckError}
-use Rattle.lrat_checker.specs.declared.verdict.CheckError.TheVariants.{ReadFault, TooLong, OutOfMemory}
+use Rattle.proof_judging.specs.declared.verdict.Verdict.{Verdict}
+use Rattle.proof_judging.specs.declared.verdict.Verdict.TheVariants.{Verified, Refused}
+use Rattle.proof_judging.specs.declared.verdict.CheckError.{CheckError}
+use Rattle.proof_judging.specs.declared.verdict.CheckError.TheVariants.{ReadFault, TooLong, OutOfMemory}
 use Rattle.proof_trim.specs.declared.text.Trimmed.{Trimmed}
 use Rattle.proof_trim.specs.declared.text.Trimmed.TheVariants.{Steps, Refused as IsRefused}
 use Rattle.proof_trim.specs.declared.cutting.CutProof.{CutProof}

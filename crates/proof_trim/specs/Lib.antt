@@ -7,3 +7,4 @@ pub mod Lines
 pub mod Sweep
 pub mod Core
 pub mod Answer
+pub mod Trimming

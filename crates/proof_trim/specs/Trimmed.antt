@@ -48,6 +48,10 @@ cut_steps state (no_step line) = []
 cut_steps state (next_step step line steps) =
     cut_step state step ∷ none_if (step_adds_empty step) (cut_steps (after_step state step) steps)
 
+-- those of a whole text
+abbrev pub cut_up_to_end : List (List ℤ) → List ℕ → List Step
+cut_up_to_end clauses bytes = cut_steps (start clauses) (steps max_bytes bytes)
+
 -- the group is of this number's clause, or has it as a hint
 abbrev pub group_names : ℕ → Group → Bool
 group_names id group = nat_eq id group.id || list_any (nat_eq id) group.hints
@@ -95,7 +99,7 @@ trimmed_of count steps = trimmed_steps count (needed steps) (kept steps)
 
 -- the steps of the trimmed form of a text
 abbrev pub trimmed : List (List ℤ) → List ℕ → List Step
-trimmed clauses bytes = trimmed_of (length clauses) (cut_steps (start clauses) (steps max_bytes bytes))
+trimmed clauses bytes = trimmed_of (length clauses) (cut_up_to_end clauses bytes)
 
 -- the trimmed form
 abbrev pub trim : List (List ℤ) → List ℕ → List ℕ

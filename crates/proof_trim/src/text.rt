@@ -1,19 +1,17 @@
 // Trimming a proof text: a reader gives its steps in turn, a judge takes them, and they are cut; at the end of a verified text what
 // the refutation needs is kept.
-ghost use Rattle.std.specs.Prelude.{◌≡◌, ◌≢◌, ◌⊎◌, false, [], length, reverse, None, Err, Ok, IsTrue};
+ghost use Rattle.std.specs.Prelude.{◌≡◌, ◌≢◌, ◌≤◌, ◌⊎◌, length, None, Err, Ok, IsTrue};
 ghost use Rattle.host_io.specs.Channel.{Rose};
 ghost use Rattle.text_scan.specs.Decides.{gained, Decides, OnlyReads};
-ghost use Rattle.lrat_text.specs.declared.reader.ReaderStatus.TheVariants.{Reading};
-ghost use Rattle.lrat_text.specs.Reader.{steps_ahead, so_far};
-ghost use Rattle.lrat_text.specs.Wants.{wants_ahead};
-ghost use Rattle.lrat_checker.specs.declared.verdict.Verdict.TheVariants.{Verified};
-ghost use Rattle.lrat_checker.specs.declared.verdict.CheckError.TheVariants.{ReadFault, OutOfMemory};
-ghost use Rattle.lrat_checker.specs.Memory.{reading_may_want_memory, check_may_want_memory};
-ghost use Rattle.lrat_checker.specs.TextVerdict.{steps_verdict, text_verdict, verdict_so_far, Answers};
-ghost use Rattle.proof_trim.specs.Trimmed.{additions_ahead, additions_of_text, cut_steps, trimmed};
+ghost use Rattle.proof_judging.specs.declared.verdict.Verdict.TheVariants.{Verified};
+ghost use Rattle.proof_judging.specs.declared.verdict.CheckError.TheVariants.{ReadFault, OutOfMemory};
+ghost use Rattle.proof_judging.specs.Verdict.{Answers};
+ghost use Rattle.lrat_checker.specs.Memory.{check_may_want_memory};
+ghost use Rattle.lrat_checker.specs.TextVerdict.{text_verdict, verdict_so_far};
+ghost use Rattle.proof_trim.specs.Trimmed.{additions_of_text, trimmed};
 ghost use Rattle.proof_trim.specs.Answer.{AnswersBy, Trims, WantsMemory, cut_of_text};
 ghost use Rattle.proof_trim.specs.Core.{core};
-ghost use Rattle.proof_trim.specs.Sweep.{pile_of};
+ghost use Rattle.proof_trim.specs.Trimming.{trimming_rules};
 
 use crate::core_numbers::Core;
 use crate::cutting::{CutProof, take_step};
@@ -22,9 +20,10 @@ use crate::numbers::Numbers;
 use crate::sweep::sweep;
 use cnf_base::{Cnf, Id, IdList, Step};
 use host_io::Source;
-use lrat_checker::{CheckError, Judge, Uses, Verdict, answer_to, or_adds_empty, verdict_at_end};
+use lrat_checker::{Judge, Uses, or_adds_empty};
 use lrat_rules::Reason;
-use lrat_text::StepReader;
+use lrat_text::{LratLine, StepError, StepReader};
+use proof_judging::{CheckError, StepJudge, Verdict, judge_steps};
 use std::alloc::Global;
 use text_scan::MAX_BYTES;
 
@@ -80,7 +79,6 @@ fn cut_text<S: Source>(
     cut: &mut CutProof,
     source: &mut S,
 ) -> Result<Verdict, CheckError>
-    requires nothing { cut.old ≡ record { steps = []; total = 0 } }
     ensures decides { IsTrue S.tells → Decides (S.channel source.old) (S.channel source.new)
         (λ bytes more. Answers result (text_verdict formula.now.clauses bytes)) }
     ensures cut { IsTrue S.tells → result ≡ Ok Verified → Decides (S.channel source.old) (S.channel source.new)
@@ -95,66 +93,78 @@ fn cut_text<S: Source>(
     ensures reads { OnlyReads (S.channel source.old) (S.channel source.new) }
     ensures beside { S.beside source.new ≡ S.beside source.old }
 {
-    let mut judge = Judge::open(alloc, formula)?;
+    let judge = Judge::open(alloc, formula)?;
+    let begun = CutProof::new(alloc);
+    let mut trimming = Trimming {
+        judge,
+        uses: Uses::new(alloc),
+        live: IdList::new(alloc),
+        cut: begun,
+    };
     let mut reader = StepReader::new(alloc, MAX_BYTES);
     let mut step = Step::Delete {
         id: Id(0),
         ids: IdList::new(alloc),
     };
-    let mut uses = Uses::new(alloc);
-    let mut live = IdList::new(alloc);
-    cut_proof(
-        &mut judge,
-        &mut reader,
-        &mut step,
-        &mut uses,
-        &mut live,
-        cut,
-        source,
-    )
+    let answer = judge_steps(&mut trimming, &mut reader, &mut step, source);
+    *cut = trimming.cut;
+    answer
 }
 
-// Judges the steps that the reader still gives, each in the same place, and cuts those up to the end.
-fn cut_proof<S: Source>(
-    judge: &mut Judge,
-    reader: &mut StepReader,
-    step: &mut Step,
-    uses: &mut Uses,
-    live: &mut IdList,
-    cut: &mut CutProof,
-    source: &mut S,
-) -> Result<Verdict, CheckError>
-    requires reading { reader.old.status ≡ Reading }
-    requires nothing { cut.old ≡ record { steps = []; total = 0 } }
-    ensures decides { IsTrue S.tells → Decides (S.channel source.old) (S.channel source.new)
-        (λ bytes more. Answers result (steps_verdict judge.old false (steps_ahead reader.old bytes))) }
-    ensures cut { IsTrue S.tells → result ≡ Ok Verified → Decides (S.channel source.old) (S.channel source.new)
-        (λ bytes more. cut.new ≡ record {
-          steps = pile_of (reverse (cut_steps judge.old (steps_ahead reader.old bytes)));
-          total = additions_ahead (steps_ahead reader.old bytes);
-        }) }
-    ensures undecided { IsTrue S.tells → result ≡ Err ReadFault →
-        steps_verdict judge.old false (so_far reader.old (gained (S.channel source.old) (S.channel source.new))) ≡ None }
-    ensures wants { IsTrue S.tells → result ≡ Err OutOfMemory → Decides (S.channel source.old) (S.channel source.new)
-        (λ bytes more. IsTrue (reading_may_want_memory (length more) judge.old (wants_ahead reader.old bytes))) }
-    ensures fault { result ≡ Err ReadFault → Rose (S.channel source.old).faults (S.channel source.new).faults }
-    ensures unfailed { result ≢ Err ReadFault → (S.channel source.new).faults ≡ (S.channel source.old).faults }
-    ensures reads { OnlyReads (S.channel source.old) (S.channel source.new) }
-    ensures beside { S.beside source.new ≡ S.beside source.old }
-{
-    let mut has_empty = false;
-    'steps: loop {
-        match reader.next_into(source, step) {
-            Ok(Some(line)) => {
-                reader.near_law();
-                match take_step(judge, step, has_empty, uses, live, cut)? {
-                    Some(reason) => return Ok(Verdict::Refused { line, reason }),
-                    None => has_empty = or_adds_empty(has_empty, step),
-                }
-            }
-            Ok(None) => return Ok(verdict_at_end(has_empty, reader.line())),
-            Err(error) => return answer_to(error),
-        }
+// A judge, with what was cut of the steps that it took, and lists that it uses again for each.
+#[derive(Drop)]
+struct Trimming {
+    judge: Judge,
+    uses: Uses,
+    live: IdList,
+    cut: CutProof,
+}
+
+impl<S: Source> StepJudge<LratLine, S> for Trimming {
+    type Error = CheckError;
+
+    ghost tells = { S.tells };
+
+    ghost channel = { S.channel };
+
+    ghost rules = { trimming_rules (λ trimming. trimming.judge) (λ trimming. trimming.cut) S.beside };
+
+    // so that the count doesn't run over
+    ghost is_ready = { λ trimming source. trimming.cut.total ≤ trimming.judge.top };
+
+    fn told_law() {}
+
+    fn next(
+        &self,
+        reader: &mut StepReader,
+        step: &mut Step,
+        source: &mut S,
+    ) -> Result<Option<u64>, StepError> {
+        reader.next_into(source, step)
+    }
+
+    fn take(
+        &mut self,
+        step: &Step,
+        has_empty: bool,
+        _source: &mut S,
+    ) -> Result<Option<Reason>, CheckError> {
+        Ok(take_step(
+            &mut self.judge,
+            step,
+            has_empty,
+            &mut self.uses,
+            &mut self.live,
+            &mut self.cut,
+        )?)
+    }
+
+    fn or_adds_empty(has_empty: bool, step: &Step) -> bool {
+        or_adds_empty(has_empty, step)
+    }
+
+    fn error(error: CheckError) -> CheckError {
+        error
     }
 }
 

@@ -9,8 +9,8 @@ use Rattle.schedule_plan.specs.declared.plan.Move.{Move}
 use Rattle.term_runner.specs.declared.outcome.Outcome.{Outcome}
 use Rattle.term_runner.specs.declared.outcome.Outcome.TheVariants as outcome
 use Rattle.term_runner.specs.declared.outcome.Run.{Run as Ending}
-use Rattle.term_runner.specs.declared.error.RunError.{RunError}
-use Rattle.term_runner.specs.declared.error.RunError.TheVariants.{WriteFault as Torn}
+use Rattle.bdd_terms.specs.declared.error.RunError.{RunError}
+use Rattle.bdd_terms.specs.declared.error.RunError.TheVariants.{WriteFault as Torn}
 use Rattle.solver_cli.specs.Sums.{IsPaidAs}
 use Rattle.term_runner.specs.Proofs.{IsProof, IsProofSoFarOfKind, KeepsWithin}
 use Rattle.command_line.specs.Command.{Command, ToSolve, ToBench, Solve, Bench, command, limits_asked, limits_of}

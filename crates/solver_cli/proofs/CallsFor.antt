@@ -5,7 +5,7 @@ use Rattle.cnf_base.specs.Formula.{Formula}
 use Rattle.host_io.specs.Files.{Texts}
 use Rattle.host_io.specs.declared.role.Role.TheVariants.{Cnf, Order, Buckets, Schedule, ProofIn, Cubes, ProofOut, Made, Out, Err}
 use Rattle.dimacs_reader.specs.Cnf.{CnfText, formula, refusal, overlong, cnf}
-use Rattle.lrat_checker.specs.declared.verdict.Verdict.{Verdict}
+use Rattle.proof_judging.specs.declared.verdict.Verdict.{Verdict}
 use Rattle.cnf_base.specs.Order.{natural}
 use Rattle.cube_text.specs.CubeText.{CubeText, cube_text, cubes as given_cubes, refusal as cube_refusal, overlong as overlong_cubes}
 use Rattle.schedule_plan.specs.OrderText.{OrderText, order as given_order, refusal as order_refusal, overlong as overlong_order, order_text}

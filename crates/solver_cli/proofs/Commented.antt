@@ -153,6 +153,15 @@ told_between {asked = asked} {after = after} {tells = tells} {start = start} {ne
   subst (λ (c : Channel). Notes asked after tells start c) (sym to) (subst (λ (c : Channel). Notes asked after tells c new) from notes),
 )
 
+-- more notes
+pub noted_more : {asked before after tells : Bool} {a b c : Channel} → Notes asked before tells a b → Notes before after tells b c
+    → Notes asked after tells a c
+noted_more {asked = true} p q = notes_told (told_then (p.told refl) q)
+noted_more {asked = false} {after = after} {tells = tells} {b = b} {c = c} p q =
+    let first = p.silent refl in
+    let second = (subst (λ (on : Bool). Notes on after tells b c) first.1 q).silent refl in
+    record { told = λ on. cc; silent = λ _. (second.0 ∙ first.0, second.1) }
+
 -- notes, and further ones
 pub notes_then : {asked mid tells : Bool} {a b c : Channel} → Notes asked mid tells a b → IsTold mid tells b c → IsTold asked tells a c
 notes_then {asked = true} p q = (q.0, notes_told (told_then (p.told refl) q.1))

@@ -8,9 +8,9 @@ use Rattle.dimacs_reader.specs.Cnf.{formula}
 use Rattle.host_io.specs.declared.role.Role.TheVariants.{ProofIn, ProofOut, Made}
 use Rattle.host_io.specs.Files.{Texts}
 use Rattle.text_scan.specs.Decides.{Fits}
-use Rattle.lrat_checker.specs.declared.verdict.Verdict.{Verdict}
-use Rattle.lrat_checker.specs.declared.verdict.CheckError.TheVariants as check_error
-use Rattle.lrat_checker.specs.declared.verdict.Verdict.TheVariants as judgement
+use Rattle.proof_judging.specs.declared.verdict.Verdict.{Verdict}
+use Rattle.proof_judging.specs.declared.verdict.CheckError.TheVariants as check_error
+use Rattle.proof_judging.specs.declared.verdict.Verdict.TheVariants as judgement
 use Rattle.lrat_rules.specs.State.{start}
 use Rattle.lrat_from_drat.specs.Conversion.{AreSteps, HasSteps}
 use Rattle.drat_text.specs.declared.step.DratStep.{DratStep}

@@ -1,6 +1,6 @@
 -- The proof that `drat` left is verified by `check --format drat`, and that of `lrat` by `check`.
 use Rattle.std.proofs.Common.{◌≡◌, ◌<◌, ◌≤◌, ℕ, ℤ, List, length, refl, sym, ap, ◌∙◌, subst, Some, None}
-use Rattle.std.specs.Prelude.{Bool, Option}
+use Rattle.std.specs.Prelude.{Bool, true, false, Option, if◌then◌else◌}
 use Rattle.cnf_base.specs.Formula.{Formula}
 use Rattle.cnf_base.specs.Limits.{max_vars}
 use Rattle.cnf_base.specs.Truth.{AreClausesOf}
@@ -9,12 +9,12 @@ use Rattle.dimacs_reader.specs.declared.mode.Mode.{Mode}
 use Rattle.host_io.specs.declared.role.Role.TheVariants.{ProofOut}
 use Rattle.lrat_rules.specs.declared.outcome.Reason.{Reason}
 use Rattle.lrat_rules.specs.Run.{Refutes}
-use Rattle.lrat_checker.specs.declared.verdict.Verdict.{Verdict}
-use Rattle.lrat_checker.specs.declared.verdict.Verdict.TheVariants as judgement
+use Rattle.proof_judging.specs.declared.verdict.Verdict.{Verdict}
+use Rattle.proof_judging.specs.declared.verdict.Verdict.TheVariants as judgement
 use Rattle.lrat_checker.specs.TextVerdict.{max_bytes, text_verdict}
 use Rattle.drat_proof.specs.Drat.{named_drat}
-use Rattle.drat_checker.specs.DratVerdict.{drat_text_verdict}
 use Rattle.command_line.specs.declared.format.ProofFormat.{ProofFormat}
+use Rattle.command_line.specs.declared.format.ProofFormat.TheVariants.{Drat, DratBySet}
 use Rattle.command_line.specs.declared.conversion.Conversion.{Conversion}
 use Rattle.command_line.specs.declared.conversion.Conversion.TheVariants.{IntoDrat, IntoLrat}
 use Rattle.command_line.specs.Command.{Command, Check, Convert, format_before, format_of}
@@ -33,10 +33,10 @@ pub record Laws : Type 0 where
   pub few : (mode : Mode) (bytes : List ℕ) (problem : Formula) → cnf mode bytes ≡ formula problem → problem.vars ≤ max_vars
   pub literals : (mode : Mode) (bytes : List ℕ) (problem : Formula) → cnf mode bytes ≡ formula problem
       → AreClausesOf problem.vars problem.clauses
-  pub written : (new_names : Bool) (problem : Formula) (bytes : List ℕ) → problem.vars ≤ max_vars
+  pub written : (new_names any_order : Bool) (problem : Formula) (bytes : List ℕ) → problem.vars ≤ max_vars
       → AreClausesOf problem.vars problem.clauses → text_verdict problem.clauses bytes ≡ Some judgement.Verified
       → length (named_drat new_names problem bytes) ≤ max_bytes
-      → drat_text_verdict problem.clauses (named_drat new_names problem bytes) ≡ Some judgement.Verified
+      → verdict_in (if any_order then DratBySet else Drat) problem.clauses (named_drat new_names problem bytes) ≡ Some judgement.Verified
 
 -- what both runs say of the proof that the first one left
 record Again (converted run : Run) (into : Conversion) : Type 0 where
@@ -108,9 +108,11 @@ drat_ends laws converted run first second asks =
       bytes : List ℕ
       bytes = written_in converted ProofOut
 
-      by_drat : drat_text_verdict found.problem.clauses bytes ≡ Some judgement.Verified
-      by_drat = subst (λ (b : List ℕ). drat_text_verdict found.problem.clauses b ≡ Some judgement.Verified) (sym found.whole)
-          (laws.written asks.fresh found.problem found.bytes (laws.few found.mode found.text found.problem found.formula_is)
+      by_drat : verdict_in (if asks.any_order then DratBySet else Drat) found.problem.clauses bytes ≡ Some judgement.Verified
+      by_drat = subst (λ (b : List ℕ). verdict_in (if asks.any_order then DratBySet else Drat) found.problem.clauses b
+          ≡ Some judgement.Verified) (sym found.whole)
+          (laws.written asks.fresh asks.any_order found.problem found.bytes
+          (laws.few found.mode found.text found.problem found.formula_is)
           (laws.literals found.mode found.text found.problem found.formula_is) found.judged
           (subst (λ (b : List ℕ). length b ≤ max_bytes) found.whole asks.fits))
 
@@ -118,11 +120,17 @@ drat_ends laws converted run first second asks =
           → given ≡ Some (judgement.Refused line reason) → ⊥
       apart e d = cc
 
+      not_refused : (any_order : Bool) (line : ℕ) (reason : Reason)
+          → verdict_in (if any_order then DratBySet else Drat) found.problem.clauses bytes ≡ Some judgement.Verified
+          → IsRefusedIn (if any_order then DratBySet else Drat) found.problem.clauses bytes line reason → ⊥
+      not_refused true line reason is refused = apart is refused
+      not_refused false line reason is refused = apart is refused
+
       none_some : {given : Option Verdict} → given ≡ Some judgement.Verified → given ≡ None → ⊥
       none_some e d = cc
 
       unrefused : (line : ℕ) (reason : Reason) → IsRefusedIn asks.checks.task.format found.problem.clauses bytes line reason → ⊥
-      unrefused line reason refused = apart by_drat
+      unrefused line reason refused = not_refused asks.any_order line reason by_drat
           (subst (λ (f : ProofFormat). IsRefusedIn f found.problem.clauses bytes line reason) asks.checks.judges refused)
 
       long : verdict_in asks.checks.task.format found.problem.clauses bytes ≡ None → max_bytes < length bytes

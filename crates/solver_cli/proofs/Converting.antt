@@ -8,13 +8,13 @@ use Rattle.host_io.specs.declared.role.Role.{Role}
 use Rattle.host_io.specs.declared.role.Role.TheVariants.{ProofIn, ProofOut}
 use Rattle.host_io.specs.declared.source.Failed.{Failed}
 use Rattle.text_scan.specs.Decides.{gained}
-use Rattle.lrat_checker.specs.TextVerdict.{Answers}
+use Rattle.proof_judging.specs.Verdict.{Answers}
 use Rattle.cnf_base.specs.Formula.{Formula}
 use Rattle.lrat_rules.specs.State.{start}
-use Rattle.lrat_checker.specs.declared.verdict.Verdict.{Verdict}
-use Rattle.lrat_checker.specs.declared.verdict.Verdict.TheVariants as judgement
-use Rattle.lrat_checker.specs.declared.verdict.CheckError.{CheckError}
-use Rattle.lrat_checker.specs.declared.verdict.CheckError.TheVariants as check_error
+use Rattle.proof_judging.specs.declared.verdict.Verdict.{Verdict}
+use Rattle.proof_judging.specs.declared.verdict.Verdict.TheVariants as judgement
+use Rattle.proof_judging.specs.declared.verdict.CheckError.{CheckError}
+use Rattle.proof_judging.specs.declared.verdict.CheckError.TheVariants as check_error
 use Rattle.drat_proof.specs.Conversion.{HasVerdict, converted}
 use Rattle.drat_proof.specs.TwoRoles.{KeptButTwo, added}
 use Rattle.drat_proof.specs.declared.error.ConvertError.{ConvertError}

@@ -10,11 +10,12 @@ use Rattle.host_io.specs.declared.role.Role.TheVariants.{ProofIn}
 use Rattle.host_io.specs.declared.source.Failed.{Failed}
 use Rattle.text_scan.specs.Decides.{gained, Decides, OnlyReads}
 use Rattle.dimacs_reader.specs.Cnf.{formula}
-use Rattle.lrat_checker.specs.TextVerdict.{Answers, text_verdict, verdict_so_far}
-use Rattle.lrat_checker.specs.declared.verdict.Verdict.{Verdict}
-use Rattle.lrat_checker.specs.declared.verdict.Verdict.TheVariants as judgement
-use Rattle.lrat_checker.specs.declared.verdict.CheckError.{CheckError}
-use Rattle.lrat_checker.specs.declared.verdict.CheckError.TheVariants.{ReadFault, TooLong, OutOfMemory}
+use Rattle.proof_judging.specs.Verdict.{Answers}
+use Rattle.lrat_checker.specs.TextVerdict.{text_verdict, verdict_so_far}
+use Rattle.proof_judging.specs.declared.verdict.Verdict.{Verdict}
+use Rattle.proof_judging.specs.declared.verdict.Verdict.TheVariants as judgement
+use Rattle.proof_judging.specs.declared.verdict.CheckError.{CheckError}
+use Rattle.proof_judging.specs.declared.verdict.CheckError.TheVariants.{ReadFault, TooLong, OutOfMemory}
 use Rattle.drat_proof.specs.TwoRoles.{added}
 use Rattle.proof_trim.specs.Answer.{Trims, WantsMemory}
 use Rattle.proof_trim.specs.Core.{core as core_numbers, core_text}

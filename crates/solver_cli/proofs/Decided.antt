@@ -12,7 +12,7 @@ use Rattle.lrat_rules.specs.Derivation.{IsWritten}
 use Rattle.cnf_base.specs.Order.{natural}
 use Rattle.schedule_plan.specs.declared.plan.Move.{Move}
 use Rattle.schedule_plan.specs.declared.limits.Limits.{Limits}
-use Rattle.term_runner.specs.declared.error.RunError.{RunError}
+use Rattle.bdd_terms.specs.declared.error.RunError.{RunError}
 use Rattle.term_runner.specs.declared.outcome.Run.{Run}
 use Rattle.term_runner.specs.Clauses.{has_empty_clause}
 use Rattle.term_runner.specs.Ends.{Ends, EndsAs, Shows}

@@ -6,10 +6,10 @@ use Rattle.host_io.specs.Channel.{Channel, MayFollow, Rose}
 use Rattle.host_io.specs.Files.{Files, Offers, Opens}
 use Rattle.host_io.specs.declared.source.Failed.{Failed}
 use Rattle.text_scan.specs.Decides.{gained, gained-none, Decides, OnlyReads, Decides-taken}
-use Rattle.lrat_checker.specs.TextVerdict.{Answers}
-use Rattle.lrat_checker.specs.declared.verdict.Verdict.{Verdict}
-use Rattle.lrat_checker.specs.declared.verdict.CheckError.{CheckError}
-use Rattle.lrat_checker.specs.declared.verdict.CheckError.TheVariants.{ReadFault, OutOfMemory}
+use Rattle.proof_judging.specs.Verdict.{Answers}
+use Rattle.proof_judging.specs.declared.verdict.Verdict.{Verdict}
+use Rattle.proof_judging.specs.declared.verdict.CheckError.{CheckError}
+use Rattle.proof_judging.specs.declared.verdict.CheckError.TheVariants.{ReadFault, OutOfMemory}
 use Rattle.command_line.specs.declared.format.ProofFormat.{ProofFormat}
 use Rattle.command_line.specs.declared.format.ProofFormat.TheVariants.{Lrat, Drat, DratBySet}
 use Rattle.solver_cli.specs.Format.{may_want_memory_in, so_far_in, verdict_in}

@@ -31,6 +31,7 @@ pub mod NamedProofs
 pub mod Named
 pub mod StandardError
 pub mod Told
+pub mod Watched
 pub mod Whole
 pub mod Decided
 pub mod Puts

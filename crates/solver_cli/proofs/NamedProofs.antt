@@ -15,9 +15,9 @@ use Rattle.cube_queries.specs.declared.answer.Outcome.TheVariants as replies
 use Rattle.solver_cli.specs.Replies.{status_of_replies}
 use Rattle.solver_cli.specs.ExitCode.{status_of_convert}
 use Rattle.solver_cli.specs.Verdict.{status_of_verdict}
-use Rattle.lrat_checker.specs.declared.verdict.Verdict.{Verdict}
-use Rattle.lrat_checker.specs.declared.verdict.Verdict.TheVariants as judgement
-use Rattle.lrat_checker.specs.declared.verdict.CheckError.TheVariants as check_error
+use Rattle.proof_judging.specs.declared.verdict.Verdict.{Verdict}
+use Rattle.proof_judging.specs.declared.verdict.Verdict.TheVariants as judgement
+use Rattle.proof_judging.specs.declared.verdict.CheckError.TheVariants as check_error
 use Rattle.drat_proof.specs.declared.error.ConvertError.{ConvertError}
 use Rattle.drat_proof.specs.declared.error.ConvertError.TheVariants as convert_error
 use Rattle.solver_cli.specs.ConvertedProof.{RewritesProof}

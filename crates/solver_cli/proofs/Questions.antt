@@ -18,8 +18,8 @@ use Rattle.lrat_rules.specs.State.{State}
 use Rattle.lrat_rules.specs.declared.outcome.Reason.{Reason}
 use Rattle.schedule_plan.specs.declared.limits.Limits.{Limits}
 use Rattle.term_runner.specs.Proofs.{IsProof, IsProofOfKind, KeepsWithin}
-use Rattle.term_runner.specs.declared.error.RunError.{RunError}
-use Rattle.term_runner.specs.declared.error.RunError.TheVariants as run_error
+use Rattle.bdd_terms.specs.declared.error.RunError.{RunError}
+use Rattle.bdd_terms.specs.declared.error.RunError.TheVariants as run_error
 use Rattle.command_line.specs.Command.{ToAsk, Ask, command, limits_asked}
 use Rattle.solver_cli.specs.declared.status.Status.{Status}
 use Rattle.solver_cli.specs.declared.status.Status.TheVariants.{Sat, Unsat, Unknown, Answered, Verified, NotVerified, Done, Help}
@@ -232,7 +232,7 @@ unreplied run {task = task} {problem = problem} {order = order} {cubes = cubes} 
           order,
           cubes,
           q.asks t,
-          λ width price needs has. so_far_of_kind run problem (IsPaid problem cubes price) u.opens.was_idle.written
+          λ width price needs has. so_far_of_kind run problem (IsPaid problem cubes width price) u.opens.was_idle.written
               (writes.paid width price needs has t),
         );
       }
@@ -405,7 +405,7 @@ replied run {task = task} {problem = problem} {order = order} {cubes = cubes} q 
       order,
       cubes,
       q.asks t,
-      λ width price needs has. so_far_of_kind run problem (IsPaid problem cubes price) a.opens.was_idle.written
+      λ width price needs has. so_far_of_kind run problem (IsPaid problem cubes width price) a.opens.was_idle.written
           (writes.paid width price needs has t),
     );
   }

@@ -14,7 +14,7 @@ use Rattle.schedule_plan.specs.declared.order_error.OrderError.{OrderError}
 use Rattle.schedule_plan.specs.declared.schedule.error.PlanError.{PlanError}
 use Rattle.schedule_plan.specs.declared.limits.Limits.{Limits}
 use Rattle.term_runner.specs.declared.outcome.Run.{Run as Ending}
-use Rattle.term_runner.specs.declared.error.RunError.{RunError}
+use Rattle.bdd_terms.specs.declared.error.RunError.{RunError}
 use Rattle.command_line.specs.Command.{ToSolve, Planned}
 use Rattle.solver_cli.specs.declared.status.Status.{Status}
 use Rattle.solver_cli.specs.ExitCode.{status_of_buckets, status_of_order, status_of_plan}

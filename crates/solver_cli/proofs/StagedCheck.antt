@@ -8,8 +8,8 @@ use Rattle.host_io.specs.declared.source.Failed.{Failed}
 use Rattle.host_io.specs.Channel.{Channel}
 use Rattle.host_io.specs.Files.{Files, Stored, Agrees, FilesBut, Others}
 use Rattle.text_scan.specs.Decides.{gained}
-use Rattle.lrat_checker.specs.declared.verdict.Verdict.{Verdict}
-use Rattle.lrat_checker.specs.declared.verdict.CheckError.{CheckError}
+use Rattle.proof_judging.specs.declared.verdict.Verdict.{Verdict}
+use Rattle.proof_judging.specs.declared.verdict.CheckError.{CheckError}
 use Rattle.command_line.specs.declared.format.ProofFormat.{ProofFormat}
 use Rattle.command_line.specs.Command.{ToCheck}
 use Rattle.solver_cli.specs.declared.status.Status.{Status}

@@ -7,7 +7,7 @@ use Rattle.host_io.specs.declared.role.Role.TheVariants.{Cnf, Order, Buckets, Sc
 use Rattle.host_io.specs.declared.source.Failed.{Failed}
 use Rattle.host_io.specs.Channel.{Channel}
 use Rattle.host_io.specs.Files.{Files, FilesBut, Kept}
-use Rattle.lrat_checker.specs.declared.verdict.Verdict.{Verdict}
+use Rattle.proof_judging.specs.declared.verdict.Verdict.{Verdict}
 use Rattle.drat_proof.specs.TwoRoles.{KeptButTwo}
 use Rattle.drat_proof.specs.declared.error.ConvertError.{ConvertError}
 use Rattle.command_line.specs.Command.{ToConvert}

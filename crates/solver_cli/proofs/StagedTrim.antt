@@ -9,9 +9,9 @@ use Rattle.host_io.specs.Channel.{Channel}
 use Rattle.host_io.specs.Files.{Files, Kept, same_role}
 use Rattle.answer_text.specs.Status.{trimmed_text}
 use Rattle.lrat_rules.specs.declared.outcome.Reason.{Reason}
-use Rattle.lrat_checker.specs.declared.verdict.Verdict.{Verdict}
-use Rattle.lrat_checker.specs.declared.verdict.Verdict.TheVariants as judgement
-use Rattle.lrat_checker.specs.declared.verdict.CheckError.{CheckError}
+use Rattle.proof_judging.specs.declared.verdict.Verdict.{Verdict}
+use Rattle.proof_judging.specs.declared.verdict.Verdict.TheVariants as judgement
+use Rattle.proof_judging.specs.declared.verdict.CheckError.{CheckError}
 use Rattle.drat_proof.specs.TwoRoles.{KeptButTwo}
 use Rattle.proof_trim.specs.declared.text.Trimmed.{Trimmed}
 use Rattle.proof_trim.specs.declared.text.Trimmed.TheVariants.{Steps, Refused}

@@ -6,15 +6,15 @@ use Rattle.host_io.specs.Files.{Files, IsInput, IsCreated}
 use Rattle.host_io.specs.declared.source.Failed.{Failed}
 use Rattle.host_io.specs.declared.role.Role.{Role}
 use Rattle.host_io.specs.declared.role.Role.TheVariants.{Cnf, Order, Buckets, Schedule, ProofIn, Cubes, ProofOut, Made, Out, Err as ErrRole}
-use Rattle.lrat_checker.specs.declared.verdict.Verdict.{Verdict}
-use Rattle.lrat_checker.specs.declared.verdict.CheckError.TheVariants as check_error
+use Rattle.proof_judging.specs.declared.verdict.Verdict.{Verdict}
+use Rattle.proof_judging.specs.declared.verdict.CheckError.TheVariants as check_error
 use Rattle.drat_proof.specs.declared.error.ConvertError.{ConvertError}
 use Rattle.drat_proof.specs.declared.error.ConvertError.TheVariants as convert_error
 use Rattle.cnf_base.specs.Formula.{Formula}
 use Rattle.schedule_plan.specs.declared.plan.Move.{Move}
 use Rattle.term_runner.specs.declared.outcome.Run.{Run as Ending}
-use Rattle.term_runner.specs.declared.error.RunError.{RunError}
-use Rattle.term_runner.specs.declared.error.RunError.TheVariants as run_error
+use Rattle.bdd_terms.specs.declared.error.RunError.{RunError}
+use Rattle.bdd_terms.specs.declared.error.RunError.TheVariants as run_error
 use Rattle.dimacs_reader.specs.declared.mode.Mode.{Mode}
 use Rattle.command_line.specs.Command.{ToSolve, ToAsk, ToCheck, ToBench, ToMake, ToOrder, ToConvert, ToTrim, Convert, command}
 use Rattle.solver_cli.specs.declared.status.Status.{Status}

@@ -12,9 +12,9 @@ use Rattle.host_io.specs.declared.source.Failed.{Failed}
 use Rattle.answer_text.specs.Status.{trimmed_text}
 use Rattle.lrat_rules.specs.Run.{Refutes}
 use Rattle.lrat_checker.specs.TextVerdict.{max_bytes, text_verdict}
-use Rattle.lrat_checker.specs.declared.verdict.Verdict.TheVariants as judgement
-use Rattle.lrat_checker.specs.declared.verdict.CheckError.{CheckError}
-use Rattle.lrat_checker.specs.declared.verdict.CheckError.TheVariants.{ReadFault, TooLong, OutOfMemory}
+use Rattle.proof_judging.specs.declared.verdict.Verdict.TheVariants as judgement
+use Rattle.proof_judging.specs.declared.verdict.CheckError.{CheckError}
+use Rattle.proof_judging.specs.declared.verdict.CheckError.TheVariants.{ReadFault, TooLong, OutOfMemory}
 use Rattle.lrat_rules.specs.declared.outcome.Reason.{Reason}
 use Rattle.proof_trim.specs.Trimmed.{trim}
 use Rattle.proof_trim.specs.declared.text.Trimmed.TheVariants.{Steps, Refused}

@@ -5,9 +5,9 @@ use Rattle.cnf_base.specs.Formula.{Formula}
 use Rattle.cnf_base.specs.Truth.{AreClausesOf}
 use Rattle.dimacs_reader.specs.Cnf.{formula}
 use Rattle.host_io.specs.declared.role.Role.TheVariants.{ProofIn}
-use Rattle.lrat_checker.specs.declared.verdict.Verdict.{Verdict}
-use Rattle.lrat_checker.specs.declared.verdict.CheckError.{CheckError}
-use Rattle.lrat_checker.specs.declared.verdict.CheckError.TheVariants as error
+use Rattle.proof_judging.specs.declared.verdict.Verdict.{Verdict}
+use Rattle.proof_judging.specs.declared.verdict.CheckError.{CheckError}
+use Rattle.proof_judging.specs.declared.verdict.CheckError.TheVariants as error
 use Rattle.solver_cli.specs.declared.status.Status.{Status}
 use Rattle.solver_cli.specs.declared.status.Status.TheVariants.{TooLong, ReadFault, OutOfMemory}
 use Rattle.host_io.specs.declared.role.Role.TheVariants.{ProofOut, Made, Out}

@@ -5,7 +5,7 @@ use Rattle.term_runner.specs.Proofs.{AreUnsatisfiable}
 use Rattle.lrat_rules.specs.Run.{Refutes, verdict}
 use Rattle.lrat_rules.specs.declared.outcome.Reason.{Reason}
 use Rattle.lrat_checker.specs.TextVerdict.{max_bytes, text_verdict}
-use Rattle.lrat_checker.specs.declared.verdict.Verdict.TheVariants as judgement
+use Rattle.proof_judging.specs.declared.verdict.Verdict.TheVariants as judgement
 use Rattle.proof_trim.specs.Core.{RefutesFrom, clauses_at, core, core_start}
 use Rattle.proof_trim.specs.Trimmed.{each_named, trim, trimmed}
 use Rattle.drat_text.specs.declared.step.DratStep.{DratStep}

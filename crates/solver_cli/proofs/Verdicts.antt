@@ -7,10 +7,10 @@ use Rattle.host_io.specs.declared.role.Role.TheVariants.{ProofIn, Out}
 use Rattle.host_io.specs.declared.source.Failed.{Failed}
 use Rattle.answer_text.specs.Status.{verified_line}
 use Rattle.lrat_rules.specs.declared.outcome.Reason.{Reason}
-use Rattle.lrat_checker.specs.declared.verdict.Verdict.{Verdict}
-use Rattle.lrat_checker.specs.declared.verdict.Verdict.TheVariants as judgement
-use Rattle.lrat_checker.specs.declared.verdict.CheckError.{CheckError}
-use Rattle.lrat_checker.specs.declared.verdict.CheckError.TheVariants as error
+use Rattle.proof_judging.specs.declared.verdict.Verdict.{Verdict}
+use Rattle.proof_judging.specs.declared.verdict.Verdict.TheVariants as judgement
+use Rattle.proof_judging.specs.declared.verdict.CheckError.{CheckError}
+use Rattle.proof_judging.specs.declared.verdict.CheckError.TheVariants as error
 use Rattle.solver_cli.specs.declared.status.Status.{Status}
 use Rattle.solver_cli.specs.declared.status.Status.TheVariants.{Sat, Unsat, Unknown, Verified, NotVerified, Done, WriteFault}
 use Rattle.solver_cli.specs.declared.status.Why.{Why}

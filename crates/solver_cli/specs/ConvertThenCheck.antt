@@ -1,12 +1,12 @@
 -- What `check` answers to the proof that `drat` or `lrat` left.
-use Rattle.std.specs.Prelude.{◌≡◌, ◌≤◌, Bool, Some, length, IsTrue}
+use Rattle.std.specs.Prelude.{◌≡◌, ◌≤◌, Bool, Some, length, IsTrue, if◌then◌else◌}
 use Rattle.host_io.specs.declared.role.Role.TheVariants.{ProofOut}
 use Rattle.lrat_checker.specs.TextVerdict.{max_bytes}
 use Rattle.solver_cli.specs.declared.status.Status.TheVariants.{Verified}
 use Rattle.command_line.specs.declared.conversion.Conversion.{Conversion}
 use Rattle.command_line.specs.declared.conversion.Conversion.TheVariants.{IntoDrat, IntoLrat}
 use Rattle.command_line.specs.declared.format.ProofFormat.{ProofFormat}
-use Rattle.command_line.specs.declared.format.ProofFormat.TheVariants.{Drat, Lrat}
+use Rattle.command_line.specs.declared.format.ProofFormat.TheVariants.{Drat, DratBySet, Lrat}
 use Rattle.command_line.specs.Command.{ToCheck, ToConvert, Check, Convert, command}
 use Rattle.solver_cli.specs.Run.{Run, written_in}
 
@@ -26,11 +26,12 @@ pub record ChecksConverted (converted checked : Run) (into : Conversion) (format
   pub same_formula : checked.texts task.file ≡ converted.texts conversion.file
   pub same_proof : checked.texts task.proof ≡ Some (written_in converted ProofOut)
 
--- an LRAT proof became a DRAT proof that is no longer than is looked at, and this is judged; a DRAT proof became an LRAT proof, which is
--- judged
+-- an LRAT proof became a DRAT proof that is no longer than is looked at, and this is judged, by lists or by sets of literals; a DRAT proof
+-- became an LRAT proof, which is judged
 pub record ChecksDrat (converted checked : Run) : Type 0 where
   pub fresh : Bool
-  pub checks : ChecksConverted converted checked (IntoDrat fresh) Drat
+  pub any_order : Bool
+  pub checks : ChecksConverted converted checked (IntoDrat fresh) (if any_order then DratBySet else Drat)
   pub fits : length (written_in converted ProofOut) ≤ max_bytes
 
 pub record ChecksLrat (converted checked : Run) : Type 0 where

@@ -6,9 +6,9 @@ use Rattle.host_io.specs.Channel.{Channel, Leaves, MayFollow, Rose}
 use Rattle.host_io.specs.Files.{Files, Texts}
 use Rattle.lrat_rules.specs.Run.{Refutes}
 use Rattle.lrat_rules.specs.State.{start}
-use Rattle.lrat_checker.specs.declared.verdict.Verdict.{Verdict}
-use Rattle.lrat_checker.specs.declared.verdict.Verdict.TheVariants.{Verified}
-use Rattle.lrat_checker.specs.declared.verdict.CheckError.{CheckError}
+use Rattle.proof_judging.specs.declared.verdict.Verdict.{Verdict}
+use Rattle.proof_judging.specs.declared.verdict.Verdict.TheVariants.{Verified}
+use Rattle.proof_judging.specs.declared.verdict.CheckError.{CheckError}
 use Rattle.text_scan.specs.Decides.{gained, Decides, Fits, OnlyReads}
 use Rattle.drat_rules.specs.Clauses.{Equality, same_list, same_set}
 use Rattle.drat_proof.specs.Drat.{named_drat, named_drat_steps}

@@ -7,9 +7,9 @@ use Rattle.dimacs_reader.specs.declared.error.CnfError.TheVariants.{OutOfMemory 
 use Rattle.cube_text.specs.declared.error.CubeError.{CubeError}
 use Rattle.cube_text.specs.declared.error.CubeError.TheVariants as cubes
 use Rattle.host_io.specs.declared.role.Role.TheVariants.{Cnf, Order, Buckets, Schedule, ProofIn, Cubes}
-use Rattle.lrat_checker.specs.declared.verdict.CheckError.{CheckError}
-use Rattle.lrat_checker.specs.declared.verdict.CheckError.TheVariants.{ReadFault as CheckReadFault, TooLong as CheckTooLong}
-use Rattle.lrat_checker.specs.declared.verdict.CheckError.TheVariants.{OutOfMemory as CheckOutOfMemory}
+use Rattle.proof_judging.specs.declared.verdict.CheckError.{CheckError}
+use Rattle.proof_judging.specs.declared.verdict.CheckError.TheVariants.{ReadFault as CheckReadFault, TooLong as CheckTooLong}
+use Rattle.proof_judging.specs.declared.verdict.CheckError.TheVariants.{OutOfMemory as CheckOutOfMemory}
 use Rattle.drat_proof.specs.declared.error.ConvertError.{ConvertError}
 use Rattle.drat_proof.specs.declared.error.ConvertError.TheVariants.{ReadFault as ConvertReadFault, TooLong as ConvertTooLong}
 use Rattle.drat_proof.specs.declared.error.ConvertError.TheVariants.{OutOfMemory as ConvertOutOfMemory, WriteFault as ConvertWriteFault}
@@ -19,8 +19,8 @@ use Rattle.schedule_plan.specs.declared.order_error.OrderError.TheVariants.{TooL
 use Rattle.schedule_plan.specs.declared.schedule.error.PlanError.{PlanError}
 use Rattle.schedule_plan.specs.declared.schedule.error.PlanError.TheVariants.{Refused as PlanIsRefused, ReadFault as PlanReadFault}
 use Rattle.schedule_plan.specs.declared.schedule.error.PlanError.TheVariants.{TooLong as PlanTooLong, OutOfMemory as PlanOutOfMemory}
-use Rattle.term_runner.specs.declared.error.RunError.{RunError}
-use Rattle.term_runner.specs.declared.error.RunError.TheVariants.{OutOfMemory as RunOutOfMemory, WriteFault as RunWriteFault}
+use Rattle.bdd_terms.specs.declared.error.RunError.{RunError}
+use Rattle.bdd_terms.specs.declared.error.RunError.TheVariants.{OutOfMemory as RunOutOfMemory, WriteFault as RunWriteFault}
 use Rattle.solver_cli.specs.declared.status.Status.{Status}
 use Rattle.solver_cli.specs.declared.status.Status.TheVariants.{Sat, Unsat, Unknown, Answered, Verified, NotVerified, Done, Help, Usage}
 use Rattle.solver_cli.specs.declared.status.Status.TheVariants.{CnfRefused}

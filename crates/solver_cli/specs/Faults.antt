@@ -5,7 +5,7 @@ use Rattle.host_io.specs.declared.role.Role.{Role}
 use Rattle.host_io.specs.declared.role.Role.TheVariants.{Cnf, Order, Buckets, Schedule, ProofIn, Cubes, ProofOut, Made, Out, Err}
 use Rattle.host_io.specs.Files.{IsInput, IsCreated}
 use Rattle.dimacs_reader.specs.Cnf.{formula, overlong, cnf_so_far}
-use Rattle.lrat_checker.specs.declared.verdict.Verdict.{Verdict}
+use Rattle.proof_judging.specs.declared.verdict.Verdict.{Verdict}
 use Rattle.schedule_plan.specs.OrderText.{overlong as overlong_order, order_so_far}
 use Rattle.schedule_plan.specs.ScheduleText.{overlong as overlong_schedule, schedule_so_far}
 use Rattle.cube_text.specs.CubeText.{cubes as given_cubes, overlong as overlong_cubes, cubes_so_far}

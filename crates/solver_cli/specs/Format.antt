@@ -5,8 +5,8 @@ use Rattle.lrat_rules.specs.Run.{Refutes, verdict}
 use Rattle.lrat_rules.specs.declared.outcome.Reason.{Reason}
 use Rattle.lrat_checker.specs.TextVerdict.{text_verdict, verdict_so_far}
 use Rattle.lrat_checker.specs.Memory.{check_may_want_memory}
-use Rattle.lrat_checker.specs.declared.verdict.Verdict.{Verdict}
-use Rattle.lrat_checker.specs.declared.verdict.Verdict.TheVariants.{Refused}
+use Rattle.proof_judging.specs.declared.verdict.Verdict.{Verdict}
+use Rattle.proof_judging.specs.declared.verdict.Verdict.TheVariants.{Refused}
 use Rattle.drat_text.specs.declared.step.DratStep.{DratStep}
 use Rattle.drat_text.specs.DratText.{drat_lines}
 use Rattle.drat_rules.specs.Clauses.{Equality, same_list, same_set}

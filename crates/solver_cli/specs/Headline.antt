@@ -12,15 +12,15 @@ use Rattle.dimacs_reader.specs.Cnf.{CnfText, formula, refusal, overlong, cnf}
 use Rattle.lrat_rules.specs.Run.{Refutes}
 use Rattle.lrat_rules.specs.declared.outcome.Reason.{Reason}
 use Rattle.lrat_checker.specs.TextVerdict.{max_bytes}
-use Rattle.lrat_checker.specs.declared.verdict.Verdict.{Verdict}
-use Rattle.lrat_checker.specs.declared.verdict.Verdict.TheVariants as judgement
+use Rattle.proof_judging.specs.declared.verdict.Verdict.{Verdict}
+use Rattle.proof_judging.specs.declared.verdict.Verdict.TheVariants as judgement
 use Rattle.proof_trim.specs.Core.{core, core_text}
 use Rattle.proof_trim.specs.Trimmed.{trim}
 use Rattle.cube_text.specs.CubeText.{CubeText, cube_text, cubes as given_cubes, refusal as cube_refusal, overlong as overlong_cubes}
 use Rattle.cube_queries.specs.declared.answer.Answer.{Answer}
 use Rattle.cube_queries.specs.declared.answer.Outcome.{Outcome as Replies}
 use Rattle.cube_queries.specs.Answers.{AreShown, AreTrue}
-use Rattle.cube_queries.specs.Width.{AreAmple, IsPaid, NeedsAtMost}
+use Rattle.cube_queries.specs.Width.{AreAmple, IsPaid, plan_of}
 use Rattle.cube_queries.specs.Ends.{Says as SaysOfCubes, Shows as ShowsOfCubes}
 use Rattle.schedule_plan.specs.OrderText.{OrderText, order as given_order, refusal as order_refusal, overlong as overlong_order}
 use Rattle.schedule_plan.specs.OrderText.{order_text}
@@ -29,7 +29,8 @@ use Rattle.schedule_plan.specs.declared.plan.Move.{Move}
 use Rattle.term_runner.specs.declared.outcome.Outcome.{Outcome}
 use Rattle.term_runner.specs.declared.outcome.Outcome.TheVariants as outcome
 use Rattle.term_runner.specs.Clauses.{has_empty_clause, one_line}
-use Rattle.term_runner.specs.Price.{IsLeanAtEnd, IsMovePrice}
+use Rattle.term_runner.specs.Price.{IsLeanAtEnd}
+use Rattle.bdd_terms.specs.Price.{IsMovePrice}
 use Rattle.term_runner.specs.Proofs.{AreUnsatisfiable, IsProof, IsProofOfKind, IsProofSoFar, IsProofSoFarOfKind}
 use Rattle.term_runner.specs.Width.{HasWidth, HasWidthWith, keeps_trail}
 use Rattle.term_runner.specs.Ends.{Says, Shows}
@@ -132,8 +133,8 @@ pub record IsUndecided (run : Run) (why : Why) : Type 0 where
   pub sums : IsTrue (parity_asked (command run.words)) → why ≡ NodeLimit → NeedsSums (limits_given run) problem
   pub shown : IsTrue run.tells → IsShownUndecided run why problem order moves
 
--- Or the words give `ask`: more nodes are needed than are allowed, where that is the limit, and the limits aren't above what the width
--- needs. It is the formula that is asked for, by its order and cubes; the proof's bytes show that the limit is reached, and it was printed.
+-- Or the words give `ask`: the plan that conjoins the clauses is wider than the nodes that are allowed, where that is the limit, and the
+-- limits aren't above what the width needs. It is the formula that is asked for, by its order and cubes; the proof's bytes show that the limit is reached, and it was printed.
 pub record IsShownUnanswered (run : Run) (why : Why) (problem : Formula) (order : List ℕ) (cubes : List (List ℤ)) : Type 0 where
   pub asked : AsksByCubes run problem order (given_cubes cubes)
   pub reached : ShowsOfCubes problem order cubes (limits_given run) (written_in run ProofOut) (replies_at why)
@@ -145,7 +146,7 @@ pub record IsUnanswered (run : Run) (why : Why) : Type 0 where
   pub order : List ℕ
   pub cubes : List (List ℤ)
   pub needs : SaysOfCubes problem order cubes (limits_given run) (replies_at why)
-  pub short : (width price : ℕ) → NeedsAtMost problem order cubes width → IsMovePrice problem.vars (limits_given run).cache width price
+  pub short : (width price : ℕ) → HasWidth problem order (plan_of problem) width → IsMovePrice problem.vars (limits_given run).cache width price
       → AreAmple (limits_given run) problem cubes width price → ⊥
   pub shown : IsTrue run.tells → IsShownUnanswered run why problem order cubes
 
@@ -578,7 +579,7 @@ pub record TrimStands (run : Run) : Type 0 where
 
 -- The proof that `ask` writes: nothing, or exactly the lines of good steps from the clauses of the formula that is asked for, within the
 -- limits. A front of one more such line may stand behind them only after a failed write. However the run ends, its numbers keep within the
--- price of conjoining the clauses and of each cube, by the width.
+-- price of conjoining the clauses, one for each cube, and as many as the width once.
 pub record AskStands (run : Run) : Type 0 where
   pub so_far : IsTrue run.tells → (written_in run ProofOut ≡ []) ⊎ ((problem : Formula) × (order : List ℕ) × (cubes : List (List ℤ))
       × AsksByCubes run problem order (given_cubes cubes) × IsProofSoFar problem (limits_given run) (written_in run ProofOut))
@@ -586,9 +587,9 @@ pub record AskStands (run : Run) : Type 0 where
       ⊎ ((problem : Formula) × (order : List ℕ) × (cubes : List (List ℤ)) × AsksByCubes run problem order (given_cubes cubes)
       × IsProof problem (limits_given run) (written_in run ProofOut))
   pub price : IsTrue run.tells → (written_in run ProofOut ≡ []) ⊎ ((problem : Formula) × (order : List ℕ) × (cubes : List (List ℤ))
-      × AsksByCubes run problem order (given_cubes cubes) × ((width price : ℕ) → NeedsAtMost problem order cubes width
+      × AsksByCubes run problem order (given_cubes cubes) × ((width price : ℕ) → HasWidth problem order (plan_of problem) width
       → IsMovePrice problem.vars (limits_given run).cache width price
-      → IsProofSoFarOfKind problem.clauses (IsPaid problem cubes price) (written_in run ProofOut)))
+      → IsProofSoFarOfKind problem.clauses (IsPaid problem cubes width price) (written_in run ProofOut)))
 
 -- what stands in a written proof: of `drat` and `lrat`, of `trim`, of `ask`, and of every other command
 pub record WrittenStands (run : Run) : Type 0 where

@@ -15,9 +15,11 @@ pub mod Phases
 pub mod ConvertedProof
 pub mod TrimmedProof
 pub mod Stages
+pub mod Served
 pub mod Start
 pub mod SolveThenCheck
 pub mod ConvertThenCheck
 pub mod Comments
 pub mod Progress
+pub mod Watched
 pub mod Explained

@@ -14,10 +14,10 @@ use Rattle.dimacs_reader.specs.Answers.{Answers as CnfAnswers, WantsMemory as Cn
 use Rattle.dimacs_reader.specs.declared.mode.Mode.{Mode}
 use Rattle.dimacs_reader.specs.declared.error.CnfError.{CnfError}
 use Rattle.dimacs_reader.specs.declared.error.CnfError.TheVariants.{ReadFault as CnfReadFault, OutOfMemory as CnfOutOfMemory}
-use Rattle.lrat_checker.specs.TextVerdict.{Answers}
-use Rattle.lrat_checker.specs.declared.verdict.Verdict.{Verdict}
-use Rattle.lrat_checker.specs.declared.verdict.CheckError.{CheckError}
-use Rattle.lrat_checker.specs.declared.verdict.CheckError.TheVariants.{ReadFault as CheckReadFault, OutOfMemory as CheckOutOfMemory}
+use Rattle.proof_judging.specs.Verdict.{Answers}
+use Rattle.proof_judging.specs.declared.verdict.Verdict.{Verdict}
+use Rattle.proof_judging.specs.declared.verdict.CheckError.{CheckError}
+use Rattle.proof_judging.specs.declared.verdict.CheckError.TheVariants.{ReadFault as CheckReadFault, OutOfMemory as CheckOutOfMemory}
 use Rattle.cnf_base.specs.Order.{natural as natural_order}
 use Rattle.schedule_plan.specs.OrderText.{overlong as unread_order, order_text, order_so_far}
 use Rattle.schedule_plan.specs.OrderReader.{Answers as OrderAnswers, WantsMemory as OrderWantsMemory}
@@ -44,13 +44,14 @@ use Rattle.solver_cli.specs.Format.{may_want_memory_in, so_far_in, verdict_in}
 use Rattle.solver_cli.specs.Sums.{AreAmpleAs, IsPaidAs, NeedsSums}
 use Rattle.schedule_plan.specs.declared.limits.Limits.{Limits}
 use Rattle.term_runner.specs.Ends.{Says, Shows}
-use Rattle.term_runner.specs.Price.{IsDecision, IsMovePrice}
+use Rattle.term_runner.specs.Price.{IsDecision}
+use Rattle.bdd_terms.specs.Price.{IsMovePrice}
 use Rattle.term_runner.specs.Proofs.{IsProof, IsProofSoFar, IsProofSoFarOfKind}
 use Rattle.term_runner.specs.Width.{HasWidth, HasWidthWith, keeps_trail}
 use Rattle.term_runner.specs.declared.outcome.Run.{Run as Ending}
 use Rattle.term_runner.specs.declared.outcome.Outcome.TheVariants.{NodeLimit}
-use Rattle.term_runner.specs.declared.error.RunError.{RunError}
-use Rattle.term_runner.specs.declared.error.RunError.TheVariants.{WriteFault as Torn}
+use Rattle.bdd_terms.specs.declared.error.RunError.{RunError}
+use Rattle.bdd_terms.specs.declared.error.RunError.TheVariants.{WriteFault as Torn}
 use Rattle.solver_cli.specs.ErrorText.{error_text}
 use Rattle.solver_cli.specs.declared.status.Status.{Status}
 

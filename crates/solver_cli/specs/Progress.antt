@@ -1,7 +1,7 @@
 -- What is told on standard error of the progress of a run.
 use Rattle.std.specs.Prelude.{◌≡◌, ◌≤◌, ◌++◌, ℕ, Bool, false, List, [], ◌∷◌, Option, None, Some, IsTrue, IsFalse, if◌then◌else◌}
 use Rattle.host_io.specs.declared.role.Role.{Role}
-use Rattle.host_io.specs.declared.role.Role.TheVariants.{ProofIn, ProofOut, Err}
+use Rattle.host_io.specs.declared.role.Role.TheVariants.{ProofOut, Err}
 use Rattle.host_io.specs.Channel.{Channel, Rose}
 use Rattle.host_io.specs.Files.{Files, same_role}
 use Rattle.host_io.specs.Beside.{Beside, files_but}
@@ -43,12 +43,9 @@ beside_reported lender serves own start channels files = record {
   });
 }
 
--- the roles that are served: that of the proof that is written, that of the one that is read, and none
+-- the roles that are served: that of the proof that is written, and none
 abbrev pub serves_written : Role → Bool
 serves_written other = same_role other ProofOut
-
-abbrev pub serves_read : Role → Bool
-serves_read other = same_role other ProofIn
 
 abbrev pub serves_none : Role → Bool
 serves_none other = false

@@ -10,8 +10,8 @@ use Rattle.text_scan.specs.Decides.{Fits, gained}
 use Rattle.dimacs_reader.specs.Cnf.{CnfText, formula, cnf}
 use Rattle.lrat_rules.specs.Run.{Refutes}
 use Rattle.lrat_checker.specs.TextVerdict.{max_bytes, text_verdict}
-use Rattle.lrat_checker.specs.declared.verdict.Verdict.{Verdict}
-use Rattle.lrat_checker.specs.declared.verdict.Verdict.TheVariants as judgement
+use Rattle.proof_judging.specs.declared.verdict.Verdict.{Verdict}
+use Rattle.proof_judging.specs.declared.verdict.Verdict.TheVariants as judgement
 use Rattle.proof_trim.specs.Core.{RefutesFrom, clauses_at, core, core_start, core_text}
 use Rattle.proof_trim.specs.Trimmed.{each_named, trim, trimmed}
 use Rattle.schedule_plan.specs.OrderText.{OrderText, order_text}

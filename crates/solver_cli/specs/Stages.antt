@@ -6,9 +6,9 @@ use Rattle.host_io.specs.declared.role.Role.TheVariants.{Cnf, Order, Buckets, Sc
 use Rattle.host_io.specs.declared.source.Failed.{Failed}
 use Rattle.host_io.specs.Channel.{Channel}
 use Rattle.host_io.specs.Files.{Files, Opens, same_role}
-use Rattle.lrat_checker.specs.declared.verdict.Verdict.{Verdict}
-use Rattle.lrat_checker.specs.declared.verdict.CheckError.{CheckError}
-use Rattle.lrat_checker.specs.declared.verdict.Verdict.TheVariants as judgement
+use Rattle.proof_judging.specs.declared.verdict.Verdict.{Verdict}
+use Rattle.proof_judging.specs.declared.verdict.CheckError.{CheckError}
+use Rattle.proof_judging.specs.declared.verdict.Verdict.TheVariants as judgement
 use Rattle.lrat_rules.specs.declared.outcome.Reason.{Reason}
 use Rattle.drat_proof.specs.declared.error.ConvertError.{ConvertError}
 use Rattle.proof_trim.specs.declared.text.Trimmed.TheVariants.{Steps, Refused as IsRefused}
@@ -21,7 +21,7 @@ use Rattle.cube_text.specs.declared.error.CubeError.{CubeError}
 use Rattle.cube_queries.specs.declared.answer.Outcome.{Outcome as Replies}
 use Rattle.cube_queries.specs.Ends.{Ends as WritesReplies}
 use Rattle.term_runner.specs.declared.outcome.Run.{Run as Ending}
-use Rattle.term_runner.specs.declared.error.RunError.{RunError}
+use Rattle.bdd_terms.specs.declared.error.RunError.{RunError}
 use Rattle.dimacs_reader.specs.declared.mode.Mode.{Mode}
 use Rattle.dimacs_reader.specs.declared.error.CnfError.{CnfError}
 use Rattle.schedule_plan.specs.declared.limits.Limits.{Limits}
@@ -306,6 +306,7 @@ ask_of task = record {
   mode = task.mode;
   order = text_of task.order;
   limits = task.limits;
+  progress = task.progress;
 }
 
 abbrev pub check_of : CheckTask → ToCheck
@@ -318,7 +319,13 @@ check_of task = record {
 }
 
 abbrev pub arrange_of : OrderTask → ToOrder
-arrange_of task = record { file = task.formula.now; method = task.method; mode = task.mode; out = task.out.now }
+arrange_of task = record {
+  file = task.formula.now;
+  method = task.method;
+  mode = task.mode;
+  out = task.out.now;
+  progress = task.progress;
+}
 
 -- how far `solve` came
 abbrev pub Came : Bool → Streams → Streams → Files → ToSolve → Status → Type 0

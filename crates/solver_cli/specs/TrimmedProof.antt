@@ -5,9 +5,9 @@ use Rattle.host_io.specs.Channel.{Channel, Leaves, MayFollow, Rose}
 use Rattle.host_io.specs.Files.{Files, Texts}
 use Rattle.text_scan.specs.Decides.{gained, Fits}
 use Rattle.lrat_checker.specs.TextVerdict.{text_verdict, verdict_so_far}
-use Rattle.lrat_checker.specs.declared.verdict.Verdict.TheVariants.{Verified}
-use Rattle.lrat_checker.specs.declared.verdict.CheckError.{CheckError}
-use Rattle.lrat_checker.specs.declared.verdict.CheckError.TheVariants.{ReadFault, OutOfMemory}
+use Rattle.proof_judging.specs.declared.verdict.Verdict.TheVariants.{Verified}
+use Rattle.proof_judging.specs.declared.verdict.CheckError.{CheckError}
+use Rattle.proof_judging.specs.declared.verdict.CheckError.TheVariants.{ReadFault, OutOfMemory}
 use Rattle.drat_proof.specs.TwoRoles.{added}
 use Rattle.proof_trim.specs.Answer.{Trims}
 use Rattle.proof_trim.specs.Core.{core}

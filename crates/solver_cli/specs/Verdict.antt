@@ -1,8 +1,8 @@
 -- The verdicts on proofs, and their texts on standard output.
 use Rattle.std.specs.Prelude.{ℕ, ℤ, List, Option, Some}
 use Rattle.answer_text.specs.Status.{verified_line, refused_text, trimmed_text}
-use Rattle.lrat_checker.specs.declared.verdict.Verdict.{Verdict}
-use Rattle.lrat_checker.specs.declared.verdict.Verdict.TheVariants as verdict
+use Rattle.proof_judging.specs.declared.verdict.Verdict.{Verdict}
+use Rattle.proof_judging.specs.declared.verdict.Verdict.TheVariants as verdict
 use Rattle.proof_trim.specs.Trimmed.{additions, additions_of_text, trimmed}
 use Rattle.command_line.specs.Command.{Command, Trim}
 use Rattle.solver_cli.specs.declared.status.Status.{Status}

@@ -16,22 +16,23 @@ use crate::job::Job;
 use crate::order::take_order;
 use crate::replies::{put_replies, status_of_replies};
 use crate::status::{Status, ended_by};
+use bdd_terms::RunError;
 use cnf_base::Cnf;
 use command_line::AskTask;
-use cube_queries::{Outcome, ask_into};
+use cube_queries::{Gauge, Outcome, ask_into};
 use cube_text::Cubes;
 use host_io::{Host, HostSink, Role as HostRole, beside_kept};
 use schedule_plan::{Limits, Order};
 use std::alloc::Global;
-use term_runner::RunError;
 
 /// Reads the formula, the order and the cubes, and answers. All reading is over before the proof's file is created, so that none is where
-/// a text is refused or memory runs out by then.
+/// a text is refused or memory runs out by then. The gauge shows how far it is.
 pub fn ask<H: Host>(
     alloc: Global,
     asked: &AskTask<'_>,
     host: &mut H,
     excerpt: &mut Excerpt,
+    gauge: &Gauge,
 ) -> Status
     requires unnamed { (role : Role) → (H.channel host.old role).name ≡ None }
     requires limits { AreLimits asked.now.limits }
@@ -59,7 +60,7 @@ pub fn ask<H: Host>(
         parity: false,
         progress: false,
     };
-    answer_cubes(alloc, host, &formula, &order, &cubes, &job)
+    answer_cubes(alloc, host, &formula, &order, &cubes, &job, gauge)
 }
 
 // Creates the proof's file, answers the cubes, writes the proof and prints the answers.
@@ -70,6 +71,7 @@ fn answer_cubes<H: Host>(
     order: &Order,
     cubes: &Cubes,
     job: &Job<'_>,
+    gauge: &Gauge,
 ) -> Status
     requires unnamed_proof { (H.channel host.old ProofOut).name ≡ None }
     requires unnamed_out { (H.channel host.old Out).name ≡ None }
@@ -84,7 +86,7 @@ fn answer_cubes<H: Host>(
     if host.create(HostRole::ProofOut, job.proof).is_err() {
         return Status::WriteFault;
     }
-    let found = match reply(alloc, host, formula, order, cubes, job.limits) {
+    let found = match reply(alloc, host, formula, order, cubes, job.limits, gauge) {
         Ok(found) => found,
         Err(error) => return Status::from(error),
     };
@@ -100,6 +102,7 @@ fn reply<H: Host>(
     order: &Order,
     cubes: &Cubes,
     limits: Limits,
+    gauge: &Gauge,
 ) -> Result<Outcome, RunError>
     requires created { (H.channel host.old ProofOut).name ≢ None }
     requires fresh { (H.channel host.old ProofOut).written ≡ [] }
@@ -112,5 +115,5 @@ fn reply<H: Host>(
 {
     beside_kept::<H>();
     let mut sink = HostSink::new(host, HostRole::ProofOut);
-    ask_into(alloc, formula, order, cubes, limits, &mut sink)
+    ask_into(alloc, formula, order, cubes, limits, &mut sink, gauge)
 }

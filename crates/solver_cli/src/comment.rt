@@ -37,6 +37,24 @@ impl Comment {
         self
     }
 
+    /// With this sentence behind it, in one line: a line feed and the blanks behind it become one blank.
+    pub fn sentence(self, text: &str) -> Comment {
+        let mut comment = self;
+        let mut is_behind_line = false;
+        for byte in text.as_bytes() {
+            if *byte == b'\n' {
+                is_behind_line = true;
+            } else if !(is_behind_line && *byte == b' ') {
+                if is_behind_line {
+                    comment.push(b' ');
+                }
+                is_behind_line = false;
+                comment.push(*byte);
+            }
+        }
+        comment
+    }
+
     /// With this name behind it, in quotes. A question mark stands for each of its control characters.
     pub fn name(self, name: &str) -> Comment {
         let mut comment = self.text("\"");

@@ -10,7 +10,7 @@ use command_line::Conversion;
 use drat_proof::{ConvertError, convert};
 use drat_rules::Deletions;
 use host_io::{Host, Role};
-use lrat_checker::Verdict;
+use proof_judging::Verdict;
 use std::alloc::Global;
 
 /// Opens the file of the proof, creates the other one, judges the proof over the formula and writes it there in the other format.

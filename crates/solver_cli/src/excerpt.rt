@@ -12,6 +12,7 @@ const BLOCK: usize = 16384;
 #[derive(Drop)]
 pub struct Excerpt {
     is_wanted: bool,
+    looks_binary: bool,
     lines: u64,
     len: usize,
     block: [u8; BLOCK],
@@ -22,6 +23,7 @@ impl Excerpt {
     pub fn new(is_wanted: bool) -> Excerpt {
         Excerpt {
             is_wanted,
+            looks_binary: false,
             lines: 0,
             len: 0,
             block: [0; BLOCK],
@@ -30,8 +32,19 @@ impl Excerpt {
 
     /// From here on it is that of another text.
     pub fn begin(&mut self) {
+        self.looks_binary = false;
         self.lines = 0;
         self.len = 0;
+    }
+
+    /// Whether the last bytes of a text are to be kept.
+    pub fn is_wanted(&self) -> bool {
+        self.is_wanted
+    }
+
+    /// Whether a byte that was looked at was 0, as in each binary proof and in no text.
+    pub fn looks_binary(&self) -> bool {
+        self.looks_binary
     }
 
     /// What it has of the line of this number, which may have begun before it, or go on behind it.
@@ -48,8 +61,15 @@ impl Excerpt {
         &self.block[..self.len.min(BLOCK)]
     }
 
-    // Takes bytes that were read.
-    fn pass(&mut self, bytes: &[u8]) {
+    /// Looks whether a byte of these is 0.
+    pub fn look(&mut self, bytes: &[u8]) {
+        if has_zero(bytes) {
+            self.looks_binary = true;
+        }
+    }
+
+    /// Takes bytes that were read.
+    pub fn pass(&mut self, bytes: &[u8]) {
         if !self.is_wanted || bytes.is_empty() {
             return;
         }
@@ -113,6 +133,15 @@ pub fn line_ends(bytes: &[u8]) -> u64 {
         }
     }
     ends
+}
+
+fn has_zero(bytes: &[u8]) -> bool {
+    for byte in bytes {
+        if *byte == 0 {
+            return true;
+        }
+    }
+    false
 }
 
 // How many bytes stand before the first line feed.

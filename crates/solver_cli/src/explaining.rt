@@ -176,8 +176,19 @@ fn proof_reasons(asked: &Asked<'_>, line: u64, reason: Reason, excerpt: &Excerpt
     let reasons = Explanation::new()
         .line(with_line(place, line, excerpt))
         .text(proof_reason(reason));
-    match (asked, reason) {
-        (Asked::Check(task), Reason::Syntax) => match task.format {
+    match reason {
+        Reason::Syntax if excerpt.looks_binary() => {
+            reasons.text("it looks binary, and only textual proofs are read")
+        }
+        Reason::Syntax => format_reasons(asked, reasons),
+        _ => reasons,
+    }
+}
+
+// With what another format needs.
+fn format_reasons(asked: &Asked<'_>, reasons: Explanation) -> Explanation {
+    match asked {
+        Asked::Check(task) => match task.format {
             ProofFormat::Lrat => reasons.text("a proof without hints is read with --format drat"),
             _ => reasons,
         },

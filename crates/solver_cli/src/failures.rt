@@ -81,11 +81,14 @@ pub fn memory_reasons<H: Host>(asked: &Asked<'_>, host: &H) -> Explanation {
 
 fn stage_line<H: Host>(asked: &Asked<'_>, host: &H) -> Comment {
     match last_opened(host) {
-        Some((role, trace)) if !trace.has_ended => {
-            file_line(asked, role).text(", was being read when memory ran out")
+        Some((Role::ProofIn, trace)) if !trace.has_ended => {
+            file_line(asked, Role::ProofIn).text(", was being read when memory ran out")
         }
         _ if is_open(host, Role::ProofOut) => {
             file_line(asked, Role::ProofOut).text(", was being written when memory ran out")
+        }
+        Some((role, trace)) if !trace.has_ended => {
+            file_line(asked, role).text(", was being read when memory ran out")
         }
         Some((role, _)) => file_line(asked, role).text(", had been read when memory ran out"),
         None => Comment::new().text("memory ran out before a file was opened"),

@@ -1,72 +1,40 @@
 // Judging a proof: opening its file and checking its text over the formula, by the rules of its format.
 ghost use Rattle.std.specs.Prelude.{◌≡◌, ◌≢◌, ◌⊎◌, length, None, Err, IsTrue, true};
-ghost use Rattle.host_io.specs.declared.role.Role.TheVariants.{ProofIn, Err as ErrRole};
+ghost use Rattle.host_io.specs.declared.role.Role.TheVariants.{ProofIn};
 ghost use Rattle.host_io.specs.Channel.{Rose};
 ghost use Rattle.host_io.specs.Files.{Kept};
 ghost use Rattle.text_scan.specs.Decides.{gained, Decides, OnlyReads};
-ghost use Rattle.lrat_checker.specs.declared.verdict.CheckError.TheVariants.{ReadFault, OutOfMemory};
-ghost use Rattle.lrat_checker.specs.TextVerdict.{Answers};
-ghost use Rattle.drat_proof.specs.TwoRoles.{KeptButTwo};
+ghost use Rattle.proof_judging.specs.declared.verdict.CheckError.TheVariants.{ReadFault, OutOfMemory};
+ghost use Rattle.proof_judging.specs.Verdict.{Answers};
 ghost use Rattle.solver_cli.specs.Format.{may_want_memory_in, so_far_in, verdict_in};
 ghost use Rattle.solver_cli.specs.Phases.{ChecksProof, JudgesProof};
-ghost use Rattle.solver_cli.specs.Progress.{IsTold};
 
-use crate::excerpt::{Excerpt, NotedSource};
-use crate::reporting_source::ReportingSource;
 use cnf_base::Cnf;
 use command_line::ProofFormat;
 use drat_checker::{check_drat, check_drat_by};
 use drat_rules::Deletions;
-use host_io::{Host, Role, Source, beside_kept};
-use lrat_checker::{CheckError, Verdict, check};
+use host_io::{Host, HostSource, Role, Source, beside_kept};
+use lrat_checker::check;
+use proof_judging::{CheckError, Verdict};
 use std::alloc::Global;
 
-/// Opens the file of this name and judges the proof in it over the formula. Tells of the progress where that is asked for; else the excerpt
-/// is that of the proof.
+/// Opens the file of this name and judges the proof in it over the formula.
 pub fn judge<H: Host>(
     alloc: Global,
     host: &mut H,
     formula: &Cnf,
     name: &str,
     format: ProofFormat,
-    progress: bool,
-    excerpt: &mut Excerpt,
 ) -> Result<Verdict, CheckError>
     requires unread { (H.channel host.old ProofIn).name ≡ None }
-    requires unnamed { (H.channel host.old ErrRole).name ≡ None }
     ensures judges { JudgesProof format H.tells (H.channel host.old ProofIn) (H.channel host.new ProofIn)
         (H.files host.old) name.now formula.now.clauses result }
-    ensures told { IsTold progress H.tells (H.channel host.old ErrRole) (H.channel host.new ErrRole) }
-    ensures kept { KeptButTwo ProofIn ErrRole None (H.channel host.old) (H.channel host.new) (H.files host.old) (H.files host.new) }
+    ensures kept { Kept ProofIn None (H.channel host.old) (H.channel host.new) (H.files host.old) (H.files host.new) }
 {
     if host.open_read(Role::ProofIn, name).is_err() {
         return Err(CheckError::ReadFault);
     }
-    if progress {
-        excerpt.begin();
-        check_telling(alloc, host, formula, format)
-    } else {
-        check_opened(alloc, host, formula, format, excerpt)
-    }
-}
-
-fn check_telling<H: Host>(
-    alloc: Global,
-    host: &mut H,
-    formula: &Cnf,
-    format: ProofFormat,
-) -> Result<Verdict, CheckError>
-    requires opened { (H.channel host.old ProofIn).name ≢ None }
-    requires unnamed { (H.channel host.old ErrRole).name ≡ None }
-    ensures checks { ChecksProof format H.tells (H.channel host.old ProofIn) (H.channel host.new ProofIn) formula.now.clauses result }
-    ensures told { IsTold true H.tells (H.channel host.old ErrRole) (H.channel host.new ErrRole) }
-    ensures kept { KeptButTwo ProofIn ErrRole None (H.channel host.old) (H.channel host.new) (H.files host.old) (H.files host.new) }
-{
-    let mut source = ReportingSource::new(host);
-    let result = check_in(alloc, formula, format, &mut source);
-    source.report_end();
-    let _host = source.close();
-    result
+    check_opened(alloc, host, formula, format)
 }
 
 fn check_opened<H: Host>(
@@ -74,14 +42,13 @@ fn check_opened<H: Host>(
     host: &mut H,
     formula: &Cnf,
     format: ProofFormat,
-    excerpt: &mut Excerpt,
 ) -> Result<Verdict, CheckError>
     requires { (H.channel host.old ProofIn).name ≢ None }
     ensures checks { ChecksProof format H.tells (H.channel host.old ProofIn) (H.channel host.new ProofIn) formula.now.clauses result }
     ensures kept { Kept ProofIn None (H.channel host.old) (H.channel host.new) (H.files host.old) (H.files host.new) }
 {
     beside_kept::<H>();
-    let mut source = NotedSource::new(host, Role::ProofIn, excerpt);
+    let mut source = HostSource::new(host, Role::ProofIn);
     check_in(alloc, formula, format, &mut source)
 }
 

@@ -25,9 +25,9 @@ pub fn solve_then_check_law()
     check_law();
 }
 
-/// The DRAT proof that `drat` leaves of a verified proof, by new names or not, is verified by `check --format drat`, where both read the
-/// formula in the same mode, unless it is longer than is looked at, memory runs out or a call of the host fails. It holds of any two runs
-/// that keep what `run` promises.
+/// The DRAT proof that `drat` leaves of a verified proof, by new names or not, is verified by `check --format drat`, in any order of
+/// literals or not, where both read the formula in the same mode, unless it is longer than is looked at, memory runs out or a call of the
+/// host fails. It holds of any two runs that keep what `run` promises.
 pub fn drat_then_check_law()
     ensures { (converted checked : Run) → Promises converted → Promises checked → ChecksDrat converted checked
         → MayEnd checked (written_in converted ProofOut) checked.status }

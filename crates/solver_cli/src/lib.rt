@@ -14,6 +14,7 @@ mod basis;
 mod comment;
 mod complaint;
 mod conversion;
+mod counts;
 mod cubes;
 mod excerpt;
 mod explaining;
@@ -37,12 +38,13 @@ mod proof;
 mod replies;
 mod reporting_search;
 mod reporting_sink;
-mod reporting_source;
+mod service;
 mod status;
 mod system;
 mod telling;
 mod trimming;
 mod verdict;
+mod watched_host;
 
 pub use answer::Shape;
 pub use command_line::{

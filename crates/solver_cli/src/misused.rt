@@ -7,7 +7,10 @@ use std::alloc::Global;
 /// Why these words ask for no command.
 pub fn misuse_reasons(alloc: Global, words: &[String]) -> Explanation {
     let reason = match misuse_of(alloc, words) {
-        Some(Misuse::Parsed(text)) => Comment::new().text(sentence(&text)),
+        Some(Misuse::Parsed(text)) => Comment::new().sentence(sentence(&text)),
+        Some(Misuse::InFront(flag)) => Comment::new()
+            .text(flag)
+            .text(" is a flag of a command, and has to stand behind it"),
         Some(Misuse::NoCommand) => Comment::new().text("the command is missing"),
         Some(Misuse::SameFile(file)) => Comment::new()
             .text("two files of the command have the name ")

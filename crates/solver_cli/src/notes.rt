@@ -1,7 +1,8 @@
 // The lines that tell how far a run is.
 use crate::comment::Comment;
+use bdd_terms::{Lookups, Reading};
+use cube_queries::Reading as CubeReading;
 use plan_search::{Attempt, Kind, Method, Pair};
-use term_runner::{Lookups, Reading};
 
 /// So many moves are done, and this is the greatest number so far.
 pub fn move_note(reading: &Reading, number: u64) -> Comment {
@@ -37,9 +38,25 @@ pub fn end_note(reading: &Reading, number: u64) -> Comment {
         .text(" %")
 }
 
-/// So many lines of a proof were read.
+/// So many lines of a text were read.
 pub fn line_note(lines: u64) -> Comment {
     Comment::new().text("line ").number(lines)
+}
+
+/// So many cubes are answered, and this is the greatest number so far.
+pub fn cube_note(reading: &CubeReading, number: u64) -> Comment {
+    Comment::new()
+        .text("cube ")
+        .number(reading.answered)
+        .text(" of ")
+        .number(reading.cubes)
+        .text(", number ")
+        .number(number)
+}
+
+/// A proof has a byte that no text has.
+pub fn binary_note() -> Comment {
+    Comment::new().text("the proof looks binary: only textual proofs are read")
 }
 
 /// A trial of a search.

@@ -20,6 +20,16 @@ impl Numbers {
         }
     }
 
+    /// Numbers up to this one are in use.
+    pub fn raise(&mut self, number: u64) {
+        self.last = self.last.max(number);
+    }
+
+    /// The greatest number so far.
+    pub fn last(&self) -> u64 {
+        self.last
+    }
+
     /// Takes bytes of the proof. The greatest number, where they bring it to the next million or beyond.
     pub fn take(&mut self, bytes: &[u8]) -> Option<u64> {
         let before = self.last / STRIDE;

@@ -175,7 +175,7 @@ fn plan_found<O: Observer>(
     ensures refused { IfErr result (λ error. error ≡ OutOfMemory) }
     ensures beside { O.beside observer.new ≡ O.beside observer.old }
 {
-    let FoundPlan { order, plan } = find_plan(alloc, formula, given, limits, parity, observer)?;
+    let FoundPlan { order, plan, .. } = find_plan(alloc, formula, given, limits, parity, observer)?;
     let _variables = order.as_slice();
     Ok(Basis { order, plan })
 }

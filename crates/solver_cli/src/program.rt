@@ -27,7 +27,6 @@ ghost use Rattle.solver_cli.specs.Stages.{task_of};
 
 use crate::answer::{Shape, status_of};
 use crate::arrangement::{order_by, put_order};
-use crate::asking::ask;
 use crate::complaint::complain;
 use crate::conversion::rewrite;
 use crate::excerpt::Excerpt;
@@ -40,6 +39,7 @@ use crate::order::{take_buckets, take_order};
 use crate::output::{put_answer, put_text};
 use crate::plan::{buckets_name, take_plan};
 use crate::proof::prove;
+use crate::service::{Served, serve};
 use crate::status::{Status, buckets_status, ended_by};
 use crate::trimming::{put_core, put_proof, trim_proof};
 use crate::verdict::{put_trimmed, put_verdict, verdict_status};
@@ -50,8 +50,9 @@ use command_line::{
 };
 use drat_checker::check_drat_law;
 use host_io::{Host, MemoryHost, Role as HostRole};
-use lrat_checker::{Verdict, check_law};
+use lrat_checker::check_law;
 use lrat_rules::soundness_law;
+use proof_judging::Verdict;
 use proof_trim::{Core, KeptSteps, Trimmed, trim_law};
 use schedule_plan::{Order, Plan};
 use std::alloc::Global;
@@ -69,13 +70,19 @@ fn work<H: Host>(alloc: Global, words: &[String], host: &mut H, excerpt: &mut Ex
 {
     match read_words(alloc, words) {
         Ok(Asked::Solve(task)) => solve(alloc, &task, host, excerpt),
-        Ok(Asked::Check(task)) => check(alloc, &task, host, excerpt),
+        Ok(Asked::Check(task)) => {
+            serve(alloc, Served::Check(task), task.progress, host, excerpt)
+        }
         Ok(Asked::Bench(task)) => bench(alloc, &task, host),
         Ok(Asked::Make(task)) => make(alloc, &task, host),
-        Ok(Asked::Order(task)) => arrange(alloc, &task, host, excerpt),
-        Ok(Asked::Ask(task)) => ask(alloc, &task, host, excerpt),
-        Ok(Asked::Convert(task)) => convert(alloc, &task, host, excerpt),
-        Ok(Asked::Trim(task)) => trim(alloc, &task, host, excerpt),
+        Ok(Asked::Order(task)) => {
+            serve(alloc, Served::Order(task), task.progress, host, excerpt)
+        }
+        Ok(Asked::Ask(task)) => serve(alloc, Served::Ask(task), task.progress, host, excerpt),
+        Ok(Asked::Convert(task)) => {
+            serve(alloc, Served::Convert(task), task.progress, host, excerpt)
+        }
+        Ok(Asked::Trim(task)) => serve(alloc, Served::Trim(task), task.progress, host, excerpt),
         Err(Refusal::Help(text)) => show_help(&text, host),
         Err(Refusal::Usage) => Status::Usage,
         Err(Refusal::OutOfMemory) => Status::OutOfMemory,
@@ -240,8 +247,8 @@ fn make<H: Host>(alloc: Global, asked: &MakeTask<'_>, host: &mut H) -> Status
     ended_by(Status::Done, written)
 }
 
-// Reads the formula, makes an order of its variables, and writes its text to the file that is named.
-fn arrange<H: Host>(
+/// Reads the formula, makes an order of its variables, and writes its text to the file that is named.
+pub(crate) fn arrange<H: Host>(
     alloc: Global,
     asked: &OrderTask<'_>,
     host: &mut H,
@@ -268,8 +275,8 @@ fn arrange<H: Host>(
     ended_by(Status::Done, written)
 }
 
-// Reads the formula, judges the proof over it by the rules of its format and prints the verdict.
-fn check<H: Host>(
+/// Reads the formula, judges the proof over it by the rules of its format and prints the verdict.
+pub(crate) fn check<H: Host>(
     alloc: Global,
     asked: &CheckTask<'_>,
     host: &mut H,
@@ -278,22 +285,14 @@ fn check<H: Host>(
     requires unnamed { (role : Role) → (H.channel host.old role).name ≡ None }
     ensures came { CameToCheck H.tells (streams_of (H.channel host.old)) (streams_of (H.channel host.new)) (H.files host.old)
         (check_of asked.now) result }
-    ensures told { IsTold asked.now.progress H.tells (H.channel host.old ErrRole) (H.channel host.new ErrRole) }
+    ensures error { H.channel host.new ErrRole ≡ H.channel host.old ErrRole }
     ensures files { FilesBut None (H.files host.old) (H.files host.new) }
 {
     let problem = match take_formula(alloc, host, asked.files.formula, asked.mode, excerpt) {
         Ok(problem) => problem,
         Err(error) => return Status::from(error),
     };
-    let verdict = match judge(
-        alloc,
-        host,
-        &problem,
-        asked.files.proof,
-        asked.format,
-        asked.progress,
-        excerpt,
-    ) {
+    let verdict = match judge(alloc, host, &problem, asked.files.proof, asked.format) {
         Ok(verdict) => verdict,
         Err(error) => return Status::from(error),
     };
@@ -301,8 +300,8 @@ fn check<H: Host>(
     ended_by(verdict_status(verdict), printed)
 }
 
-// Reads the formula, judges the proof over it, writes it in the other format and prints the verdict. The proof gives no excerpt.
-fn convert<H: Host>(
+/// Reads the formula, judges the proof over it, writes it in the other format and prints the verdict.
+pub(crate) fn convert<H: Host>(
     alloc: Global,
     asked: &ConvertTask<'_>,
     host: &mut H,
@@ -318,7 +317,6 @@ fn convert<H: Host>(
         Ok(problem) => problem,
         Err(error) => return Status::from(error),
     };
-    excerpt.begin();
     let verdict = match rewrite(
         alloc,
         host,
@@ -334,9 +332,14 @@ fn convert<H: Host>(
     ended_by(verdict_status(verdict), printed)
 }
 
-// Reads the formula, judges the proof over it, and writes what the refutation needs of a verified one, and its core, where a file is named
-// for it. All growth is over before a file is created, so that a run out of memory leaves none.
-fn trim<H: Host>(alloc: Global, asked: &TrimTask<'_>, host: &mut H, excerpt: &mut Excerpt) -> Status
+/// Reads the formula, judges the proof over it, and writes what the refutation needs of a verified one, and its core, where a file is named
+/// for it. All growth is over before a file is created, so that a run out of memory leaves none.
+pub(crate) fn trim<H: Host>(
+    alloc: Global,
+    asked: &TrimTask<'_>,
+    host: &mut H,
+    excerpt: &mut Excerpt,
+) -> Status
     requires unnamed { (role : Role) → (H.channel host.old role).name ≡ None }
     ensures came { CameToTrim H.tells (streams_of (H.channel host.old)) (streams_of (H.channel host.new)) (H.files host.old)
         (trim_of asked.now) result }
@@ -347,7 +350,7 @@ fn trim<H: Host>(alloc: Global, asked: &TrimTask<'_>, host: &mut H, excerpt: &mu
         Ok(problem) => problem,
         Err(error) => return Status::from(error),
     };
-    let trimmed = match trim_proof(alloc, host, &problem, asked.files.proof, excerpt) {
+    let trimmed = match trim_proof(alloc, host, &problem, asked.files.proof) {
         Ok(trimmed) => trimmed,
         Err(error) => return Status::from(error),
     };

@@ -10,13 +10,14 @@ ghost use Rattle.solver_cli.specs.Progress.{Comments, Notes, beside_reported, se
 
 use crate::notes::end_note;
 use crate::reporting_sink::ReportingSink;
+use bdd_terms::RunError;
 use cnf_base::Cnf;
 use host_io::{Host, HostSink, Role, Sink, beside_kept};
 use lrat_rules::derivation_law;
 use parity_runs::run_with_parity;
 use schedule_plan::{Order, Plan};
 use std::alloc::Global;
-use term_runner::{Gauge, Limits, Run, RunError, Watch, run_plan_into};
+use term_runner::{Gauge, Limits, Run, Watch, run_plan_into};
 
 /// Decides the formula and writes the proof of the answer in the role that was created for it. Tells of the progress, if it is told.
 pub fn prove<H: Host>(

@@ -3,15 +3,15 @@ ghost use Rattle.std.specs.Prelude.{◌≡◌};
 ghost use Rattle.solver_cli.specs.Ended.{ended_by};
 ghost use Rattle.solver_cli.specs.ExitCode.{exit_code, status_of_buckets};
 
+use bdd_terms::RunError;
 use cube_text::{CubeError, CubeKind};
 use dimacs_reader::{CnfError, CnfKind};
 use drat_proof::ConvertError;
 use host_io::{Failed, Role};
-use lrat_checker::CheckError;
 use lrat_rules::Reason;
+use proof_judging::CheckError;
 use schedule_plan::{OrderError, OrderKind, PlanError, PlanKind};
 use std::io::ErrorKind;
-use term_runner::RunError;
 
 /// Why a formula was left undecided, or cubes unanswered.
 #[derive(Clone, Copy, Debug)]

@@ -6,10 +6,9 @@ ghost use Rattle.command_line.specs.Reading.{text_of};
 ghost use Rattle.solver_cli.specs.Phases.{PutsText};
 ghost use Rattle.solver_cli.specs.TrimmedProof.{PutsFile, PutsNamed, TrimsOpened, TrimsProof};
 
-use crate::excerpt::{Excerpt, NotedSource};
 use cnf_base::Cnf;
-use host_io::{Failed, Host, HostSink, Role, Sink, beside_kept};
-use lrat_checker::CheckError;
+use host_io::{Failed, Host, HostSink, HostSource, Role, Sink, beside_kept};
+use proof_judging::CheckError;
 use proof_trim::{Core, KeptSteps, Trimmed, trim};
 use std::alloc::Global;
 
@@ -19,7 +18,6 @@ pub fn trim_proof<H: Host>(
     host: &mut H,
     formula: &Cnf,
     name: &str,
-    excerpt: &mut Excerpt,
 ) -> Result<Trimmed, CheckError>
     requires unread { (H.channel host.old ProofIn).name ≡ None }
     ensures trims { TrimsProof H.tells (H.channel host.old ProofIn) (H.channel host.new ProofIn) (H.files host.old) name.now
@@ -29,21 +27,16 @@ pub fn trim_proof<H: Host>(
     if host.open_read(Role::ProofIn, name).is_err() {
         return Err(CheckError::ReadFault);
     }
-    trim_opened(alloc, host, formula, excerpt)
+    trim_opened(alloc, host, formula)
 }
 
-fn trim_opened<H: Host>(
-    alloc: Global,
-    host: &mut H,
-    formula: &Cnf,
-    excerpt: &mut Excerpt,
-) -> Result<Trimmed, CheckError>
+fn trim_opened<H: Host>(alloc: Global, host: &mut H, formula: &Cnf) -> Result<Trimmed, CheckError>
     requires { (H.channel host.old ProofIn).name ≢ None }
     ensures trims { TrimsOpened H.tells (H.channel host.old ProofIn) (H.channel host.new ProofIn) formula.now.clauses result }
     ensures kept { Kept ProofIn None (H.channel host.old) (H.channel host.new) (H.files host.old) (H.files host.new) }
 {
     beside_kept::<H>();
-    let mut source = NotedSource::new(host, Role::ProofIn, excerpt);
+    let mut source = HostSource::new(host, Role::ProofIn);
     trim(alloc, formula, &mut source)
 }
 

@@ -10,7 +10,7 @@ ghost use Rattle.solver_cli.specs.Verdict.{status_of_verdict, verdict_text};
 use crate::status::Status;
 use answer_text::{write_refused, write_trimmed, write_verified};
 use host_io::{Failed, Host, HostSink, Role, Sink, beside_kept};
-use lrat_checker::Verdict;
+use proof_judging::Verdict;
 
 /// The status of a run that printed this verdict.
 pub fn verdict_status(verdict: Verdict) -> Status

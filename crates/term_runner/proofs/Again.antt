@@ -7,7 +7,7 @@ use Rattle.node_table.specs.Laws.{Growth}
 use Rattle.node_table.specs.Tied.{KeepsClauses}
 use Rattle.reconstruction.specs.Stack.{Stack}
 use Rattle.schedule_plan.specs.Plan.{Stage}
-use Rattle.term_runner.specs.declared.held.HeldTerm.{HeldTerm}
+use Rattle.bdd_terms.specs.declared.held.HeldTerm.{HeldTerm}
 use Rattle.term_runner.specs.Held.{AreHeld, IsAt}
 use Rattle.term_runner.specs.Trail.{IsTrail}
 use Rattle.term_runner.proofs.Stacks.{held_kept}

@@ -1,6 +1,6 @@
 -- The start of a run, and a formula with an empty clause.
-use Rattle.std.proofs.Common.{◌≡◌, ℕ, zero, suc, ◌+◌, ◌^◌, ◌<◌, ◌≤◌, Bool, true, false, List, ℤ, [], ◌∷◌, length, Option}
-use Rattle.std.proofs.Common.{None, Some, Contains, is_some, refl, sym, ap, ◌∙◌, subst, arith, inl, inr}
+use Rattle.std.proofs.Common.{◌≡◌, ℕ, zero, suc, ◌+◌, ◌^◌, ◌<◌, ◌≤◌, Bool, true, false, List, ℤ, [], ◌∷◌, length, Option, None, Some}
+use Rattle.std.proofs.Common.{Contains, is_some, refl, sym, ap, ◌∙◌, subst, arith, inl, inr}
 use Rattle.std.specs.Prelude.{◌&&◌}
 use Rattle.std.specs.List.{list_all}
 use Rattle.std.proofs.Math.Nat.{one-le-mul, two-pow-succ}
@@ -9,12 +9,12 @@ use Rattle.cnf_base.specs.Formula.{Formula}
 use Rattle.lrat_rules.specs.State.{Live, clause_at, start}
 use Rattle.lrat_rules.specs.Marks.{in_use}
 use Rattle.node_table.specs.Lean.{live_above}
-use Rattle.node_table.specs.declared.error.TableError.TheVariants as table
 use Rattle.schedule_plan.specs.declared.plan.Move.{Move}
 use Rattle.schedule_plan.specs.declared.limits.Limits.{Limits}
 use Rattle.schedule_plan.specs.Plan.{IsAdmissible, Stage, is_pushed, no_stage}
 use Rattle.term_runner.specs.Clauses.{is_tautology, has_empty_clause}
-use Rattle.term_runner.specs.Price.{IsMovePrice, IsPaidFor}
+use Rattle.bdd_terms.specs.Price.{IsMovePrice}
+use Rattle.term_runner.specs.Price.{IsPaidFor}
 use Rattle.term_runner.specs.Proofs.{KeepsWithin}
 
 -- an empty clause is no tautology

@@ -11,7 +11,7 @@ use Rattle.reconstruction.specs.Stack.{Stack, empty_stack}
 use Rattle.schedule_plan.specs.declared.plan.Move.{Move}
 use Rattle.schedule_plan.specs.SetMove.{in_order, move_in_order}
 use Rattle.schedule_plan.specs.Plan.{Stage, after_move, after_moves, no_stage}
-use Rattle.term_runner.specs.declared.held.HeldTerm.{HeldTerm}
+use Rattle.bdd_terms.specs.declared.held.HeldTerm.{HeldTerm}
 use Rattle.term_runner.specs.Held.{AreHeld, IsAt}
 use Rattle.term_runner.proofs.Trails.{trail_first}
 

@@ -1,7 +1,6 @@
 -- What is decided behind calls that gave terms: at once, or by the moves of a plan once what was left is given back.
-use Rattle.std.proofs.Common.{◌≡◌, ◌≢◌, ◌∙◌, ◌⊎◌, ◌<◌, ◌≤◌, ◌==◌, ◌+◌, ◌-◌, ◌*◌, ◌++◌, ℕ, Bool, true, false, ℤ, List, [], ◌∷◌, length, Option}
-use Rattle.std.proofs.Common.{None, Some, Result, Ok, Err, refl, sym, ap, subst, arith, inl, inr, eq-eqb}
-use Rattle.std.specs.FinMap as finmap
+use Rattle.std.proofs.Common.{◌≡◌, ◌≢◌, ◌∙◌, ◌⊎◌, ◌<◌, ◌≤◌, ◌==◌, ◌+◌, ◌-◌, ◌*◌, ◌++◌, ℕ, Bool, true, false, ℤ, List, [], ◌∷◌, length}
+use Rattle.std.proofs.Common.{Option, None, Some, Result, Ok, Err, refl, sym, ap, subst, arith, inl, inr, eq-eqb}
 use Rattle.std.specs.Prelude.{IfErr, IfOk, IsFalse, IsSome, IsTrue, MatchOption, if◌then◌else◌}
 use Rattle.std.specs.List.{list_all}
 use Rattle.std.proofs.Math.Nat.{one-le-mul}
@@ -24,19 +23,22 @@ use Rattle.node_table.specs.Table.{TableState, AddsAtMost, AddsNoEmpty, IsSame, 
 use Rattle.operations.specs.Entries.{Entry}
 use Rattle.schedule_plan.specs.declared.plan.Move.{Move}
 use Rattle.term_runner.specs.Clauses.{first_empty, has_empty_clause, is_tautology}
-use Rattle.term_runner.specs.Held.{IsOver}
+use Rattle.bdd_terms.specs.OverFormula.{IsOver, HasEmpty}
 use Rattle.term_runner.specs.Nodes.{RunsShort}
-use Rattle.term_runner.specs.Opened.{BreaksKind, Decides, HasEmpty, LeavesKind}
-use Rattle.term_runner.specs.Price.{IsLeanAtEnd, IsMovePrice, IsPaid, IsPaidSince}
+use Rattle.term_runner.specs.Opened.{BreaksKind, Decides, LeavesKind}
+use Rattle.term_runner.specs.Price.{IsLeanAtEnd, IsPaid, IsPaidSince}
+use Rattle.bdd_terms.specs.Price.{IsMovePrice}
 use Rattle.term_runner.specs.Recovered.{IsRecovered}
-use Rattle.term_runner.specs.Tidy.{LeavesReached}
+use Rattle.bdd_terms.specs.Tidy.{LeavesReached}
 use Rattle.term_runner.specs.Width.{HasWidth, keeps_trail}
 use Rattle.term_runner.proofs.FirstEmpty.{full_at}
-use Rattle.term_runner.proofs.Listed.{key_at, listed, some_of}
-use Rattle.term_runner.proofs.NoEmpty.{fewer_empty, fewer_left, further_empty, no_change, same_empty}
+use Rattle.bdd_terms.proofs.Listed.{key_at, listed, some_of}
+use Rattle.term_runner.proofs.NoEmpty.{fewer_empty, fewer_left}
+use Rattle.bdd_terms.proofs.NoEmpty.{further_empty, no_change, same_empty}
 use Rattle.term_runner.proofs.AtStart.{Unused, empty_is_open, some_price}
-use Rattle.term_runner.proofs.Opening.{StartClauses}
+use Rattle.bdd_terms.proofs.Opened.{StartClauses}
 use Rattle.term_runner.proofs.Paid.{InUse, Lean, kind_behind, lean_here, none_added, paid_there}
+use Rattle.std.specs.FinMap as finmap
 
 -- without roots no node is left
 pub none_left : (old new : Graph) → LeavesReached old new [] → live_nodes new ≡ 0

@@ -7,7 +7,8 @@ use Rattle.node_table.specs.Progress.{Leaves}
 use Rattle.node_table.specs.Table.{TableState, live_nodes}
 use Rattle.quantify.specs.RunsFor.{Kind}
 use Rattle.term_runner.specs.Nodes.{KeepsOrMakes}
-use Rattle.term_runner.specs.Tidy.{IsByRule, IsTidy, WasDue}
+use Rattle.term_runner.specs.Tidy.{IsByRule, WasDue}
+use Rattle.bdd_terms.specs.Tidy.{IsTidy}
 
 pub due_at_limit : {S : Type 0} (old one : TableState S) (kind : Kind) (left : ℕ)
     (came : TableError) → came ≡ NodeLimit → Leaves old one (Some came) → KeepsOrMakes old.graph one.graph kind

@@ -1,8 +1,7 @@
 -- A live empty clause above the formula's was added by a step; and where no number was given there was no step.
-use Rattle.std.proofs.Common.{◌≡◌, ◌⊎◌, ◌∙◌, ◌<◌, ◌≤◌, ◌==◌, ◌+◌, ℕ, Bool, true, false, cond, ◌&&◌, List, ℤ, [], ◌∷◌, length, Option, None, Some}
-use Rattle.std.proofs.Common.{nat_cmp, is_some, refl, sym, ap, arith, inl, inr}
+use Rattle.std.proofs.Common.{◌≡◌, ◌⊎◌, ◌∙◌, ◌<◌, ◌≤◌, ◌==◌, ◌+◌, ℕ, Bool, true, false, cond, ◌&&◌, List, ℤ, [], ◌∷◌, length, Option, None}
+use Rattle.std.proofs.Common.{Some, nat_cmp, is_some, refl, sym, ap, arith, inl, inr}
 use Rattle.std.specs.Prelude.{if◌then◌else◌, nat_le, nat_lt}
-use Rattle.std.specs.FinMap as finmap
 use Rattle.std.specs.List.{list_any}
 use Rattle.std.specs.Ordering.{eq_by_cmp}
 use Rattle.std.proofs.lemmas.Bool.{and_parts, or_left, or_right}
@@ -17,6 +16,7 @@ use Rattle.lrat_rules.specs.Addition.{fault}
 use Rattle.lrat_rules.specs.Derivation.{IsDerivation, are_added, delete_added, deletes_added, lines_from}
 use Rattle.lrat_rules.specs.Run.{Reached, after_step, judge_step, run, step_adds_empty, step_fault}
 use Rattle.clause_ledger.specs.Book.{after_steps}
+use Rattle.std.specs.FinMap as finmap
 
 same_inside : (x y : List ℤ) → Some x ≡ Some y → x ≡ y
 same_inside x y e = cc

@@ -1,5 +1,5 @@
 -- How a run ends, by what its moves led to and by the flush.
-use Rattle.std.proofs.Common.{◌≡◌, ◌≢◌, ◌≤◌, ◌+◌, ◌++◌, ◌∷◌, ◌⊎◌, [], ℕ, max, Bool, true, false, ℤ, List, length, Option, None, Some, Result, Ok, Err, refl, sym, ap, ◌∙◌}
+use Rattle.std.proofs.Common.{◌≡◌, ◌≢◌, ◌<◌, ◌≤◌, ◌+◌, ◌++◌, ◌∷◌, ◌⊎◌, [], ℕ, max, Bool, true, false, ℤ, List, length, Option, None, Some, Result, Ok, Err, refl, sym, ap, ◌∙◌}
 use Rattle.std.proofs.Common.{subst, arith, inl, inr}
 use Rattle.std.specs.Prelude.{IsTrue, IfOk}
 use Rattle.std.specs.List.{list_all}
@@ -11,20 +11,21 @@ use Rattle.lrat_rules.specs.State.{start}
 use Rattle.lrat_rules.specs.Derivation.{IsCutProof, IsWritten, text_of}
 use Rattle.clause_ledger.specs.Book.{Book, IsBook, IsCutText, IsProofOf, IsTextOf, after_steps}
 use Rattle.node_table.specs.declared.error.TableError.{TableError}
-use Rattle.node_table.specs.declared.error.TableError.TheVariants as table
 use Rattle.schedule_plan.specs.declared.plan.Move.{Move}
-use Rattle.term_runner.specs.declared.error.RunError.{RunError}
-use Rattle.term_runner.specs.declared.error.RunError.TheVariants.{OutOfMemory, WriteFault}
+use Rattle.bdd_terms.specs.declared.error.RunError.{RunError}
+use Rattle.bdd_terms.specs.declared.error.RunError.TheVariants.{OutOfMemory, WriteFault}
 use Rattle.schedule_plan.specs.declared.limits.Limits.{Limits}
 use Rattle.term_runner.specs.declared.outcome.Outcome.{Outcome}
 use Rattle.term_runner.specs.declared.outcome.Outcome.TheVariants.{Unsat, Sat, NodeLimit, IdLimit}
 use Rattle.term_runner.specs.declared.outcome.Run.{Run}
 use Rattle.term_runner.specs.Clauses.{is_tautology}
-use Rattle.term_runner.specs.Price.{AreAmpleFrom, IsDecision, IsMovePrice, IsPaidFor, IsPaidFrom}
+use Rattle.term_runner.specs.Price.{AreAmpleFrom, IsDecision, IsPaidFor, IsPaidFrom}
+use Rattle.bdd_terms.specs.Price.{IsMovePrice}
 use Rattle.term_runner.specs.Proofs.{IsProof, IsProofOfKind, IsProofSoFarOfKind, LeadsTo, UsesVariables}
 use Rattle.term_runner.specs.Width.{HasWidth, HasWidthWith, keeps_trail}
-use Rattle.term_runner.specs.Ends.{Ends, EndsFrom, Says, Shows, ShowsFrom, outcome_of}
+use Rattle.term_runner.specs.Ends.{Ends, EndsFrom, HasLast, Says, Shows, ShowsFrom, outcome_of}
 use Rattle.term_runner.specs.Opened.{EndsWithinFrom, IsBehind, IsFlushed, Leads}
+use Rattle.node_table.specs.declared.error.TableError.TheVariants as table
 
 -- in step the bytes are a proof of what is live
 pub written_of : {S : Type 0} (tells : Bool) (before after : Channel) (clauses : List (List ℤ)) (book : Book S)
@@ -122,7 +123,7 @@ module _ (first : ℕ) (tells : Bool) (before mid after : Channel) (formula : Fo
     pub tautologies : IsTrue (list_all is_tautology formula.clauses) → mid.written ≡ before.written
     pub name : mid.name ≡ before.name
     pub unfailed : mid.faults ≡ before.faults
-    pub small : run.last_id ≤ max (length formula.clauses) limits.max_ids
+    pub small : HasLast formula limits run
 
   stays : (run : Run) → Shown run → after.written ≡ mid.written → after.name ≡ mid.name → after.faults ≡ mid.faults
       → (IsTrue tells → after.flushed ≡ length after.written)
@@ -207,7 +208,10 @@ module _ (first : ℕ) (tells : Bool) (before mid after : Channel) (formula : Fo
       tautologies = leads.tautologies;
       name = leads.name;
       unfailed = leads.unfailed (λ e. cc);
-      small = subst (λ (n : ℕ). n ≤ max (length formula.clauses) limits.max_ids) (sym top) (leads.within (λ e. cc)).numbers;
+      small = record {
+        within = subst (λ (n : ℕ). n ≤ max (length formula.clauses) limits.max_ids) (sym top) (leads.within (λ e. cc)).numbers;
+        spent = λ is. subst (λ (n : ℕ). limits.max_ids < n + 4) (sym top) (leads.spent is);
+      };
     }
 
     -- without an outcome nothing is flushed

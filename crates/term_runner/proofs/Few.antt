@@ -1,80 +1,31 @@
 -- The clauses that were added beside definitions as one list, between two moves: those that the entries of two caches name, and
 -- the stacked units, of which there are no more than clauses of the formula.
-use Rattle.std.proofs.Common.{◌≡◌, ◌∙◌, ℕ, zero, suc, ◌+◌, ◌*◌, ◌<◌, ◌≤◌, Bool, true, false, not, ◌||◌, List, [], ◌∷◌, ◌++◌, length}
-use Rattle.std.proofs.Common.{reverse, take, None, Some, Contains, refl, sym, ap, subst, arith, inl, inr, eq-eqb, ne_eqb}
+use Rattle.std.proofs.Common.{◌≡◌, ◌∙◌, ℕ, suc, ◌+◌, ◌<◌, ◌≤◌, Bool, true, false, not, ◌||◌, List, [], ◌∷◌, ◌++◌, length, reverse, take}
+use Rattle.std.proofs.Common.{None, Some, Contains, refl, sym, ap, subst, arith, inl, inr, eq-eqb, ne_eqb}
 use Rattle.std.specs.Prelude.{nat_eq, nat_lt, nat_le, ◌&&◌, ◌==◌, if◌then◌else◌}
 use Rattle.std.specs.List.{list_any, AllByRecursion, IsDistinct}
 use Rattle.std.proofs.lemmas.Bool.{eqb-true, or_cases, or_left, or_right}
 use Rattle.std.proofs.lemmas.List.{length-append}
-use Rattle.std.proofs.lemmas.List.Elements.{Contains-append_cases, Contains-append_left, Contains-append_right}
+use Rattle.std.proofs.lemmas.List.Elements.{Contains-append_left, Contains-append_right}
 use Rattle.std.proofs.lemmas.Map.Keys.{IsDistinct-cons}
 use Rattle.std.proofs.lemmas.Map.Steps.{length-le_from_distinct_below}
 use Rattle.cnf_base.specs.Formula.{Formula}
 use Rattle.lrat_rules.specs.State.{Live}
-use Rattle.node_table.specs.declared.node.Justification.{Justification}
-use Rattle.node_table.specs.declared.node.Justification.TheVariants.{Trivial, Clause}
 use Rattle.node_table.specs.Diagram.{Graph}
 use Rattle.node_table.specs.Lean.{HasAdded}
 use Rattle.node_table.specs.Table.{TableState}
-use Rattle.operations.specs.Entries.{Entry, IsNamed, just_of}
+use Rattle.operations.specs.Entries.{Entry, IsNamed}
 use Rattle.reconstruction.specs.Stack.{Stack}
 use Rattle.schedule_plan.specs.declared.plan.Move.{Move}
 use Rattle.schedule_plan.specs.declared.plan.Move.TheVariants.{Push, And, Exists, ExistsAll}
 use Rattle.schedule_plan.specs.Plan.{Stage, Term, after_and, after_exists, after_move, after_moves, after_push, input, is_pushed, no_stage}
-use Rattle.term_runner.specs.declared.held.HeldTerm.{HeldTerm}
-use Rattle.term_runner.specs.Held.{AreHeld, HasUnits}
-use Rattle.term_runner.proofs.AllCaches.{AreUnnamed, names_none}
+use Rattle.bdd_terms.specs.declared.held.HeldTerm.{HeldTerm}
+use Rattle.term_runner.specs.Held.{AreHeld}
+use Rattle.bdd_terms.specs.Units.{HasUnits}
 use Rattle.term_runner.proofs.Between.{IsBetween}
 use Rattle.term_runner.proofs.Plans.{first_of_moves, inside, pushed_of, through_set}
 use Rattle.term_runner.proofs.Taking.{and_of, exists_of}
-
--- the clause that a justification names, before others
-abbrev with_number : Justification → List ℕ → List ℕ
-with_number Trivial ids = ids
-with_number (Clause id) ids = id ∷ ids
-
--- the clauses that the justifications of a list name
-module _ {X : Type 0} (just : X → Justification) where
-  abbrev numbers : List X → List ℕ
-  numbers [] = []
-  numbers (x ∷ xs) = with_number (just x) (numbers xs)
-
-  few_with : (own : Justification) (ids : List ℕ) → length (with_number own ids) ≤ length ids + 1
-  few_with Trivial ids = omega arith
-  few_with (Clause id) ids = omega arith
-
-  few_numbers : (xs : List X) → length (numbers xs) ≤ length xs
-  few_numbers [] = omega arith
-  few_numbers (x ∷ xs) = omega (arith, few_with (just x) (numbers xs), few_numbers xs)
-
-  has_own : (own : Justification) (ids : List ℕ) (id : ℕ) → own ≡ Clause id → Contains (with_number own ids) id
-  has_own own ids id is = subst (λ (j : Justification). Contains (with_number j ids) id) (sym is) (zero, omega arith, refl)
-
-  has_other : (own : Justification) (ids : List ℕ) (id : ℕ) → Contains ids id → Contains (with_number own ids) id
-  has_other Trivial ids id there = there
-  has_other (Clause own) ids id (k, small, at) = (suc k, omega (arith, small), at)
-
-  has_number : (xs : List X) (x : X) (id : ℕ) → Contains xs x → just x ≡ Clause id → Contains (numbers xs) id
-  has_number [] x id there is = absurd (omega (arith, there.1))
-  has_number (y ∷ ys) x id (zero, small, at) is = has_own (just y) (numbers ys) id (ap just at ∙ is)
-  has_number (y ∷ ys) x id (suc k, small, at) is = has_other (just y) (numbers ys) id (has_number ys x id (k, omega (arith, small), at) is)
-
--- what the entries of all caches name stands in two lists
-pub named_few : (ands implications rest : List Entry) → AreUnnamed rest → (size : ℕ) → length ands ≤ size → length implications ≤ size
-    → (ids : List ℕ) × (length ids ≤ 2 * size) × ((id : ℕ) → IsNamed (ands ++ (implications ++ rest)) id → Contains ids id)
-named_few ands implications rest none size few_ands few_implications =
-    let one = numbers just_of ands in
-    let two = numbers just_of implications in (
-      one ++ two,
-      omega (arith, length-append one two, few_numbers just_of ands, few_numbers just_of implications, few_ands, few_implications),
-      λ id named. elim (Contains-append_cases ands (implications ++ rest) named.0 named.1) [
-        | inl first ↦ Contains-append_left one two id (has_number just_of ands named.0 id first named.2)
-        | inr later ↦ elim (Contains-append_cases implications rest named.0 later) [
-          | inl second ↦ Contains-append_right one two id (has_number just_of implications named.0 id second named.2)
-          | inr last ↦ absurd (names_none named.0 id (none named.0 last) named.2)
-        ]
-      ],
-    )
+use Rattle.bdd_terms.proofs.NamedClauses.{few_numbers, has_number, numbers}
 
 -- between two moves
 pub has_added : {S : Type 0} (table : TableState S) (entries : List Entry) (stack : List HeldTerm) (number : ℕ) (named : (ids : List ℕ)

@@ -1,8 +1,6 @@
 -- A reclamation that keeps no term of the trail leaves no more nodes than there are parts in hand at the move before it, or behind it.
 use Rattle.std.proofs.Common.{◌≡◌, ◌≤◌, ◌<◌, ◌⊎◌, ◌-◌, ◌++◌, ℕ, Bool, true, false, zero, suc, List, [], ◌∷◌, take, length, Some, Contains}
-use Rattle.std.proofs.Common.{is_some, refl, sym, ap, ◌∙◌}
-use Rattle.std.proofs.Common.{subst, arith, inl, inr}
-use Rattle.std.specs.FinMap as finmap
+use Rattle.std.proofs.Common.{is_some, refl, sym, ap, ◌∙◌, subst, arith, inl, inr}
 use Rattle.std.proofs.lemmas.Bool.{cases_lt}
 use Rattle.std.proofs.lemmas.List.{length-append}
 use Rattle.cnf_base.specs.Formula.{Formula}
@@ -15,11 +13,13 @@ use Rattle.schedule_plan.specs.declared.plan.Move.TheVariants.{Push, And, Exists
 use Rattle.schedule_plan.specs.Plan.{Stage, Term, after_move}
 use Rattle.term_runner.specs.Tidy.{WereLeft}
 use Rattle.term_runner.specs.Nodes.{IsGivenPart}
-use Rattle.term_runner.specs.Width.{HoldsAtMost, IsInHand, IsPartInHand, part_at, term_function}
+use Rattle.term_runner.specs.Width.{HoldsAtMost, IsInHand, IsPartInHand}
+use Rattle.bdd_terms.specs.Parts.{part_at, term_function}
 use Rattle.term_runner.proofs.InHand.{left_part}
-use Rattle.term_runner.proofs.Listed.{differ_at, essential_at, function_at, functions_of, key_at, length-functions, listed, some_of}
+use Rattle.bdd_terms.proofs.Listed.{differ_at, essential_at, function_at, functions_of, key_at, length-functions, listed, some_of}
 use Rattle.term_runner.proofs.SetStages.{after_set, none_quantified}
 use Rattle.term_runner.proofs.Taking.{and_of, exists_of, push_of}
+use Rattle.std.specs.FinMap as finmap
 
 module _ (law : Subfunctions) (canonical : Canonical) (formula : Formula) (order : List ℕ) (ordered : IsOrder order)
     (first last stage : Stage) (in_hand : (term : Term) → Contains stage.stack term → IsInHand false first last term)

@@ -1,6 +1,5 @@
 -- What a formula with an empty clause, or without one, says.
-use Rattle.std.proofs.Common.{◌≡◌, ℕ, zero, suc, ◌<◌, true, false, List, [], ◌∷◌, ℤ, length, slice_index_or, sym, ap, ◌∙◌}
-use Rattle.std.proofs.Common.{arith}
+use Rattle.std.proofs.Common.{◌≡◌, ℕ, zero, suc, ◌<◌, true, false, List, [], ◌∷◌, ℤ, length, slice_index_or, sym, ap, ◌∙◌, arith}
 use Rattle.std.proofs.lemmas.Bool.{or_parts, and_parts}
 use Rattle.cnf_base.specs.Truth.{Assignment, Satisfies, clause_holds}
 use Rattle.cnf_base.specs.ProofText.{is_empty}

@@ -12,23 +12,25 @@ use Rattle.node_table.specs.Refused.{no_nodes_left}
 use Rattle.node_table.specs.Table.{AddsNoEmpty, live_nodes}
 use Rattle.schedule_plan.specs.declared.plan.Move.{Move}
 use Rattle.schedule_plan.specs.Plan.{Stage, after_move}
-use Rattle.term_runner.specs.declared.terms.Terms.{Terms}
-use Rattle.term_runner.specs.Caches.{sizes}
+use Rattle.term_runner.specs.declared.stacked.StackedTerms.{StackedTerms}
+use Rattle.bdd_terms.specs.Caches.{sizes}
 use Rattle.term_runner.specs.Moves.{Moved}
 use Rattle.term_runner.specs.Nodes.{IsGivenPart, KeepsOrMakes}
 use Rattle.term_runner.specs.Price.{AddsFew}
-use Rattle.term_runner.specs.Terms.{HasOwnUnits, IsAtStage, IsOpen}
-use Rattle.term_runner.specs.Tidy.{IsByRule, IsTidy, LeavesReached, WereLeft, held_nodes}
+use Rattle.term_runner.specs.Stacked.{HasOwnUnits, IsAtStage, IsOpen}
+use Rattle.term_runner.specs.Tidy.{IsByRule, WereLeft, held_nodes}
+use Rattle.bdd_terms.specs.Tidy.{IsTidy, LeavesReached}
 use Rattle.term_runner.specs.Width.{keeps_trail}
 use Rattle.term_runner.proofs.Due.{due_behind}
 use Rattle.term_runner.proofs.FewLeft.{few_left, in_hand_behind}
-use Rattle.term_runner.proofs.NoEmpty.{fewer_empty, fewer_left, further_empty, no_true}
+use Rattle.term_runner.proofs.NoEmpty.{fewer_empty, fewer_left, no_true}
+use Rattle.bdd_terms.proofs.NoEmpty.{further_empty}
 use Rattle.term_runner.proofs.Tidied.{made_behind, none_made, were_left}
 use Rattle.term_runner.proofs.Tried.{failed_with, no_memory_limit}
 
 -- Behind a move that left many nodes those that no term reaches are given back.
 module _ {S : Type 0} (canonical : Canonical) (steps : StepByStep S) (formula : Formula) (stage next : Stage) (step : Move)
-    (leads : after_move formula stage step ≡ Some next) (old one mid : Terms S)
+    (leads : after_move formula stage step ≡ Some next) (old one mid : StackedTerms S)
     (own : Moved formula stage next old one (Ok false)) (many : IsTidy (live_nodes one.table.graph) one.left → ⊥)
     (top : mid.table.book.state.top ≡ one.table.book.state.top) (same : sizes mid.caches ≡ sizes one.caches) where
   unrefuted_yet : AddsNoEmpty old.table one.table

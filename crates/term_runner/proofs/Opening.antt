@@ -1,7 +1,7 @@
 -- From an opened ledger to the end of the moves.
-use Rattle.std.proofs.Common.{◌≡◌, ◌≢◌, ℕ, ◌+◌, ◌++◌, ◌∷◌, ◌<◌, ◌≤◌, ◌⊎◌, Bool, false, ℤ, List, [], length, Option, None, Some}
-use Rattle.std.proofs.Common.{Result, Ok, Err, refl, sym, ap, ◌∙◌, subst, arith, inl, inr}
-use Rattle.std.specs.Prelude.{IsTrue, IsFalse, IsSome, IfErr, IfOk, MatchOption, slice_index_or}
+use Rattle.std.proofs.Common.{◌≡◌, ◌≢◌, ℕ, ◌+◌, ◌++◌, ◌∷◌, ◌<◌, ◌≤◌, ◌⊎◌, Bool, false, ℤ, List, [], length, Option, None, Some, Result, Ok}
+use Rattle.std.proofs.Common.{Err, refl, sym, ap, ◌∙◌, subst, arith, inl, inr}
+use Rattle.std.specs.Prelude.{IsTrue, IsFalse, IsSome, IfErr, IfOk, MatchOption}
 use Rattle.std.specs.List.{list_all, list_any}
 use Rattle.std.proofs.lemmas.List.{append-nil, append_assoc}
 use Rattle.cnf_base.specs.declared.step.Step.{Step}
@@ -14,38 +14,36 @@ use Rattle.lrat_rules.specs.State.{State, clause_at, start}
 use Rattle.lrat_rules.specs.Derivation.{IsCutProof, IsDerivation, IsWritten, text_of}
 use Rattle.lrat_rules.specs.Run.{Refutes, step_adds_empty}
 use Rattle.lrat_rules.specs.Marks.{IsWithin, in_use}
-use Rattle.clause_ledger.specs.Book.{AreTold, Book, IsProofOf, addition, after_steps}
+use Rattle.clause_ledger.specs.Book.{AreTold, IsProofOf, addition, after_steps}
 use Rattle.clause_ledger.specs.Told.{after_steps-append, told_in_step, told_steps}
 use Rattle.node_table.specs.declared.error.TableError.{TableError}
 use Rattle.node_table.specs.declared.error.TableError.TheVariants.{NodeLimit, IdLimit, OutOfMemory, WriteFault}
 use Rattle.node_table.specs.Diagram.{Graph, levels}
 use Rattle.node_table.specs.Tied.{IsTied}
-use Rattle.node_table.specs.Table.{TableState, AddsNoEmpty, IsSound, last_variable, live_nodes, opened}
+use Rattle.node_table.specs.Table.{TableState, AddsNoEmpty, last_variable, live_nodes}
 use Rattle.node_table.specs.Progress.{AreStepsUpTo, Continues, BreaksOff, Leaves, error_of, number_limit}
 use Rattle.node_table.specs.Laws.{Canonical}
-use Rattle.cnf_base.specs.Order.{IsOrder}
 use Rattle.operations.specs.Entries.{Entry}
 use Rattle.schedule_plan.specs.declared.plan.Move.{Move}
 use Rattle.schedule_plan.specs.declared.limits.Limits.{Limits}
-use Rattle.term_runner.specs.declared.caches.Caches.{Caches}
+use Rattle.bdd_terms.specs.declared.caches.Caches.{Caches}
+use Rattle.term_runner.specs.declared.outcome.Outcome.TheVariants.{IdLimit as NoNumbers}
 use Rattle.term_runner.specs.Clauses.{first_empty, has_empty_clause, is_tautology, one_line}
 use Rattle.term_runner.specs.Proofs.{IsBrokenOfKind, IsProofOfKind, KeepsWithin}
 use Rattle.term_runner.specs.Recovered.{IsRecovered}
 use Rattle.term_runner.specs.Ends.{Says, ShowsFrom, outcome_of}
-use Rattle.term_runner.specs.Held.{IsOver}
-use Rattle.term_runner.specs.Price.{IsDecision, IsLeanAtEnd, IsMovePrice, IsPaidFrom, IsPaidSince}
+use Rattle.bdd_terms.specs.OverFormula.{IsOver, HasEmpty, IsWithinLimits}
+use Rattle.term_runner.specs.Price.{IsDecision, IsLeanAtEnd, IsPaidFrom, IsPaidSince}
+use Rattle.bdd_terms.specs.Price.{IsMovePrice}
 use Rattle.term_runner.specs.Nodes.{RunsShort}
 use Rattle.term_runner.specs.Width.{HasWidth, keeps_trail}
-use Rattle.term_runner.specs.Opened.{Decides, HasEmpty, IsBehind, IsWithinLimits, Leads, LeavesKind}
+use Rattle.term_runner.specs.Opened.{Decides, IsBehind, Leads, LeavesKind}
 use Rattle.term_runner.proofs.FurtherParts.{is_wider, wider_less, width_beside}
-use Rattle.term_runner.proofs.Leaving.{went_on}
+use Rattle.bdd_terms.proofs.Leaving.{went_on}
 use Rattle.term_runner.proofs.Ending.{by_outcome, torn_of, whole_of, written_of}
-use Rattle.term_runner.proofs.EmptyAdded.{NoneAbove, adds_empty, no_step}
-use Rattle.term_runner.proofs.WithinLimits.{further_steps, last_is}
-
-abbrev pub StartClauses : Type 0
-StartClauses = (clauses : List (List ℤ)) (i : ℕ) → i < length clauses → clause_at (start clauses).live (i + 1)
-    ≡ Some (slice_index_or clauses i [])
+use Rattle.term_runner.proofs.AtStart.{NoneAbove}
+use Rattle.term_runner.proofs.EmptyAdded.{adds_empty, no_step}
+use Rattle.bdd_terms.proofs.WithinLimits.{further_steps, last_is}
 
 -- nothing was written yet
 pub written_at_start : ((clauses : List (List ℤ)) → IsDerivation clauses [] (start clauses)) → (clauses : List (List ℤ)) (bytes : List ℕ)
@@ -55,27 +53,6 @@ written_at_start none clauses bytes fresh = record { steps = []; derived = none 
 pub whole_at_start : (formula : Formula) (kind : State → Type 0) → kind (start formula.clauses) → (bytes : List ℕ)
     → IsWritten formula.clauses bytes (start formula.clauses) → IsProofOfKind formula.clauses kind bytes
 whole_at_start formula kind is bytes written = record { state = start formula.clauses; written = written; within = is }
-
--- a table over the opened ledger is over the formula
-pub over_at : {S : Type 0} → StartClauses → ((order : List ℕ) (clauses : List (List ℤ)) (book : Book S) (max_nodes : ℕ) → IsOrder order
-    → AreClausesOf (length order) clauses → book.state ≡ start clauses → IsTrue book.in_step → IsSound (opened order book max_nodes))
-    → (formula : Formula) (order : List ℕ) (book : Book S) (table : TableState S) (max_nodes : ℕ) → table ≡ opened order book max_nodes
-    → book.state ≡ start formula.clauses → IsTrue book.in_step → IsOrder order → length order ≡ formula.vars
-    → AreClausesOf formula.vars formula.clauses → IsOver formula table []
-over_at {S} there opening formula order book table max_nodes is state in_step is_order vars literals =
-    subst (λ (t : TableState S). IsOver formula t []) (sym is) (record {
-      sound = opening order formula.clauses book max_nodes is_order
-          (subst (λ (v : ℕ). AreClausesOf v formula.clauses) (sym vars) literals) state in_step;
-      fits = record {
-        each = λ entry has. absurd (omega (arith, has.1));
-        own = λ id named. absurd (omega (arith, named.1.1));
-        unretired = λ id named gone. omega (arith, named.1.1);
-        apart = λ one other id has also names named. absurd (omega (arith, has.1));
-      };
-      inputs = λ i small. (λ k. clause_at (state k).live (i + 1)) ∙ there formula.clauses i small;
-      counted = ap (λ (s : State). s.top) state;
-      vars = vars;
-    })
 
 -- a call in step left a state of the kind
 kind_of_whole : {S : Type 0} (old new : TableState S) (kind : State → Type 0) (result : Result (Option (List Bool)) TableError) → result ≢ Err WriteFault
@@ -304,6 +281,12 @@ module _ {S : Type 0} (canonical : Canonical) (unsatisfied : DerivedEmpty) (refu
         unrefuted = unrefuted IdLimit is (λ e. cc);
       })
 
+  spent : IfOk (outcome_of result) (λ outcome. outcome ≡ NoNumbers → limits.max_ids < new.book.state.top + 4)
+  spent = by_outcome (λ outcome. outcome ≡ NoNumbers → limits.max_ids < new.book.state.top + 4) result (λ is e. cc) (λ values is e. cc) (λ is e. cc)
+      (λ is _.
+      let whole = not_torn (Err IdLimit) is (λ e. cc) in
+      omega (arith, at_id_limit is, (grown whole).limit, limited.max_ids))
+
   pub decided_leads : Leads first tells before after formula order moves limits new.book (outcome_of result)
   decided_leads = record {
     in_step = λ whole. (grown (whole_of result whole)).sound.in_step;
@@ -337,6 +320,7 @@ module _ {S : Type 0} (canonical : Canonical) (unsatisfied : DerivedEmpty) (refu
         omega (arith, at_id_limit is, (grown whole).limit, limited.max_ids, last, ample.1));
     says = says;
     shows = shows;
+    spent = spent;
     fault = λ is. behind.rose (torn (torn_of result is)).out_of_step;
     unfailed = λ whole. behind.unfailed (in_step_now (whole_of result whole));
     tautologies = λ all. unwritten (decides.tautologies all);

@@ -1,6 +1,6 @@
 -- What a move leaves, however it ends, keeps within the price of the plan's width.
-use Rattle.std.proofs.Common.{◌≡◌, ◌∙◌, ℕ, ◌+◌, ◌-◌, ◌*◌, ◌≤◌, ◌++◌, ◌∷◌, ℤ, List, [], length, true, false, Option, None, Some, Result, is_some}
-use Rattle.std.proofs.Common.{refl, sym, ap, subst, arith, inl}
+use Rattle.std.proofs.Common.{◌≡◌, ◌∙◌, ℕ, ◌+◌, ◌-◌, ◌*◌, ◌≤◌, ◌++◌, ◌∷◌, ℤ, List, [], length, true, false, Option, None, Some, Result}
+use Rattle.std.proofs.Common.{is_some, refl, sym, ap, subst, arith, inl}
 use Rattle.std.specs.Prelude.{IsErrAnd}
 use Rattle.std.proofs.lemmas.List.{append_assoc}
 use Rattle.cnf_base.specs.declared.step.Step.{Step}
@@ -17,7 +17,7 @@ use Rattle.node_table.specs.Table.{TableState, IsSound, live_nodes}
 use Rattle.node_table.specs.Tied.{IsTied}
 use Rattle.term_runner.specs.Opened.{LeavesKind}
 use Rattle.term_runner.specs.Price.{IsPaid, most_nodes}
-use Rattle.term_runner.proofs.Leaving.{error_handed}
+use Rattle.bdd_terms.proofs.Leaving.{error_handed}
 
 -- what node_table's laws say of live clauses and of extension variables in use
 abbrev pub Lean : Type 0 → Type 0

@@ -1,6 +1,6 @@
 -- A term that a call found stands in the place of its operands, and a move is done; or it wasn't found.
-use Rattle.std.proofs.Common.{◌≡◌, ◌∙◌, ◌++◌, ◌+◌, ◌*◌, ℕ, Bool, true, false, List, [], ◌∷◌, Contains, length, drop, reverse, None}
-use Rattle.std.proofs.Common.{Result, Ok, Err, refl, sym, ap, subst, arith, inl, inr}
+use Rattle.std.proofs.Common.{◌≡◌, ◌∙◌, ◌++◌, ◌+◌, ◌*◌, ℕ, Bool, true, false, List, [], ◌∷◌, Contains, length, drop, reverse, None, Result}
+use Rattle.std.proofs.Common.{Ok, Err, refl, sym, ap, subst, arith, inl, inr}
 use Rattle.std.specs.Prelude.{◌≢◌, IsTrue}
 use Rattle.cnf_base.specs.Formula.{Formula}
 use Rattle.node_table.specs.declared.error.TableError.{TableError}
@@ -17,24 +17,26 @@ use Rattle.node_table.specs.Table.{TableState, AddsAtMost}
 use Rattle.operations.specs.Entries.{Entry, Fits, Fitting}
 use Rattle.reconstruction.specs.Stack.{Stack}
 use Rattle.schedule_plan.specs.Plan.{Stage, Term, term_holds}
-use Rattle.term_runner.specs.declared.caches.Caches.{Caches}
-use Rattle.term_runner.specs.declared.held.HeldTerm.{HeldTerm}
-use Rattle.term_runner.specs.declared.terms.Terms.{Terms}
-use Rattle.term_runner.specs.Caches.{HaveRoom, all_entries}
-use Rattle.term_runner.specs.Finds.{AreFew, Finds, IsOperand}
-use Rattle.term_runner.specs.Held.{AreHeld, HasUnits, IsHeld, IsPlaced, IsUnitOf, MayGiveUp, RetiresUnits, UnitsApart}
+use Rattle.bdd_terms.specs.declared.caches.Caches.{Caches}
+use Rattle.bdd_terms.specs.declared.held.HeldTerm.{HeldTerm}
+use Rattle.term_runner.specs.declared.stacked.StackedTerms.{StackedTerms}
+use Rattle.bdd_terms.specs.Caches.{HaveRoom, all_entries}
+use Rattle.bdd_terms.specs.Finds.{AreFew, Finds, IsOperand}
+use Rattle.term_runner.specs.Held.{AreHeld, IsHeld, IsPlaced, MayGiveUp}
+use Rattle.bdd_terms.specs.Units.{HasUnits, IsUnitOf, RetiresUnits, UnitsApart}
 use Rattle.term_runner.specs.Trail.{IsTrail}
 use Rattle.term_runner.specs.Moves.{Tried}
 use Rattle.term_runner.specs.Nodes.{IsGivenPart, KeepsOrMakes}
-use Rattle.term_runner.specs.Terms.{HasOwnUnits, IsAtStage, IsOpen}
-use Rattle.term_runner.specs.Width.{HoldsAtMost, term_function}
+use Rattle.term_runner.specs.Stacked.{HasOwnUnits, IsAtStage, IsOpen}
+use Rattle.term_runner.specs.Width.{HoldsAtMost}
+use Rattle.bdd_terms.specs.Parts.{term_function}
 use Rattle.term_runner.proofs.Again.{at_still}
 use Rattle.term_runner.proofs.FewLeft.{result_given}
-use Rattle.term_runner.proofs.Leaving.{went_on}
-use Rattle.term_runner.proofs.NoEmpty.{further_empty}
+use Rattle.bdd_terms.proofs.Leaving.{went_on}
+use Rattle.bdd_terms.proofs.NoEmpty.{further_empty}
 use Rattle.term_runner.proofs.Pairs.{few_of_term}
 use Rattle.term_runner.proofs.Planned.{keeps_or_makes}
-use Rattle.term_runner.proofs.Replaced.{first_unit, free_after, later_unit, no_unit, unit_left, units_replaced, which_unit}
+use Rattle.bdd_terms.proofs.Replaced.{first_unit, free_after, later_unit, no_unit, unit_left, units_replaced, which_unit}
 use Rattle.term_runner.proofs.Stacks.{false_refutes, held_kept, ready_after}
 use Rattle.term_runner.proofs.Tried.{failed_with, no_memory_limit}
 
@@ -54,7 +56,7 @@ operand_of formula table entries held term list has there is = record {
 }
 
 module _ {S : Type 0} (growth : Growth) (steps : StepByStep S) (fitting : Fitting S) (formula : Formula) (stage next : Stage)
-    (old : Terms S) (ready : IsOpen formula old) (own : HasOwnUnits old) (at : IsAtStage formula old stage) (term : Term)
+    (old : StackedTerms S) (ready : IsOpen formula old) (own : HasOwnUnits old) (at : IsAtStage formula old stage) (term : Term)
     (terms : List Term) (stack : next.stack ≡ term ∷ terms) (taken rest : List HeldTerm) (items : reverse old.out.items ≡ taken ++ rest)
     (rest_held : AreHeld formula old.table.graph old.table.book.state.live rest terms)
     (few : (width : ℕ) → HoldsAtMost formula old.table.graph.order stage next width → AreFew old.table.graph taken width)
@@ -134,7 +136,7 @@ module _ {S : Type 0} (growth : Growth) (steps : StepByStep S) (fitting : Fittin
         found.steps.extends (found.fits no_error)
 
     -- it is False
-    pub refuted_by : (new : TableState S) → new ≡ mid → (other : Terms S) (trail : Stack) → held.node ≡ False
+    pub refuted_by : (new : TableState S) → new ≡ mid → (other : StackedTerms S) (trail : Stack) → held.node ≡ False
         → Tried formula stage next old (record old { table = new; caches = caches; out = other.out; trail = trail }) (Ok true)
     refuted_by new same other trail is = subst (λ (t : TableState S). Tried formula stage next old
         (record old { table = t; caches = caches; out = other.out; trail = trail }) (Ok true)) (sym same) (record {
@@ -179,7 +181,7 @@ module _ {S : Type 0} (growth : Growth) (steps : StepByStep S) (fitting : Fittin
     }
 
     -- it takes the operands' place
-    module _ (new : TableState S) (other : Terms S) (trail : Stack) (some : held.node ≢ False)
+    module _ (new : TableState S) (other : StackedTerms S) (trail : Stack) (some : held.node ≢ False)
         (listed : reverse other.out.items ≡ held ∷ rest) (retires : RetiresUnits mid new taken held.unit) (more : Steps mid new 0 None)
         (kept : IsTrail formula mid.graph trail next.trail) where
       same_graph : new.graph ≡ mid.graph
@@ -242,7 +244,7 @@ either false P when_true when_false = when_false refl
 
 -- However it is put, a move is done, or the formula refuted.
 module _ {S : Type 0} (growth : Growth) (steps : StepByStep S) (fitting : Fitting S) (formula : Formula) (stage next : Stage)
-    (old : Terms S) (ready : IsOpen formula old) (own : HasOwnUnits old) (at : IsAtStage formula old stage) (term : Term)
+    (old : StackedTerms S) (ready : IsOpen formula old) (own : HasOwnUnits old) (at : IsAtStage formula old stage) (term : Term)
     (terms : List Term) (stack : next.stack ≡ term ∷ terms) (taken rest : List HeldTerm) (items : reverse old.out.items ≡ taken ++ rest)
     (rest_held : AreHeld formula old.table.graph old.table.book.state.live rest terms)
     (few : (width : ℕ) → HoldsAtMost formula old.table.graph.order stage next width → AreFew old.table.graph taken width)
@@ -252,7 +254,7 @@ module _ {S : Type 0} (growth : Growth) (steps : StepByStep S) (fitting : Fittin
     caches (Ok held)) where
   pub put_done : (operands : List HeldTerm) → drop (length operands) (taken ++ rest) ≡ rest
       → ((last : TableState S) → RetiresUnits mid last operands held.unit → RetiresUnits mid last taken held.unit) → (new : TableState S)
-      (other : Terms S) (trail : Stack) → IsTrail formula mid.graph trail next.trail → (refuted : Bool)
+      (other : StackedTerms S) (trail : Stack) → IsTrail formula mid.graph trail next.trail → (refuted : Bool)
       → (IsTrue refuted → (held.node ≡ False) × ((new ≡ mid) × (other.out ≡ old.out)))
       → (refuted ≡ false → IsPlaced operands held mid new old.out.items other.out.items)
       → Tried formula stage next old (record old { table = new; caches = caches; out = other.out; trail = trail }) (Ok refuted)
@@ -267,7 +269,7 @@ module _ {S : Type 0} (growth : Growth) (steps : StepByStep S) (fitting : Fittin
       ∙ ap (λ (l : List HeldTerm). held ∷ l) behind) (same_units new one.retires) one.steps kept)
 
 -- room for one term more changes nothing else
-pub with_room : {S : Type 0} (formula : Formula) (stage next : Stage) (old other new : Terms S) (end : Result Bool TableError)
+pub with_room : {S : Type 0} (formula : Formula) (stage next : Stage) (old other new : StackedTerms S) (end : Result Bool TableError)
     → other.out.items ≡ old.out.items → Tried formula stage next (record old { out = other.out }) new end → Tried formula stage next old new end
 with_room formula stage next old other new end same own = record {
   held = own.held;

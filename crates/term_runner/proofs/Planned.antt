@@ -1,18 +1,14 @@
 -- The nodes that a plan's moves make are of parts of its terms.
-use Rattle.std.proofs.Common.{◌≡◌, ℕ, zero, suc, ◌<◌, Bool, true, ◌&&◌, List, [], ◌∷◌, take, Option, None, Some, is_some}
-use Rattle.std.proofs.Common.{refl, sym, ap, ◌∙◌, arith, inl, inr, eq-eqb, ne_eqb}
-use Rattle.std.specs.Prelude.{◌==◌, if◌then◌else◌}
-use Rattle.std.specs.List.{position_or_len, slice_get}
+use Rattle.std.proofs.Common.{◌≡◌, ℕ, zero, suc, Bool, true, ◌&&◌, List, [], ◌∷◌, take, Option, None, Some, is_some, sym, ap, ◌∙◌, inl, inr}
+use Rattle.std.specs.List.{slice_get}
 use Rattle.std.specs.Option.{option_and_then}
-use Rattle.std.proofs.lemmas.List.Sums.{position_or_len_is}
 use Rattle.cnf_base.specs.Truth.{Assignment}
 use Rattle.cnf_base.specs.Formula.{Formula}
 use Rattle.lrat_rules.specs.State.{Live}
 use Rattle.node_table.specs.declared.node.Node.{Node}
-use Rattle.node_table.specs.declared.node.Node.TheVariants.{False, True, Inner}
 use Rattle.node_table.specs.declared.node.Justification.{Justification}
-use Rattle.node_table.specs.Diagram.{Graph, IsOrder, IsReduced, KeepsNodes, branch_at, is_node, levels, variable_at}
-use Rattle.node_table.specs.Value.{Levels, branch_value, by_level, value_of, value_within}
+use Rattle.node_table.specs.Diagram.{Graph, IsOrder, IsReduced, KeepsNodes, is_node, levels}
+use Rattle.node_table.specs.Value.{Levels, by_level, value_of}
 use Rattle.node_table.specs.Made.{inner}
 use Rattle.quantify.specs.RunsFor.{Kind, MakesOnlyOf}
 use Rattle.node_table.specs.Laws.{Growth}
@@ -20,47 +16,19 @@ use Rattle.schedule_plan.specs.declared.plan.Move.{Move}
 use Rattle.schedule_plan.specs.Plan.{Term, both, Stage, term_holds, after_move, after_moves}
 use Rattle.clause_terms.specs.Term.{IsTerm, by_variable}
 use Rattle.apply_and.specs.Conjunction.{conjunction_of}
-use Rattle.term_runner.specs.Width.{term_function}
+use Rattle.bdd_terms.specs.Parts.{term_function}
 use Rattle.term_runner.specs.Nodes.{KeepsOrMakes}
-use Rattle.term_runner.proofs.Listed.{some_of}
+use Rattle.bdd_terms.proofs.Places.{agree_within, value_there}
 
 -- the nodes look at no other levels than those of the order
 module _ (graph : Graph) (reduced : IsReduced graph) (ordered : IsOrder graph.order) where
-  pub place_of_variable : (level : ℕ) → level < levels graph
-      → position_or_len (λ x. x == variable_at graph level) graph.order ≡ level
-  place_of_variable level small =
-      position_or_len_is (λ x. x == variable_at graph level) graph.order level 0 (omega (arith, small))
-      (λ k before. ne_eqb (variable_at graph k) (variable_at graph level)
-      (λ same. omega (arith, before, ordered.apart k level (omega (arith, before, small)) small same)))
-      (λ _. eq-eqb (variable_at graph level) (variable_at graph level) refl)
-
-  pub value_there : (a : Levels) (level : ℕ) → level < levels graph → by_variable graph.order a (variable_at graph level) ≡ a level
-  value_there a level small = ap a (place_of_variable level small)
-
-  pub agree_within : (steps : ℕ) (a b : Levels) (node : Node) → is_node graph node ≡ true
-      → ((level : ℕ) → level < levels graph → a level ≡ b level) → value_within steps graph a node ≡ value_within steps graph b node
-  agree_within steps a b False is same = refl
-  agree_within steps a b True is same = refl
-  agree_within zero a b (Inner key) is same = refl
-  agree_within (suc steps) a b (Inner key) is same =
-      let branch = some_of (branch_at graph key.index) is in
-      let at = branch.1 in
-      let same_high : value_within steps graph a branch.0.high ≡ value_within steps graph b branch.0.high =
-      agree_within steps a b branch.0.high (reduced.high key.index branch.0 at).stands same in
-      let same_low : value_within steps graph a branch.0.low ≡ value_within steps graph b branch.0.low = agree_within steps a b branch.0.low
-      (reduced.low key.index branch.0 at).stands same in
-      let same_here : a branch.0.level ≡ b branch.0.level = same branch.0.level (reduced.level key.index branch.0 at) in
-      ap (branch_value a (value_within steps graph a)) at
-      ∙ (λ i. if same_here i then same_high i else same_low i)
-      ∙ sym (ap (branch_value b (value_within steps graph b)) at)
-
   -- a node's function by levels, where it is a term's by assignments
   pub node_function : (formula : Formula) (node : Node) (term : Term) → is_node graph node ≡ true
       → ((a : Assignment) → value_of graph (by_level graph.order a) node ≡ term_holds formula a term)
       → (a : Levels) → value_of graph a node ≡ term_function formula graph.order term a
   node_function formula node term stands value a =
-      sym (agree_within (levels graph) (by_level graph.order (by_variable graph.order a)) a node stands
-      (λ level small. value_there a level small)) ∙ value (by_variable graph.order a)
+      sym (agree_within graph reduced ordered (levels graph) (by_level graph.order (by_variable graph.order a)) a node stands
+      (λ level small. (value_there graph reduced ordered) a level small)) ∙ value (by_variable graph.order a)
 
   -- the conjunction of two terms' nodes
   pub both_function : (formula : Formula) (live : Live) (u v : Node) (first second : Justification) (one other : Term)

@@ -13,9 +13,9 @@ use Rattle.schedule_plan.specs.Plan.{Term, input, both, some_value, Stage, IsAdm
 use Rattle.schedule_plan.specs.Plan.{after_all, after_exists, clause_has, clause_of_number, holds_later, is_pushed, no_stage, term_has}
 use Rattle.schedule_plan.specs.Plan.{term_holds}
 use Rattle.term_runner.specs.Recovered.{set_all_back, set_back, stack_holds}
+use Rattle.bdd_terms.proofs.Inputs.{at_each}
 
 -- Truth depends on the variables that are held, and on no other.
-
 -- two assignments agree at the variables that pass a test
 abbrev AgreeAt : (ℕ → Bool) → Assignment → Assignment → Type 0
 AgreeAt test a b = (variable : ℕ) → test variable ≡ true → a variable ≡ b variable
@@ -101,7 +101,6 @@ satisfied_alike vars (clause ∷ more) literals a b agree satisfied =
     ∙ parts.0) (satisfied_alike vars more own.1 a b agree parts.1)
 
 -- What each move needs, and what it gives.
-
 pub inside : (s t : Stage) → Some s ≡ Some t → s ≡ t
 inside s t e = cc
 
@@ -240,7 +239,6 @@ quantified_of formula stage next x (top ∷ rest) is = go possible refl is
     go false can e = cc
 
 -- Backwards: what a satisfying assignment becomes where the quantified variables are set back.
-
 -- the stacked terms are true, and so are the clauses that aren't pushed yet
 record AreTrue (formula : Formula) (a : Assignment) (stack : List Term) (pushed : List ℕ) : Type 0 where
   stacked : stack_holds formula a stack ≡ true
@@ -398,7 +396,6 @@ satisfied_by_recovered formula moves plan a holds =
     one_less i = omega arith
 
 -- Forwards: where all clauses hold, so do the stacked terms.
-
 abbrev pub AllHold : Formula → Assignment → Type 0
 AllHold formula a = (i : ℕ) → 0 < i → i ≤ length formula.clauses → clause_holds a (clause_of_number formula i) ≡ true
 
@@ -443,12 +440,6 @@ true_after_all formula a all [] stage last holds is = subst (λ (s : Stage). sta
 true_after_all formula a all (move ∷ moves) stage last holds is =
     let first = first_of_moves formula stage last move moves is in
     true_after_all formula a all moves first.later last (true_after formula a all stage first.later move holds first.taken) first.rest
-
-pub at_each : (test : List ℤ → Bool) (clauses : List (List ℤ)) → list_all test clauses ≡ true → (i : ℕ) → i < length clauses
-    → test (slice_index_or clauses i []) ≡ true
-at_each test [] all i small = absurd (omega (arith, small))
-at_each test (clause ∷ more) all zero small = (and_parts (test clause) _ all).0
-at_each test (clause ∷ more) all (suc i) small = at_each test more (and_parts (test clause) _ all).1 i (omega (arith, small))
 
 pub all_hold : (formula : Formula) (a : Assignment) → Satisfies a formula.clauses → AllHold formula a
 all_hold formula a satisfied i some small = at_each (clause_holds a) formula.clauses satisfied (i - 1) (omega (arith, some, small))

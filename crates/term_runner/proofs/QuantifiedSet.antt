@@ -1,6 +1,6 @@
 -- A set of variables that is quantified from the last term at once: what was found takes the term's place.
-use Rattle.std.proofs.Common.{◌≡◌, ◌∙◌, ◌++◌, ◌<◌, ℕ, zero, suc, Bool, true, false, List, [], ◌∷◌, Contains, length, map, reverse, Some, Result}
-use Rattle.std.proofs.Common.{Ok, Err, refl, sym, ap, subst, arith, inl}
+use Rattle.std.proofs.Common.{◌≡◌, ◌∙◌, ◌++◌, ◌<◌, ℕ, zero, suc, Bool, true, false, List, [], ◌∷◌, Contains, length, map, reverse, Some}
+use Rattle.std.proofs.Common.{Result, Ok, Err, refl, sym, ap, subst, arith, inl}
 use Rattle.std.specs.Prelude.{◌≢◌, ◌==◌, IsTrue}
 use Rattle.std.proofs.lemmas.List.{length-map, length-reverse}
 use Rattle.cnf_base.specs.Formula.{Formula}
@@ -20,27 +20,30 @@ use Rattle.reconstruction.specs.Entries.{kept_set}
 use Rattle.reconstruction.specs.Stack.{Stack}
 use Rattle.schedule_plan.specs.Plan.{Stage, Term, after_all, term_holds}
 use Rattle.schedule_plan.specs.SetMove.{falling}
-use Rattle.term_runner.specs.declared.caches.Caches.{Caches}
-use Rattle.term_runner.specs.declared.held.HeldTerm.{HeldTerm}
-use Rattle.term_runner.specs.declared.terms.Terms.{Terms}
-use Rattle.term_runner.specs.Caches.{all_entries}
-use Rattle.term_runner.specs.Finds.{AreFew, Finds, IsOperand}
-use Rattle.term_runner.specs.Held.{AreHeld, HasUnits, IsPlaced, MayGiveUp}
+use Rattle.bdd_terms.specs.declared.caches.Caches.{Caches}
+use Rattle.bdd_terms.specs.declared.held.HeldTerm.{HeldTerm}
+use Rattle.term_runner.specs.declared.stacked.StackedTerms.{StackedTerms}
+use Rattle.bdd_terms.specs.Caches.{all_entries}
+use Rattle.bdd_terms.specs.Finds.{AreFew, Finds, IsOperand}
+use Rattle.term_runner.specs.Held.{AreHeld, IsPlaced, MayGiveUp}
+use Rattle.bdd_terms.specs.Units.{HasUnits}
 use Rattle.term_runner.specs.Moves.{Tried}
 use Rattle.term_runner.specs.Nodes.{IsGivenPart}
-use Rattle.term_runner.specs.Sets.{AreSetLevels}
-use Rattle.term_runner.specs.Terms.{HasOwnUnits, IsAtStage, IsOpen}
+use Rattle.bdd_terms.specs.Sets.{AreSetLevels}
+use Rattle.term_runner.specs.Stacked.{HasOwnUnits, IsAtStage, IsOpen}
 use Rattle.term_runner.specs.Trail.{IsTrail}
-use Rattle.term_runner.specs.Width.{HoldsAtMost, term_function}
-use Rattle.term_runner.proofs.NoEmpty.{no_change}
-use Rattle.term_runner.proofs.Pairs.{at_most_same, few_of_term}
+use Rattle.term_runner.specs.Width.{HoldsAtMost}
+use Rattle.bdd_terms.specs.Parts.{term_function}
+use Rattle.bdd_terms.proofs.NoEmpty.{no_change}
+use Rattle.bdd_terms.proofs.Pairs.{at_most_same}
+use Rattle.term_runner.proofs.Pairs.{few_of_term}
 use Rattle.term_runner.proofs.Placed.{gives_up, not_found, not_kept, operand_of, put_done}
 use Rattle.term_runner.proofs.Planned.{node_function}
-use Rattle.term_runner.proofs.SetLevels.{map_reverse}
+use Rattle.bdd_terms.proofs.SetLevels.{map_reverse}
 use Rattle.term_runner.proofs.SetStages.{IsAfterSet, IsStacked, after_set, some_stacked}
 use Rattle.term_runner.proofs.SetTerms.{between, between_is, function_without, part_given, value_without, without, without_is}
 use Rattle.term_runner.proofs.SetTrail.{trail_pushed_set}
-use Rattle.term_runner.proofs.Stacks.{term_kept}
+use Rattle.bdd_terms.proofs.StayingTerms.{term_kept}
 use Rattle.term_runner.proofs.Tidied.{none_made}
 use Rattle.term_runner.proofs.Trails.{trail_grown}
 use Rattle.term_runner.proofs.Tried.{failed_with, no_memory_limit}
@@ -67,7 +70,7 @@ stacked_at formula graph stage next xs set are some leads =
     (in_levels formula graph stage next xs set are leads)
 
 -- an empty set changes nothing
-pub nothing_tried : {S : Type 0} (steps : StepByStep S) (formula : Formula) (stage next : Stage) (old : Terms S) → IsOpen formula old
+pub nothing_tried : {S : Type 0} (steps : StepByStep S) (formula : Formula) (stage next : Stage) (old : StackedTerms S) → IsOpen formula old
     → HasOwnUnits old → IsAtStage formula old stage → (xs set : List ℕ) → AreSetLevels old.table.graph xs set → length set ≡ 0
     → after_all formula stage (falling old.table.graph.order xs) ≡ Some next → Tried formula stage next old old (Ok false)
 nothing_tried steps formula stage next old ready own at xs set are none leads =
@@ -98,7 +101,7 @@ nothing_tried steps formula stage next old ready own at xs set are none leads =
     by_none (level ∷ more) none is = absurd (omega (arith, none))
 
 -- there was no memory to look at it
-pub none_tried : {S : Type 0} (steps : StepByStep S) (formula : Formula) (stage next : Stage) (old : Terms S) → IsOpen formula old
+pub none_tried : {S : Type 0} (steps : StepByStep S) (formula : Formula) (stage next : Stage) (old : StackedTerms S) → IsOpen formula old
     → HasOwnUnits old → (end : Result Bool TableError) → end ≡ Err OutOfMemory → Tried formula stage next old old end
 none_tried steps formula stage next old ready own end is =
     let nothing = steps.none old.table ready.over.sound in
@@ -123,7 +126,7 @@ none_tried steps formula stage next old ready own end is =
     }
 
 module _ {S : Type 0} (growth : Growth) (steps : StepByStep S) (fitting : Fitting S) (formula : Formula) (stage next : Stage)
-    (old : Terms S) (ready : IsOpen formula old) (own : HasOwnUnits old) (at : IsAtStage formula old stage) (xs set : List ℕ)
+    (old : StackedTerms S) (ready : IsOpen formula old) (own : HasOwnUnits old) (at : IsAtStage formula old stage) (xs set : List ℕ)
     (are : AreSetLevels old.table.graph xs set) (some : 0 < length set)
     (leads : after_all formula stage (falling old.table.graph.order xs) ≡ Some next) (u : HeldTerm) (below : List HeldTerm)
     (items : reverse old.out.items ≡ u ∷ below) where
@@ -210,7 +213,7 @@ module _ {S : Type 0} (growth : Growth) (steps : StepByStep S) (fitting : Fittin
           (IsFromPlace (function_of graph u.node) set) gives mid caches one found_one
 
       -- it stands, and the set on the trail
-      pub set_done : (falls : List ℕ) → falls ≡ map (variable_at graph) (reverse set) → (new : TableState S) (other : Terms S) (kept : Stack)
+      pub set_done : (falls : List ℕ) → falls ≡ map (variable_at graph) (reverse set) → (new : TableState S) (other : StackedTerms S) (kept : Stack)
           → kept ≡ record old.trail { recent = old.trail.recent ++ kept_set 0 falls u.node } → (refuted : Bool)
           → (IsTrue refuted → (one.node ≡ False) × ((new ≡ mid) × (other.out ≡ old.out)))
           → (refuted ≡ false → IsPlaced (u ∷ []) one mid new old.out.items other.out.items)

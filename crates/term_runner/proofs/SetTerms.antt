@@ -1,6 +1,6 @@
 -- The terms between those of a set of variables that is quantified at once, and their functions by levels.
-use Rattle.std.proofs.Common.{◌≡◌, ◌∙◌, ◌++◌, ◌+◌, ◌<◌, ◌||◌, ℕ, zero, suc, Bool, true, false, List, [], ◌∷◌, Contains, drop, length}
-use Rattle.std.proofs.Common.{map, reverse, take, refl, sym, ap, arith, inl, inr}
+use Rattle.std.proofs.Common.{◌≡◌, ◌∙◌, ◌++◌, ◌+◌, ◌<◌, ◌||◌, ℕ, zero, suc, Bool, true, false, List, [], ◌∷◌, Contains, drop, length, map}
+use Rattle.std.proofs.Common.{reverse, take, refl, sym, ap, arith, inl, inr}
 use Rattle.std.specs.Prelude.{◌==◌, if◌then◌else◌, slice_index_or}
 use Rattle.std.specs.List.{position_or_len}
 use Rattle.std.proofs.lemmas.List.{length-map, reverse-append}
@@ -11,19 +11,15 @@ use Rattle.node_table.specs.declared.node.Node.{Node}
 use Rattle.node_table.specs.Diagram.{Graph, IsOrder, IsReduced, is_node, levels, variable_at}
 use Rattle.node_table.specs.Value.{IsSubfunction, Levels, by_level, fixed_to, value_of}
 use Rattle.operations.specs.Results.{with_level}
-use Rattle.quantify.specs.SomeValues.{AreRising, IsFromPlace, SetMeaning, function_of, some_values}
+use Rattle.quantify.specs.SomeValues.{AreRising, IsFromPlace, function_of, some_values}
 use Rattle.reconstruction.specs.SetsBack.{holds_by}
 use Rattle.schedule_plan.specs.Plan.{Stage, Term, some_value, term_holds}
 use Rattle.schedule_plan.specs.SetMove.{quantified_by, trail_by}
 use Rattle.term_runner.specs.Nodes.{IsGivenPart}
-use Rattle.term_runner.specs.Width.{term_function}
+use Rattle.bdd_terms.specs.Parts.{term_function}
 use Rattle.term_runner.proofs.FewLeft.{fresh_given, result_given}
-use Rattle.term_runner.proofs.Planned.{agree_within, place_of_variable, value_there}
-use Rattle.term_runner.proofs.Quantified.{set_there}
-
--- where a function holds it does for some values of any variables
-pub implies_by : SetMeaning → (set : List ℕ) (f : Levels → Bool) (a : Levels) → f a ≡ true → some_values set f a ≡ true
-implies_by law set f a holds = law.by set f a (record { values = a; beside = λ i other. refl; holds = holds })
+use Rattle.bdd_terms.proofs.Places.{agree_within, place_of_variable, value_there}
+use Rattle.bdd_terms.proofs.Quantified.{set_there}
 
 -- the term that the last of these variables was quantified from first, and the first one last
 abbrev pub without : List ℕ → Term → Term

@@ -22,8 +22,8 @@ use Rattle.reconstruction.specs.Stack.{AreStored, IsStored, SayTheSame, Stack, S
 use Rattle.schedule_plan.specs.Plan.{Term, term_holds}
 use Rattle.term_runner.specs.Recovered.{set_all_back, set_back}
 use Rattle.term_runner.specs.Trail.{AreCopied, AreKept, AreVariables, IsCopied, IsRecoveredBy, IsTrail}
-use Rattle.term_runner.proofs.OwnUnits.{later}
-use Rattle.term_runner.proofs.Planned.{agree_within}
+use Rattle.bdd_terms.proofs.OwnUnits.{later}
+use Rattle.bdd_terms.proofs.Places.{agree_within}
 use Rattle.term_runner.proofs.Trails.{in_reverse}
 
 -- nodes that aren't stored stand

@@ -7,10 +7,13 @@ use Rattle.operations.specs.Entries.{Entry}
 use Rattle.schedule_plan.specs.declared.plan.Move.{Move}
 use Rattle.schedule_plan.specs.declared.plan.Move.TheVariants.{Push, And, Exists}
 use Rattle.schedule_plan.specs.Plan.{Term, input, both, Stage, after_move, after_and}
-use Rattle.term_runner.specs.declared.held.HeldTerm.{HeldTerm}
-use Rattle.term_runner.specs.Held.{AreHeld, HasUnits, IsHeld}
-use Rattle.term_runner.specs.Width.{HasAtMost, HoldsAtMost, IsInHand, term_function}
-use Rattle.term_runner.proofs.Pairs.{at_most_same, few_of_term}
+use Rattle.bdd_terms.specs.declared.held.HeldTerm.{HeldTerm}
+use Rattle.term_runner.specs.Held.{AreHeld, IsHeld}
+use Rattle.bdd_terms.specs.Units.{HasUnits}
+use Rattle.bdd_terms.specs.Parts.{HasAtMost, term_function}
+use Rattle.term_runner.specs.Width.{HoldsAtMost, IsInHand}
+use Rattle.bdd_terms.proofs.Pairs.{at_most_same}
+use Rattle.term_runner.proofs.Pairs.{few_of_term}
 use Rattle.term_runner.proofs.Planned.{node_function}
 use Rattle.term_runner.proofs.Plans.{IsAfterExists, pushed_of, quantified_of}
 

@@ -14,10 +14,11 @@ use Rattle.node_table.specs.Value.{Levels, value_of}
 use Rattle.quantify.specs.RunsFor.{Kind}
 use Rattle.reconstruction.specs.Stack.{Stack}
 use Rattle.schedule_plan.specs.Plan.{Stage}
-use Rattle.term_runner.specs.declared.held.HeldTerm.{HeldTerm}
+use Rattle.bdd_terms.specs.declared.held.HeldTerm.{HeldTerm}
 use Rattle.term_runner.specs.Held.{IsAt}
 use Rattle.term_runner.specs.Nodes.{KeepsOrMakes}
-use Rattle.term_runner.specs.Tidy.{LeavesReached, WereLeft, held_nodes}
+use Rattle.bdd_terms.specs.Tidy.{LeavesReached}
+use Rattle.term_runner.specs.Tidy.{WereLeft, held_nodes}
 
 pub none_made : (graph : Graph) (kind : Kind) → KeepsOrMakes graph graph kind
 none_made graph kind = record { each = λ key branch at. inl (at, λ a. refl) }

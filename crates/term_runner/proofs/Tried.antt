@@ -1,6 +1,6 @@
 -- A move that was tried: its retired clauses are deleted, and it is taken at once, or once more behind a reclamation.
-use Rattle.std.proofs.Common.{◌≡◌, ◌∙◌, ◌⊎◌, ℕ, ◌+◌, ◌*◌, ◌≤◌, Bool, true, false, List, [], Contains, length, reverse, None, Some}
-use Rattle.std.proofs.Common.{Result, Ok, Err, refl, sym, ap, subst, arith, inl, inr}
+use Rattle.std.proofs.Common.{◌≡◌, ◌∙◌, ◌⊎◌, ℕ, ◌+◌, ◌*◌, ◌≤◌, Bool, true, false, List, [], Contains, length, reverse, None, Some, Result}
+use Rattle.std.proofs.Common.{Ok, Err, refl, sym, ap, subst, arith, inl, inr}
 use Rattle.std.specs.Prelude.{IfOk, OnOk, IsTrue}
 use Rattle.cnf_base.specs.Formula.{Formula}
 use Rattle.lrat_rules.specs.State.{clause_at}
@@ -17,22 +17,25 @@ use Rattle.operations.specs.Budget.{most_additions}
 use Rattle.operations.specs.Entries.{Fitting}
 use Rattle.schedule_plan.specs.declared.plan.Move.{Move}
 use Rattle.schedule_plan.specs.Plan.{Stage, after_move}
-use Rattle.term_runner.specs.declared.terms.Terms.{Terms}
-use Rattle.term_runner.specs.Caches.{HaveRoom, HaveSize, all_entries, sizes}
+use Rattle.term_runner.specs.declared.stacked.StackedTerms.{StackedTerms}
+use Rattle.bdd_terms.specs.Caches.{HaveRoom, HaveSize, all_entries, sizes}
 use Rattle.term_runner.specs.Trail.{IsTrail}
 use Rattle.term_runner.specs.Moves.{Moved, Tried}
 use Rattle.term_runner.specs.Nodes.{IsGivenPart, KeepsOrMakes}
-use Rattle.term_runner.specs.Price.{AddsFew, IsMovePrice}
-use Rattle.term_runner.specs.Terms.{HasOwnUnits, IsAtStage, IsOpen}
-use Rattle.term_runner.specs.Tidy.{LeavesReached, WasDue, WereLeft, held_nodes}
+use Rattle.term_runner.specs.Price.{AddsFew}
+use Rattle.bdd_terms.specs.Price.{IsMovePrice}
+use Rattle.term_runner.specs.Stacked.{HasOwnUnits, IsAtStage, IsOpen}
+use Rattle.bdd_terms.specs.Tidy.{LeavesReached}
+use Rattle.term_runner.specs.Tidy.{WasDue, WereLeft, held_nodes}
 use Rattle.term_runner.specs.Width.{HoldsAtMost, keeps_trail}
 use Rattle.term_runner.proofs.Due.{due_at_limit}
 use Rattle.term_runner.proofs.FewLeft.{few_left}
-use Rattle.term_runner.proofs.Giving.{units_settled}
-use Rattle.term_runner.proofs.NoEmpty.{fewer_empty, fewer_left, further_empty}
-use Rattle.term_runner.proofs.OwnUnits.{held_settled, ready_settled}
+use Rattle.bdd_terms.proofs.Giving.{units_settled}
+use Rattle.term_runner.proofs.NoEmpty.{fewer_empty, fewer_left}
+use Rattle.bdd_terms.proofs.NoEmpty.{further_empty}
+use Rattle.term_runner.proofs.Settled.{held_settled, ready_settled}
 use Rattle.term_runner.proofs.Priced.{tried, tried_few}
-use Rattle.term_runner.proofs.Stacks.{both_ok}
+use Rattle.bdd_terms.proofs.StayingTerms.{both_ok}
 use Rattle.term_runner.proofs.Tidied.{made_behind, ok_whole, were_left}
 
 not_refuted : (refuted : Bool) → refuted ≡ false → IsTrue refuted → ⊥
@@ -48,7 +51,7 @@ torn_limit : (end : Result Bool TableError) → end ≡ Err WriteFault → end �
 torn_limit end is limit = no_nodes_left (same_error (sym limit ∙ is))
 
 -- The clauses that a try retired are deleted. However that ends, nodes and numbers are as they were.
-module _ {S : Type 0} (formula : Formula) (stage next : Stage) (old mid : Terms S) (new : TableState S) (r : Result Bool TableError)
+module _ {S : Type 0} (formula : Formula) (stage next : Stage) (old mid : StackedTerms S) (new : TableState S) (r : Result Bool TableError)
     (own : Tried formula stage next old mid r) (nodes : new.graph ≡ mid.table.graph)
     (top : new.book.state.top ≡ mid.table.book.state.top) where
   nodes_still : KeepsNodes old.table.graph new.graph
@@ -145,7 +148,7 @@ settled_ok (Err error) P from = tt
 
 -- A try from this stage to the next costs no more than half of a move's price, and few nodes.
 module _ {S : Type 0} (growth : Growth) (canonical : Canonical) (formula : Formula) (order : List ℕ) (stage next : Stage) (step : Move)
-    (leads : after_move formula stage step ≡ Some next) (old new : Terms S) (r : Result Bool TableError)
+    (leads : after_move formula stage step ≡ Some next) (old new : StackedTerms S) (r : Result Bool TableError)
     (own : Tried formula stage next old new r) (same : old.table.graph.order ≡ order) where
   made_at : KeepsOrMakes old.table.graph new.table.graph (IsGivenPart formula order stage next)
   made_at = subst (λ (o : List ℕ). KeepsOrMakes old.table.graph new.table.graph (IsGivenPart formula o stage next)) same own.made
@@ -164,7 +167,7 @@ module _ {S : Type 0} (growth : Growth) (canonical : Canonical) (formula : Formu
 
 -- the move is taken at once
 pub moved_at_once : {S : Type 0} → Growth → Canonical → (formula : Formula) (stage next : Stage) (step : Move)
-    → after_move formula stage step ≡ Some next → (old new : Terms S) (r : Result Bool TableError)
+    → after_move formula stage step ≡ Some next → (old new : StackedTerms S) (r : Result Bool TableError)
     → ((r ≡ Ok false) ⊎ (r ≡ Err NodeLimit) → new.table.retired ≡ []) → (r ≡ Err NodeLimit → ⊥)
     → Tried formula stage next old new r → Moved formula stage next old new r
 moved_at_once growth canonical formula stage next step leads old new r none open_yet own = record {
@@ -193,7 +196,7 @@ failed_with r came is P = subst (λ (r : Result Bool TableError). IfOk r P) (sym
 
 -- At the limit of nodes those that no term reaches are given back.
 module _ {S : Type 0} (growth : Growth) (canonical : Canonical) (steps : StepByStep S) (formula : Formula) (stage next : Stage) (step : Move)
-    (leads : after_move formula stage step ≡ Some next) (old one mid : Terms S)
+    (leads : after_move formula stage step ≡ Some next) (old one mid : StackedTerms S)
     (first : Tried formula stage next old one (Err NodeLimit)) (top : mid.table.book.state.top ≡ one.table.book.state.top)
     (same : sizes mid.caches ≡ sizes one.caches) where
   begun : (size width price : ℕ) → HaveSize old.caches size → IsMovePrice (levels old.table.graph) size width price
@@ -243,7 +246,7 @@ module _ {S : Type 0} (growth : Growth) (canonical : Canonical) (steps : StepByS
   module _ (law : Subfunctions) (ordered : IsOrder old.table.graph.order) (so_far : Continues one.table mid.table)
       (at : IsAtStage formula mid stage) (reached : LeavesReached one.table.graph mid.table.graph (held_nodes mid.out.items mid.trail.recent))
       (count : mid.left ≡ live_nodes mid.table.graph)
-      (gone : keeps_trail old.table.max_nodes ≡ false → mid.trail.recent ≡ []) (new : Terms S) (r : Result Bool TableError)
+      (gone : keeps_trail old.table.max_nodes ≡ false → mid.trail.recent ≡ []) (new : StackedTerms S) (r : Result Bool TableError)
       (second : Tried formula stage next mid new r) where
     continues : Continues old.table mid.table
     continues = steps.go_on old.table one.table mid.table first.leaves.0 so_far

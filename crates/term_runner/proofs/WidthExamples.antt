@@ -1,6 +1,6 @@
 -- The width of a small plan, by the definition alone: of a clause of one literal one part is in hand, its own function.
-use Rattle.std.proofs.Common.{◌≡◌, ℕ, zero, suc, ◌<◌, Bool, true, false, ◌||◌, ◌-◌, [], ◌∷◌, length, take, None, Some, Contains, refl, sym, ap}
-use Rattle.std.proofs.Common.{◌∙◌, subst, arith, inl, inr}
+use Rattle.std.proofs.Common.{◌≡◌, ℕ, zero, suc, ◌<◌, Bool, true, false, ◌||◌, ◌-◌, [], ◌∷◌, length, take, None, Some, Contains, refl, sym}
+use Rattle.std.proofs.Common.{ap, ◌∙◌, subst, arith, inl, inr}
 use Rattle.std.specs.Prelude.{if◌then◌else◌}
 use Rattle.std.proofs.lemmas.Bool.{lt-ltb}
 use Rattle.node_table.specs.Value.{Levels, IsSubfunction, fixed_to}
@@ -8,7 +8,8 @@ use Rattle.schedule_plan.specs.declared.plan.Move.{Move}
 use Rattle.schedule_plan.specs.declared.plan.Move.TheVariants.{Push}
 use Rattle.schedule_plan.specs.Plan.{Stage, Term, after_move, conjoin, input, no_stage}
 use Rattle.term_runner.specs.Examples.{one_clause, one_variable}
-use Rattle.term_runner.specs.Width.{HasWidth, IsWider, IsEssential, IsInHand, IsMove, IsPartBehind, IsPartInHand, part_at, term_function}
+use Rattle.term_runner.specs.Width.{HasWidth, IsWider, IsInHand, IsMove, IsPartBehind, IsPartInHand}
+use Rattle.bdd_terms.specs.Parts.{IsEssential, part_at, term_function}
 use Rattle.schedule_plan.specs.SetMove.{in_order}
 
 or_false : (b : Bool) → (b || false) ≡ b

@@ -1,5 +1,5 @@
 -- How a run of a plan ends, over the sink that takes its proof.
-use Rattle.std.specs.Prelude.{◌≡◌, ◌≢◌, ◌⊎◌, ◌≤◌, ◌+◌, ℕ, Bool, List, length, Result, Ok, Err, Option, None, Some, IfOk, IsOk, IsTrue, IsFalse, ⊤}
+use Rattle.std.specs.Prelude.{◌≡◌, ◌≢◌, ◌⊎◌, ◌<◌, ◌≤◌, ◌+◌, ℕ, max, Bool, List, length, Result, Ok, Err, Option, None, Some, IfOk, IsOk, IsTrue, IsFalse, ⊤}
 use Rattle.std.specs.List.{list_all}
 use Rattle.cnf_base.specs.Formula.{Formula}
 use Rattle.host_io.specs.Channel.{Channel, Rose}
@@ -7,9 +7,8 @@ use Rattle.lrat_rules.specs.State.{State}
 use Rattle.schedule_plan.specs.declared.plan.Move.{Move}
 use Rattle.schedule_plan.specs.declared.limits.Limits.{Limits}
 use Rattle.node_table.specs.declared.error.TableError.{TableError}
-use Rattle.node_table.specs.declared.error.TableError.TheVariants as table
-use Rattle.term_runner.specs.declared.error.RunError.{RunError}
-use Rattle.term_runner.specs.declared.error.RunError.TheVariants.{OutOfMemory, WriteFault}
+use Rattle.bdd_terms.specs.declared.error.RunError.{RunError}
+use Rattle.bdd_terms.specs.declared.error.RunError.TheVariants.{OutOfMemory, WriteFault}
 use Rattle.term_runner.specs.declared.outcome.Outcome.{Outcome}
 use Rattle.term_runner.specs.declared.outcome.Outcome.TheVariants.{Unsat, Sat, NodeLimit, IdLimit}
 use Rattle.term_runner.specs.declared.outcome.Run.{Run}
@@ -17,8 +16,10 @@ use Rattle.term_runner.specs.Clauses.{is_tautology}
 use Rattle.term_runner.specs.Proofs.{AreUnsatisfiable, IsProof, IsProofOfKind, IsProofSoFar, IsProofSoFarOfKind, LeadsTo, Refutation}
 use Rattle.term_runner.specs.Proofs.{NodesAreUsed, NumbersAreUsed, NumbersAreUsedFrom, RefutationFrom, UsesVariables}
 use Rattle.term_runner.specs.Recovered.{IsRecovered}
-use Rattle.term_runner.specs.Price.{AreAmple, AreAmpleFrom, IsDecision, IsLeanAtEnd, IsMovePrice, IsPaidFor, IsPaidFrom}
+use Rattle.term_runner.specs.Price.{AreAmple, AreAmpleFrom, IsDecision, IsLeanAtEnd, IsPaidFor, IsPaidFrom}
+use Rattle.bdd_terms.specs.Price.{IsMovePrice}
 use Rattle.term_runner.specs.Width.{HasWidth, HasWidthWith, IsWiderWith, keeps_trail}
+use Rattle.node_table.specs.declared.error.TableError.TheVariants as table
 
 -- What an outcome says of the formula: no assignment satisfies it; these values, which are recovered, do; or the plan
 -- is wider than the nodes that are allowed.
@@ -44,6 +45,12 @@ ShowsFrom first formula limits bytes (Sat values) = (first ≡ length formula.cl
     → IsProofOfKind formula.clauses (IsLeanAtEnd formula.vars (length formula.clauses) limits.cache) bytes
 ShowsFrom first formula limits bytes NodeLimit = NodesAreUsed formula limits.max_nodes bytes
 ShowsFrom first formula limits bytes IdLimit = NumbersAreUsedFrom first formula limits.max_ids bytes
+
+-- The greatest number of a finished run is not above those of the formula and the greatest allowed. At the limit of numbers fewer than four
+-- are left.
+pub record HasLast (formula : Formula) (limits : Limits) (run : Run) : Type 0 where
+  pub within : run.last_id ≤ max (length formula.clauses) limits.max_ids
+  pub spent : run.outcome ≡ IdLimit → limits.max_ids < run.last_id + 4
 
 -- what the moves come to, as an outcome or a failure: a limit is an outcome
 abbrev pub outcome_of : Result (Option (List Bool)) TableError → Result Outcome RunError

@@ -1,4 +1,3 @@
-pub mod Caches
 pub mod Clauses
 pub mod Proofs
 pub mod Recovered
@@ -9,19 +8,9 @@ pub mod Ends
 pub mod Opened
 pub mod Trail
 pub mod Held
-pub mod Terms
 pub mod Moves
-pub mod Finds
-pub mod Proves
 pub mod Tidy
-pub mod Counting
 pub mod Examples
 pub mod Trial
-pub mod Unused
-pub mod Runner
-pub mod Parity
-pub mod Sets
-pub mod Derived
-pub mod Full
-pub mod Takes
 pub mod WholeWidth
+pub mod Stacked

@@ -12,18 +12,19 @@ use Rattle.quantify.specs.RunsFor.{LacksOneOf}
 use Rattle.schedule_plan.specs.declared.plan.Move.{Move}
 use Rattle.schedule_plan.specs.Plan.{Stage, after_move}
 use Rattle.schedule_plan.specs.SetMove.{move_in_order}
-use Rattle.term_runner.specs.declared.terms.Terms.{Terms}
-use Rattle.term_runner.specs.Caches.{HaveRoom, HaveSize, sizes}
+use Rattle.term_runner.specs.declared.stacked.StackedTerms.{StackedTerms}
+use Rattle.bdd_terms.specs.Caches.{HaveRoom, HaveSize, sizes}
 use Rattle.term_runner.specs.Held.{IsUnrefuted}
 use Rattle.term_runner.specs.Nodes.{IsGivenPart, KeepsOrMakes}
-use Rattle.term_runner.specs.Price.{AddsFew, IsMovePrice}
-use Rattle.term_runner.specs.Terms.{HasOwnUnits, IsAtStage, IsOpen}
+use Rattle.term_runner.specs.Price.{AddsFew}
+use Rattle.bdd_terms.specs.Price.{IsMovePrice}
+use Rattle.term_runner.specs.Stacked.{HasOwnUnits, IsAtStage, IsOpen}
 use Rattle.term_runner.specs.Tidy.{IsByRule, WereLeft}
 use Rattle.term_runner.specs.Width.{HoldsAtMost, keeps_trail}
 
 -- Between two moves: no clause waits for its deletion, and the terms are those of a stage, from which the move leads on. The variables
 -- of a set are quantified in the reversed order.
-pub record MayMove {S : Type 0} (formula : Formula) (step : Move) (terms : Terms S) : Type 0 where
+pub record MayMove {S : Type 0} (formula : Formula) (step : Move) (terms : StackedTerms S) : Type 0 where
   pub ready : IsOpen formula terms
   pub settled : terms.table.retired ≡ []
   pub own : HasOwnUnits terms
@@ -36,7 +37,7 @@ pub record MayMove {S : Type 0} (formula : Formula) (step : Move) (terms : Terms
 -- it leaves its operands, unless a write failed, and at the limit of nodes it may be tried again. However it ends, nodes stay,
 -- and the new clauses are those of new nodes and no more beside them than this, or, where the caches have room for all pairs of
 -- parts in hand, than two for each of these.
-pub record Tried {S : Type 0} (formula : Formula) (stage next : Stage) (old new : Terms S) (result : Result Bool TableError) : Type 0 where
+pub record Tried {S : Type 0} (formula : Formula) (stage next : Stage) (old new : StackedTerms S) (result : Result Bool TableError) : Type 0 where
   pub held : IfOk result (λ refuted. refuted ≡ false → IsAtStage formula new next)
   pub refuted : IfOk result (λ refuted. IsTrue refuted → (id : ℕ) × (clause_at new.table.book.state.live id ≡ Some []))
   pub ready : UnlessTorn result (IsOpen formula new)
@@ -58,7 +59,7 @@ pub record Tried {S : Type 0} (formula : Formula) (stage next : Stage) (old new 
 -- A move that was taken from this stage to the next. At the limit of nodes there are but those that the terms reached, and the
 -- move's own. Nothing is given back but at the limit, or where there are many. However it ends, it gave so many numbers at most,
 -- and, where the trail's terms don't stand among the nodes, made so few nodes, by the parts in hand at the move.
-pub record Moved {S : Type 0} (formula : Formula) (stage next : Stage) (old new : Terms S) (result : Result Bool TableError) : Type 0 where
+pub record Moved {S : Type 0} (formula : Formula) (stage next : Stage) (old new : StackedTerms S) (result : Result Bool TableError) : Type 0 where
   pub held : IfOk result (λ refuted. refuted ≡ false → IsAtStage formula new next)
   pub refuted : IfOk result (λ refuted. IsTrue refuted → (id : ℕ) × (clause_at new.table.book.state.live id ≡ Some []))
   pub ready : OnOk result (IsOpen formula new)

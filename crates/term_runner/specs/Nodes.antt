@@ -10,7 +10,8 @@ use Rattle.schedule_plan.specs.declared.plan.Move.{Move}
 use Rattle.schedule_plan.specs.Plan.{Stage, Term}
 use Rattle.schedule_plan.specs.SetMove.{in_order}
 use Rattle.quantify.specs.RunsFor.{Kind}
-use Rattle.term_runner.specs.Width.{IsMove, IsPartBehind, IsPartInHand, term_function}
+use Rattle.term_runner.specs.Width.{IsMove, IsPartBehind, IsPartInHand}
+use Rattle.bdd_terms.specs.Parts.{term_function}
 
 -- At a move each node has the function of a part in hand, and so has a further one, which is that of no node.
 pub record RunsShort (trail : Bool) (formula : Formula) (order : List ℕ) (moves : List Move) (graph : Graph) : Type 0 where

@@ -1,45 +1,34 @@
 -- A run's beginning and its end, over the ledger.
-use Rattle.std.specs.Prelude.{◌≡◌, ◌≢◌, ◌⊎◌, ◌<◌, ◌≤◌, ◌+◌, ◌++◌, ℕ, ℤ, max, Bool, true, false, List, [], ◌∷◌, length, Option, None, Some, Result, Ok, Err}
-use Rattle.std.specs.Prelude.{IfErr, IfOk, IsFalse, IsSome, IsTrue, MatchOption}
+use Rattle.std.specs.Prelude.{◌≡◌, ◌≢◌, ◌⊎◌, ◌≤◌, ◌<◌, ◌+◌, ◌++◌, ℕ, ℤ, Bool, true, false, List, [], ◌∷◌, length, Option, None, Some}
+use Rattle.std.specs.Prelude.{Result, Ok, Err, IfErr, IfOk, IsFalse, IsSome, IsTrue, MatchOption}
 use Rattle.std.specs.List.{list_all}
 use Rattle.cnf_base.specs.declared.step.Step.{Step}
-use Rattle.cnf_base.specs.Truth.{AreClausesOf}
 use Rattle.cnf_base.specs.Formula.{Formula}
 use Rattle.host_io.specs.Channel.{Channel, Rose}
-use Rattle.lrat_rules.specs.Conservative.{are_conservative}
-use Rattle.lrat_rules.specs.State.{State, clause_at, start}
+use Rattle.lrat_rules.specs.State.{State, start}
 use Rattle.lrat_rules.specs.Derivation.{IsCutProof, IsWritten, text_of}
 use Rattle.clause_ledger.specs.Book.{AreTold, Book, IsCutText, IsProofOf, addition, after_steps}
 use Rattle.node_table.specs.declared.error.TableError.{TableError}
-use Rattle.node_table.specs.declared.error.TableError.TheVariants as table
 use Rattle.node_table.specs.Diagram.{levels}
-use Rattle.node_table.specs.Progress.{AreStepsUpTo, Leaves, error_of}
+use Rattle.node_table.specs.Progress.{Leaves, error_of}
 use Rattle.node_table.specs.Table.{AddsNoEmpty, TableState}
 use Rattle.schedule_plan.specs.declared.plan.Move.{Move}
 use Rattle.schedule_plan.specs.declared.limits.Limits.{Limits}
-use Rattle.schedule_plan.specs.Limits.{AreLimits}
 use Rattle.term_runner.specs.declared.outcome.Outcome.{Outcome}
+use Rattle.term_runner.specs.declared.outcome.Outcome.TheVariants.{IdLimit}
 use Rattle.term_runner.specs.declared.outcome.Run.{Run}
-use Rattle.term_runner.specs.declared.error.RunError.{RunError}
-use Rattle.term_runner.specs.declared.error.RunError.TheVariants.{WriteFault}
-use Rattle.term_runner.specs.declared.caches.Caches.{Caches}
-use Rattle.term_runner.specs.Caches.{HaveSize}
+use Rattle.bdd_terms.specs.declared.error.RunError.{RunError}
+use Rattle.bdd_terms.specs.declared.error.RunError.TheVariants.{WriteFault}
 use Rattle.term_runner.specs.Clauses.{first_empty, has_empty_clause, is_tautology}
-use Rattle.term_runner.specs.Ends.{EndsFrom, Says, ShowsFrom}
+use Rattle.term_runner.specs.Ends.{EndsFrom, HasLast, Says, ShowsFrom}
 use Rattle.term_runner.specs.Nodes.{RunsShort}
-use Rattle.term_runner.specs.Price.{AreAmpleFrom, IsDecision, IsLeanAtEnd, IsMovePrice, IsPaidFrom, IsPaidSince}
+use Rattle.term_runner.specs.Price.{AreAmpleFrom, IsDecision, IsLeanAtEnd, IsPaidFrom, IsPaidSince}
+use Rattle.bdd_terms.specs.Price.{IsMovePrice}
 use Rattle.term_runner.specs.Proofs.{IsBroken, IsBrokenOfKind, KeepsWithin, UsesVariables}
 use Rattle.term_runner.specs.Recovered.{IsRecovered}
 use Rattle.term_runner.specs.Width.{HasWidth, HasWidthWith, keeps_trail}
-
--- a ledger as it was opened over a formula: its clauses, over its variables, are live, and no step was told
-pub record IsOpened {S : Type 0} (formula : Formula) (max_ids : ℕ) (book : Book S) : Type 0 where
-  pub literals : AreClausesOf formula.vars formula.clauses
-  pub of_formula : book.formula ≡ formula.clauses
-  pub steps : book.steps ≡ []
-  pub state : book.state ≡ start formula.clauses
-  pub limit : book.limit ≡ max_ids
-  pub in_step : IsTrue book.in_step
+use Rattle.bdd_terms.specs.OverFormula.{HasEmpty}
+use Rattle.node_table.specs.declared.error.TableError.TheVariants as table
 
 -- What stands behind a ledger over these clauses, whose sink had no bytes: the lines of its steps, which prove what is live; out
 -- of step the last one may be cut short.
@@ -82,24 +71,6 @@ LeavesKind old new kind (Some table.IdLimit) = kind new.book.state
 LeavesKind old new kind (Some table.OutOfMemory) = kind new.book.state
 LeavesKind old new kind (Some table.WriteFault) = BreaksKind kind old.book new.book
 
--- The proof so far is of the formula, and within the limits. Its steps are conservative.
-pub record IsWithinLimits {S : Type 0} (formula : Formula) (limits : Limits) (table : TableState S) (caches : Caches) : Type 0 where
-  pub allowed : AreLimits limits
-  pub of_formula : table.book.formula ≡ formula.clauses
-  pub max_ids : table.book.limit ≡ limits.max_ids
-  pub max_nodes : table.max_nodes ≡ limits.max_nodes
-  pub size : HaveSize caches limits.cache
-  pub numbers : table.book.state.top ≤ max (length formula.clauses) limits.max_ids
-  pub variables : AreStepsUpTo (formula.vars + limits.max_nodes) table.book.steps
-  pub leads : after_steps (start formula.clauses) table.book.steps ≡ table.book.state
-  pub conserves : IsTrue (are_conservative formula.vars (start formula.clauses) table.book.steps)
-
--- an empty clause is live that was added
-pub record HasEmpty {S : Type 0} (table : TableState S) : Type 0 where
-  pub id : ℕ
-  pub above : table.inputs < id
-  pub empty : clause_at table.book.state.live id ≡ Some []
-
 -- What was found of a formula: a model, or None where the empty clause was added. Where all clauses are tautologies nothing is done. Where
 -- one is empty it refutes the formula by one line, unless no number is left. However it ends, it keeps within the price of the plan's
 -- width, behind the numbers that were given before; with a model few clauses are left. At the limit of nodes one that is wanted is
@@ -140,14 +111,15 @@ pub record Leads {S : Type 0} (first : ℕ) (tells : Bool) (before after : Chann
       → IsMovePrice formula.vars limits.cache width price → AreAmpleFrom first limits moves width price → IfOk found IsDecision
   pub says : IfOk found (Says formula order moves limits)
   pub shows : IsTrue tells → IfOk found (ShowsFrom first formula limits after.written)
+  pub spent : IfOk found (λ outcome. outcome ≡ IdLimit → limits.max_ids < book.state.top + 4)
   pub fault : found ≡ Err WriteFault → Rose before.faults after.faults
   pub unfailed : found ≢ Err WriteFault → after.faults ≡ before.faults
   pub tautologies : IsTrue (list_all is_tautology formula.clauses) → after.written ≡ before.written
   pub name : after.name ≡ before.name
   pub faults : before.faults ≤ after.faults
 
--- A run behind other calls ends so, and with an outcome its last number is not above those of the formula and the greatest allowed.
+-- A run behind other calls ends so, and with an outcome this holds of its last number.
 pub record EndsWithinFrom (first : ℕ) (tells : Bool) (before after : Channel) (formula : Formula) (order : List ℕ) (moves : List Move)
     (limits : Limits) (result : Result Run RunError) : Type 0 where
   pub ends : EndsFrom first tells before after formula order moves limits result
-  pub last : IfOk result (λ run. run.last_id ≤ max (length formula.clauses) limits.max_ids)
+  pub last : IfOk result (HasLast formula limits)

@@ -2,7 +2,7 @@
 -- most, of four clauses each, two more clauses for each pair of nodes that come together, and a unit; a move is tried twice at
 -- most. Where the caches have room for all pairs of nodes, none comes together twice; else it may at each level. (Bryant, Heule:
 -- Generating Extended Resolution Proofs with a BDD-Based SAT Solver, 2021, section 4.)
-use Rattle.std.specs.Prelude.{◌≡◌, ◌⊎◌, ◌≤◌, ◌+◌, ◌*◌, ◌^◌, ℕ, List, length, ⊤}
+use Rattle.std.specs.Prelude.{◌≡◌, ◌⊎◌, ◌≤◌, ◌+◌, ◌*◌, ℕ, List, length, ⊤}
 use Rattle.cnf_base.specs.Formula.{Formula}
 use Rattle.lrat_rules.specs.State.{State}
 use Rattle.lrat_rules.specs.Marks.{IsWithin}
@@ -11,11 +11,6 @@ use Rattle.schedule_plan.specs.declared.plan.Move.{Move}
 use Rattle.schedule_plan.specs.declared.limits.Limits.{Limits}
 use Rattle.term_runner.specs.declared.outcome.Outcome.{Outcome}
 use Rattle.term_runner.specs.declared.outcome.Outcome.TheVariants.{Unsat, Sat, NodeLimit, IdLimit}
-
--- A move's price, over so many variables and with caches of so many entries: whatever these hold, or where they have room for
--- all pairs of parts.
-abbrev pub IsMovePrice : ℕ → ℕ → ℕ → ℕ → Type 0
-IsMovePrice vars size width price = (price ≡ 8 * (width + 2 ^ vars)) ⊎ ((width * width ≤ size) × (price ≡ 8 * ((width + 1) * (width + 1))))
 
 -- the greatest number of a plan's proof: the formula's own clauses, and the moves', at this price each
 abbrev pub most_ids : Formula → List Move → ℕ → ℕ

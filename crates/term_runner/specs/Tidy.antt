@@ -1,26 +1,22 @@
 -- How many nodes a run keeps: between two moves fewer than a thousand, or fewer than twice those that the last reclamation
 -- left, which its terms reached.
-use Rattle.std.specs.Prelude.{◌≡◌, ◌⊎◌, ◌<◌, ◌≤◌, ◌++◌, ◌*◌, ℕ, Bool, false, List, [], Contains, Some, IsTrue, map}
+use Rattle.std.specs.Prelude.{◌≡◌, ◌⊎◌, ◌≤◌, ◌++◌, ℕ, Bool, false, List, [], Some, map}
 use Rattle.cnf_base.specs.Formula.{Formula}
 use Rattle.lrat_rules.specs.State.{Live}
 use Rattle.node_table.specs.declared.node.Node.{Node}
 use Rattle.node_table.specs.declared.node.Branch.{Branch}
-use Rattle.node_table.specs.Diagram.{Graph, IsReduced, KeepsNodes, branch_at, is_node}
+use Rattle.node_table.specs.Diagram.{Graph, IsReduced, KeepsNodes, branch_at}
 use Rattle.node_table.specs.Made.{inner}
 use Rattle.node_table.specs.Marks.{IsReached}
 use Rattle.node_table.specs.Table.{live_nodes}
-use Rattle.node_table.specs.Value.{Levels, value_of}
 use Rattle.quantify.specs.RunsFor.{Kind}
 use Rattle.reconstruction.specs.declared.entries.Kept.{Kept}
 use Rattle.reconstruction.specs.Stack.{Stack}
 use Rattle.schedule_plan.specs.Plan.{Stage}
-use Rattle.term_runner.specs.declared.held.HeldTerm.{HeldTerm}
+use Rattle.bdd_terms.specs.declared.held.HeldTerm.{HeldTerm}
 use Rattle.term_runner.specs.Held.{IsAt}
 use Rattle.term_runner.specs.Nodes.{KeepsOrMakes}
-
--- so few nodes that none are given back
-abbrev pub IsTidy : ℕ → ℕ → Type 0
-IsTidy live left = (live < 1000) ⊎ (live < 2 * left)
+use Rattle.bdd_terms.specs.Tidy.{IsTidy}
 
 -- the nodes of the stacked terms, and those on the trail that aren't stored
 abbrev pub held_nodes : List HeldTerm → List Kept → List Node
@@ -37,15 +33,6 @@ pub record WasDue (old : Graph) (kind : Kind) (max_nodes left : ℕ) : Type 0 wh
 -- nothing was given back, or it was due
 abbrev pub IsByRule : Graph → Graph → Kind → ℕ → ℕ → ℕ → Type 0
 IsByRule old new kind max_nodes before after = (KeepsNodes old new × (after ≡ before)) ⊎ WasDue old kind max_nodes before
-
--- Only nodes are left that the roots reach, as they were, with their functions.
-pub record LeavesReached (old new : Graph) (roots : List Node) : Type 0 where
-  pub order : new.order ≡ old.order
-  pub reduced : IsReduced new
-  pub nodes : (key : ℕ) (branch : Branch) → branch_at new key ≡ Some branch → branch_at old key ≡ Some branch
-  pub reached : (key : ℕ) (branch : Branch) → branch_at new key ≡ Some branch → IsReached new roots (inner key)
-  pub stand : (root : Node) → Contains roots root → IsTrue (is_node new root)
-  pub value : (a : Levels) (node : Node) → IsTrue (is_node new node) → value_of new a node ≡ value_of old a node
 
 -- So many nodes were left by a reclamation where the run was at this stage: those that its stacked terms reach, and those of the trail,
 -- where its terms may stand among the nodes.

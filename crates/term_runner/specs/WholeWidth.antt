@@ -6,7 +6,8 @@ use Rattle.node_table.specs.Value.{Levels, IsSubfunction}
 use Rattle.schedule_plan.specs.declared.plan.Move.{Move}
 use Rattle.schedule_plan.specs.Plan.{Stage, Term}
 use Rattle.schedule_plan.specs.SetMove.{IsGiven, in_order}
-use Rattle.term_runner.specs.Width.{AreMore, IsMove, term_function}
+use Rattle.bdd_terms.specs.Parts.{AreMore, term_function}
+use Rattle.term_runner.specs.Width.{IsMove}
 
 -- a part of one of these terms
 pub record IsWholePart (formula : Formula) (order : List ℕ) (before after : Stage) (part : Levels → Bool) : Type 0 where

@@ -2,18 +2,14 @@
 -- stand among the nodes. It speaks of terms and assignments alone, and of no diagram. A reduced diagram has a node for each part of its
 -- function that isn't constant. (Bryant: Graph-Based Algorithms for Boolean Function Manipulation, 1986, section 3; Bryant, Heule:
 -- Generating Extended Resolution Proofs with a BDD-Based SAT Solver, 2021, section 5.)
-use Rattle.std.specs.Prelude.{◌≡◌, ◌⊎◌, ◌<◌, ◌++◌, ◌-◌, ◌==◌, ℕ, Bool, true, false, List, length, take, map, nat_lt, Contains, Some, slice_index_or}
+use Rattle.std.specs.Prelude.{◌≡◌, ◌⊎◌, ◌<◌, ◌++◌, ◌-◌, ◌==◌, ℕ, Bool, true, false, List, length, take, map, nat_lt, Contains, Some}
 use Rattle.std.specs.List.{position_or_len, slice_get}
 use Rattle.cnf_base.specs.Formula.{Formula}
 use Rattle.node_table.specs.Value.{Levels, IsSubfunction}
 use Rattle.schedule_plan.specs.declared.plan.Move.{Move}
-use Rattle.schedule_plan.specs.Plan.{Term, Stage, term_holds, after_move, after_moves, no_stage}
+use Rattle.schedule_plan.specs.Plan.{Term, Stage, after_move, after_moves, no_stage}
 use Rattle.schedule_plan.specs.SetMove.{in_order}
-use Rattle.clause_terms.specs.Term.{by_variable}
-
--- a term's function, by levels
-abbrev pub term_function : Formula → List ℕ → Term → Levels → Bool
-term_function formula order term a = term_holds formula (by_variable order a) term
+use Rattle.bdd_terms.specs.Parts.{term_function, AreMore}
 
 -- A move of the plan, the one behind so many others, leads from a stage to the next.
 pub record IsMove (formula : Formula) (moves : List Move) (count : ℕ) (before after : Stage) : Type 0 where
@@ -54,33 +50,9 @@ abbrev pub IsPartInHand : Bool → Formula → List ℕ → Stage → Stage → 
 IsPartInHand trail formula order before after part = IsPartOfTerm trail formula order before after part
     ⊎ IsPartBehind formula order before after part
 
--- it isn't constant: the value of some variable matters
-abbrev pub IsEssential : (Levels → Bool) → Type 0
-IsEssential part = (b : Bool) → ((a : Levels) → part a ≡ b) → ⊥
-
--- two functions differ
-abbrev pub Differ : (Levels → Bool) → (Levels → Bool) → Type 0
-Differ one other = ((a : Levels) → one a ≡ other a) → ⊥
-
--- the function at a place of a list
-abbrev pub part_at : List (Levels → Bool) → ℕ → Levels → Bool
-part_at parts place = slice_index_or parts place (λ a. false)
-
--- More of these parts than this number aren't constant and differ from one another.
-pub record AreMore (is_part : (Levels → Bool) → Type 0) (number : ℕ) : Type 0 where
-  pub parts : List (Levels → Bool)
-  pub more : number < length parts
-  pub are : (place : ℕ) → place < length parts → is_part (part_at parts place)
-  pub essential : (place : ℕ) → place < length parts → IsEssential (part_at parts place)
-  pub differ : (place other : ℕ) → place < other → other < length parts → Differ (part_at parts place) (part_at parts other)
-
 -- more parts are in hand than this number
 abbrev pub HoldsMore : Bool → Formula → List ℕ → Stage → Stage → ℕ → Type 0
 HoldsMore trail formula order before after number = AreMore (IsPartInHand trail formula order before after) number
-
--- a function has no more parts than this number
-abbrev pub HasAtMost : (Levels → Bool) → ℕ → Type 0
-HasAtMost function number = AreMore (IsSubfunction function) number → ⊥
 
 -- at most so many are in hand beside the trail
 abbrev pub HoldsAtMost : Formula → List ℕ → Stage → Stage → ℕ → Type 0

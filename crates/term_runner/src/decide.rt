@@ -13,20 +13,22 @@ ghost use Rattle.node_table.specs.Table.{AddsAtMost, AddsNoEmpty, IsSame, IsSoun
 ghost use Rattle.reconstruction.specs.Stack.{empty_stack};
 ghost use Rattle.schedule_plan.specs.Plan.{IsAdmissible, Term, no_stage};
 ghost use Rattle.schedule_plan.specs.SetMove.{in_order};
-ghost use Rattle.term_runner.specs.Caches.{HaveSize, all_entries};
+ghost use Rattle.bdd_terms.specs.Caches.{HaveSize, all_entries};
 ghost use Rattle.term_runner.specs.Recovered.{IsRecovered};
-ghost use Rattle.term_runner.specs.Price.{IsLeanAtEnd, IsMovePrice, IsPaid};
+ghost use Rattle.term_runner.specs.Price.{IsLeanAtEnd, IsPaid};
+ghost use Rattle.bdd_terms.specs.Price.{IsMovePrice};
 ghost use Rattle.term_runner.specs.Width.{HasWidth, keeps_trail};
 ghost use Rattle.term_runner.specs.Nodes.{RunsShort};
-ghost use Rattle.term_runner.specs.Opened.{Decides, HasEmpty, LeavesKind};
-ghost use Rattle.term_runner.specs.Held.{IsOver, top_node};
-ghost use Rattle.term_runner.specs.Terms.{HasOwnUnits, IsAtStage, IsOpen};
+ghost use Rattle.term_runner.specs.Opened.{Decides, LeavesKind};
+ghost use Rattle.bdd_terms.specs.OverFormula.{HasEmpty, IsOver};
+ghost use Rattle.term_runner.specs.Held.{top_node};
+ghost use Rattle.term_runner.specs.Stacked.{HasOwnUnits, IsAtStage, IsOpen};
 ghost use Rattle.term_runner.specs.Trail.{AreVariables, IsRecoveredBy, IsTrail};
 
-use crate::held::HeldTerm;
 use crate::open::are_tautologies;
-use crate::terms::Terms;
+use crate::stacked::StackedTerms;
 use crate::watch::Watch;
+use bdd_terms::HeldTerm;
 use clause_terms::{Model, Trail, recover};
 use cnf_base::{Cnf, Id, OutOfMemory};
 use host_io::Sink;
@@ -39,7 +41,7 @@ use reconstruction::{Reconstruction, copies_law};
 use schedule_plan::{Plan, set_move_law};
 use std::alloc::Global;
 
-impl<S: Sink + Drop> Terms<S> {
+impl<S: Sink + Drop> StackedTerms<S> {
     /// Decides a formula, behind calls that gave terms of which none is out: a model, or None where the empty clause was added. It was
     /// already where that is said. An empty clause refutes the formula by one line; where all clauses are tautologies no node or
     /// clause is made. Else what is left of those calls goes before the first move. The caches, which are of this capacity, are used

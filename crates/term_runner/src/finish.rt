@@ -4,11 +4,11 @@ ghost use Rattle.cnf_base.specs.Formula.{Formula};
 ghost use Rattle.host_io.specs.Channel.{Channel};
 ghost use Rattle.schedule_plan.specs.declared.plan.Move.{Move};
 ghost use Rattle.schedule_plan.specs.declared.limits.Limits.{Limits};
-ghost use Rattle.term_runner.specs.declared.error.RunError.TheVariants.{WriteFault as Torn};
+ghost use Rattle.bdd_terms.specs.declared.error.RunError.TheVariants.{WriteFault as Torn};
 ghost use Rattle.term_runner.specs.Opened.{EndsWithinFrom, IsFlushed, Leads};
 
-use crate::error::RunError;
 use crate::outcome::{Outcome, Run};
+use bdd_terms::RunError;
 use clause_ledger::Ledger;
 use host_io::Sink;
 

@@ -1,6 +1,6 @@
 // One move of a plan. (Bryant, Heule: Generating Extended Resolution Proofs with a BDD-Based SAT Solver, 2021,
 // section 5.)
-ghost use Rattle.std.specs.Prelude.{◌≡◌, ◌≢◌, ◌↔◌, ◌<◌, ◌≤◌, ◌⊎◌, ◌+◌, ◌^◌, ℕ, List, [], Ok, Err, Some, IsTrue, false, length, map, reverse};
+ghost use Rattle.std.specs.Prelude.{◌≡◌, ◌≢◌, ◌<◌, ◌≤◌, ◌⊎◌, ◌+◌, ◌^◌, ℕ, List, [], Ok, Err, Some, IsTrue, false, length, map, reverse};
 ghost use Rattle.std.specs.Prelude.{vec_capacity, vec_len};
 ghost use Rattle.node_table.specs.declared.error.TableError.TheVariants.{NodeLimit};
 ghost use Rattle.node_table.specs.declared.node.Node.TheVariants.{False};
@@ -12,21 +12,21 @@ ghost use Rattle.schedule_plan.specs.Plan.{Stage, after_all, after_move};
 ghost use Rattle.schedule_plan.specs.SetMove.{falling, move_in_order};
 ghost use Rattle.term_runner.specs.Held.{IsPlaced, MayGiveUp};
 ghost use Rattle.term_runner.specs.Moves.{MayMove, Tried};
-ghost use Rattle.term_runner.specs.Sets.{AreSetLevels};
-ghost use Rattle.term_runner.specs.Terms.{IsAtStage, IsOpen};
+ghost use Rattle.bdd_terms.specs.Sets.{AreSetLevels};
+ghost use Rattle.term_runner.specs.Stacked.{IsAtStage, IsOpen};
 
-use crate::found::{conjunction, input, weaken, weaken_all};
-use crate::held::{HeldTerm, last_term, last_two};
-use crate::sets::{falling_of, levels_of};
-use crate::terms::Terms;
-use crate::unit::{is_same, retire_unit};
+use crate::stacked::{StackedTerms, last_term, last_two};
+use bdd_terms::{
+    HeldTerm, conjunction, falling_of, input, is_node_limit, is_same, levels_of, retire_unit,
+    weaken, weaken_all,
+};
 use cnf_base::Cnf;
 use host_io::Sink;
 use node_table::{Node, Table, TableError, growth_law, steps_law};
 use operations::entry_law;
 use schedule_plan::{Move, Variables};
 
-impl<S: Sink + Drop> Terms<S> {
+impl<S: Sink + Drop> StackedTerms<S> {
     /// Tries a move, and says whether the empty clause was added: then all is done. Else, and where no more nodes are allowed,
     /// the clauses that were retired are deleted.
     pub fn try_move(&mut self, formula: &Cnf, step: &Move) -> Result<bool, TableError>
@@ -186,11 +186,4 @@ fn put<S: Sink + Drop>(
     }
     out.push_reserved(held);
     false
-}
-
-/// Whether no more nodes are allowed.
-pub(crate) fn is_node_limit(error: &TableError) -> bool
-    ensures { IsTrue result ↔ (error.now ≡ NodeLimit) }
-{
-    *error == TableError::NodeLimit
 }

@@ -2,7 +2,7 @@
 ghost use Rattle.std.specs.Prelude.{◌≡◌};
 ghost use Rattle.term_runner.specs.Ends.{outcome_of};
 
-use crate::error::RunError;
+use bdd_terms::RunError;
 use clause_terms::Model;
 use node_table::TableError;
 

@@ -4,22 +4,22 @@
 // many the trail's terms are copied out of the table first, so that it keeps those of the stack alone.
 // (McCarthy: Recursive Functions of Symbolic Expressions, 1960, section 4; Brace, Rudell, Bryant: Efficient Implementation of
 // a BDD Package, DAC 1990, section 3.4.)
-ghost use Rattle.std.specs.Prelude.{◌≡◌, ◌↔◌, ◌⊎◌, ◌≤◌, ◌<◌, ◌+◌, ℕ, List, [], Ok, Err, Some, IsTrue, OnOk, OnErr, IfOk, IfErr, false};
+ghost use Rattle.std.specs.Prelude.{◌≡◌, ◌⊎◌, ◌≤◌, ◌<◌, ◌+◌, ℕ, List, [], Ok, Err, Some, OnOk, OnErr, IfOk, IfErr, false};
 ghost use Rattle.node_table.specs.declared.error.TableError.TheVariants.{OutOfMemory, WriteFault};
 ghost use Rattle.node_table.specs.Progress.{Leaves, error_of};
 ghost use Rattle.node_table.specs.Table.{live_nodes};
 ghost use Rattle.cnf_base.specs.Formula.{Formula};
 ghost use Rattle.schedule_plan.specs.Plan.{Stage, Term, after_move};
 ghost use Rattle.schedule_plan.specs.SetMove.{move_in_order};
-ghost use Rattle.term_runner.specs.Caches.{sizes};
+ghost use Rattle.bdd_terms.specs.Caches.{sizes};
 ghost use Rattle.term_runner.specs.Moves.{MayMove, Moved};
-ghost use Rattle.term_runner.specs.Terms.{HasOwnUnits, IsAtStage, IsOpen};
-ghost use Rattle.term_runner.specs.Tidy.{IsTidy, LeavesReached, held_nodes};
+ghost use Rattle.term_runner.specs.Stacked.{HasOwnUnits, IsAtStage, IsOpen};
+ghost use Rattle.bdd_terms.specs.Tidy.{IsTidy, LeavesReached};
+ghost use Rattle.term_runner.specs.Tidy.{held_nodes};
 ghost use Rattle.term_runner.specs.Trail.{IsTrail};
 
-use crate::held::HeldTerm;
-use crate::moves::is_node_limit;
-use crate::terms::Terms;
+use crate::stacked::StackedTerms;
+use bdd_terms::{HeldTerm, RECLAIM_FROM, is_node_limit, is_tidy, nodes_of};
 use cnf_base::{Cnf, OutOfMemory as NoMemory};
 use host_io::Sink;
 use node_table::{
@@ -30,10 +30,7 @@ use reconstruction::Reconstruction;
 use schedule_plan::Move;
 use std::alloc::Global;
 
-// With fewer nodes than these none are given back.
-const RECLAIM_FROM: u32 = 1000;
-
-impl<S: Sink + Drop> Terms<S> {
+impl<S: Sink + Drop> StackedTerms<S> {
     /// Takes a move, at the limit of nodes after a reclamation, and reclaims behind it where there are many. Says whether the empty
     /// clause was added: then all is done. `left` is how many nodes the last reclamation left.
     pub fn take_move(&mut self, formula: &Cnf, step: &Move) -> Result<bool, TableError>
@@ -151,18 +148,8 @@ pub(crate) fn roots_of(
 ) -> Result<Vec<Node>, NoMemory>
     ensures { IfOk result (λ roots. roots.items ≡ held_nodes stack.now trail.now.recent) }
 {
-    let mut roots: Vec<Node> = Vec::new(alloc);
-    'stack: for held in stack {
-        roots.push(held.node)?;
-    }
+    let mut roots = nodes_of(alloc, stack)?;
     let kept = trail.nodes()?;
     roots.extend_from_slice(kept.as_slice())?;
     Ok(roots)
-}
-
-/// Whether there are so few nodes that none are given back.
-pub(crate) fn is_tidy(live: u32, left: u32) -> bool
-    ensures { IsTrue result ↔ IsTidy live left }
-{
-    live < RECLAIM_FROM || live / 2 < left
 }

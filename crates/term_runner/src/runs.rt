@@ -1,17 +1,17 @@
 // A run of a plan, from the formula to the flushed proof.
-ghost use Rattle.std.specs.Prelude.{◌≡◌, ◌≤◌, [], length, max, IfOk, IsTrue};
+ghost use Rattle.std.specs.Prelude.{◌≡◌, ◌≤◌, [], length, IfOk, IsTrue};
 ghost use Rattle.schedule_plan.specs.Plan.{IsAdmissible};
 ghost use Rattle.schedule_plan.specs.Limits.{AreLimits};
 ghost use Rattle.term_runner.specs.declared.outcome.Outcome.TheVariants.{Unsat};
-ghost use Rattle.term_runner.specs.Ends.{Ends, EndsFrom};
-ghost use Rattle.term_runner.specs.Runner.{IsRunner};
-ghost use Rattle.term_runner.specs.Unused.{IsUnused};
+ghost use Rattle.term_runner.specs.Ends.{Ends, EndsFrom, HasLast};
+ghost use Rattle.bdd_terms.specs.Runner.{IsRunner};
+ghost use Rattle.bdd_terms.specs.Unused.{IsUnused};
 
-use crate::error::RunError;
 use crate::finish::finish;
 use crate::outcome::{Run, outcome_of};
-use crate::runner::{Parts, Runner};
+use crate::stacked::StackedTerms;
 use crate::watch::Watch;
+use bdd_terms::{Handover, Parts, RunError, Runner};
 use cnf_base::Cnf;
 use host_io::Sink;
 use lrat_rules::{derivation_law, marks_law, soundness_law, start_law};
@@ -59,7 +59,7 @@ pub fn run_plan_into<S: Sink + Drop>(
     requires fresh { IsTrue S.tells → (S.channel sink.old).written ≡ [] }
     requires begun { watch.old.moves ≡ 0 }
     ensures ends { Ends S.tells (S.channel sink.old) (S.channel sink.new) formula.now order.now plan.now limits result }
-    ensures last { IfOk result (λ run. run.last_id ≤ max (length formula.now.clauses) limits.max_ids) }
+    ensures last { IfOk result (HasLast formula.now limits) }
     ensures counted { watch.new.moves ≤ length plan.now }
     ensures beside { S.beside sink.new ≡ S.beside sink.old }
 {
@@ -95,7 +95,7 @@ pub fn run<S: Sink + Drop>(
         runner.entry.formula.now runner.entry.terms.table.graph.order plan.now runner.entry.limits result.1 }
     ensures unused { IsUnused runner.entry → Ends S.tells (S.channel runner.entry.terms.table.book.origin) (S.channel result.0)
         runner.entry.formula.now runner.entry.terms.table.graph.order plan.now runner.entry.limits result.1 }
-    ensures last { IfOk result.1 (λ run. run.last_id ≤ max (length runner.entry.formula.now.clauses) runner.entry.limits.max_ids) }
+    ensures last { IfOk result.1 (HasLast runner.entry.formula.now runner.entry.limits) }
     ensures refuted { IsTrue runner.entry.refuted → IfOk result.1 (λ run. run.outcome ≡ Unsat) }
     ensures as_written { IsTrue runner.entry.refuted
         → (S.channel result.0).written ≡ (S.channel runner.entry.terms.table.book.sink).written }
@@ -107,16 +107,13 @@ pub fn run<S: Sink + Drop>(
     soundness_law();
     in_use_law();
     canonical_law();
-    let mut runner = runner;
-    runner.give_up_refusals();
-    let Runner {
+    let Handover {
         formula,
         limits,
-        mut terms,
+        terms,
         refuted,
-        kept: _,
-        refusals: _,
-    } = runner;
+    } = runner.hand_over();
+    let mut terms = StackedTerms::of(terms);
     formula.formula_law();
     terms.table.ledger().book_law();
     watch.begin(formula.len() as u64, limits.max_ids);

@@ -1,17 +1,18 @@
 // A trial of a plan: a run that writes nothing, to see how far a plan comes within some limits.
-ghost use Rattle.std.specs.Prelude.{◌≡◌, ◌≢◌, ◌≤◌, List, Err, IfOk, length, max};
+ghost use Rattle.std.specs.Prelude.{◌≡◌, ◌≢◌, ◌≤◌, ℕ, List, Err, IfOk, length};
 ghost use Rattle.cnf_base.specs.Formula.{Formula};
 ghost use Rattle.schedule_plan.specs.declared.limits.Limits.{Limits as LimitsValue};
 ghost use Rattle.schedule_plan.specs.declared.plan.Move.{Move};
 ghost use Rattle.schedule_plan.specs.Limits.{AreLimits};
 ghost use Rattle.schedule_plan.specs.Plan.{IsAdmissible};
-ghost use Rattle.term_runner.specs.declared.error.RunError.TheVariants.{WriteFault};
-ghost use Rattle.term_runner.specs.Trial.{IsTrial};
+ghost use Rattle.bdd_terms.specs.declared.error.RunError.TheVariants.{WriteFault};
+ghost use Rattle.term_runner.specs.Ends.{HasLast, Says};
+ghost use Rattle.term_runner.specs.Trial.{IsTrial, end_of};
 
-use crate::error::RunError;
 use crate::outcome::{Outcome, Run};
 use crate::runs::run_plan_into;
 use crate::watch::Watch;
+use bdd_terms::RunError;
 use cnf_base::{Cnf, OutOfMemory};
 use host_io::NoSink;
 use schedule_plan::{Limits, Order, Plan};
@@ -51,7 +52,7 @@ pub fn try_plan(
     requires order { length order.now ≡ formula.now.vars }
     requires plan { IsAdmissible formula.now plan.now }
     requires limits { AreLimits limits }
-    ensures { IfOk result (IsTrial formula.now plan.now limits) }
+    ensures { IfOk result (IsTrial formula.now order.now plan.now limits) }
 {
     let mut watch = Watch::of_trial();
     let mut sink = NoSink;
@@ -62,8 +63,9 @@ pub fn try_plan(
 /// What a trial tells, whose run ended so, and which was watched.
 pub fn trial_of(found: Result<Run, RunError>, watch: &Watch<'_>) -> Result<Trial, OutOfMemory>
     requires no_fault { found ≢ Err WriteFault }
-    ensures { (formula : Formula) (moves : List Move) (limits : LimitsValue) → watch.now.moves ≤ length moves
-        → IfOk found (λ run. run.last_id ≤ max (length formula.clauses) limits.max_ids) → IfOk result (IsTrial formula moves limits) }
+    ensures { (formula : Formula) (order : List ℕ) (moves : List Move) (limits : LimitsValue) → watch.now.moves ≤ length moves
+        → IfOk found (λ run. Says formula order moves limits run.outcome) → IfOk found (HasLast formula limits)
+        → IfOk result (IsTrial formula order moves limits) }
 {
     match found {
         Ok(run) => Ok(Trial {
@@ -77,7 +79,9 @@ pub fn trial_of(found: Result<Run, RunError>, watch: &Watch<'_>) -> Result<Trial
     }
 }
 
-fn end_of(outcome: &Outcome) -> TrialEnd {
+fn end_of(outcome: &Outcome) -> TrialEnd
+    ensures { result ≡ end_of outcome.now }
+{
     match outcome {
         Outcome::Unsat | Outcome::Sat(_) => TrialEnd::Decided,
         Outcome::NodeLimit => TrialEnd::NodeLimit,

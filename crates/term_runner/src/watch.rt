@@ -1,7 +1,8 @@
 // What a run tells while it goes on: the moves that are done are counted, and a gauge shows how far it is.
 ghost use Rattle.std.specs.Prelude.{◌≡◌, ◌+◌, ◌<◌, ◌≤◌};
 
-use crate::gauge::{Gauge, Reading};
+use crate::gauge::Gauge;
+use bdd_terms::Reading;
 
 /// The moves that are done, how many of them were done when half of the clause numbers above the formula's were used, and the gauge
 /// that shows how far the run is, if there is one.

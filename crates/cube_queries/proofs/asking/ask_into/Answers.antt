@@ -2,8 +2,8 @@
 use Rattle.std.proofs.Common.{rules, MutBor, ◌≡◌, ◌∙◌, ℕ, List, length, Result, sym, ap, subst}
 use Rattle.std.specs.Prelude.{IsOk}
 use Rattle.host_io.specs.Channel.{Channel}
-use Rattle.term_runner.specs.declared.error.RunError.{RunError}
-use Rattle.term_runner.specs.declared.runner.Runner.{Runner}
+use Rattle.bdd_terms.specs.declared.error.RunError.{RunError}
+use Rattle.bdd_terms.specs.declared.runner.Runner.{Runner}
 use Rattle.cube_text.specs.CubeText.{AreCubes}
 use Rattle.cube_queries.specs.declared.answer.Outcome.{Outcome}
 use Rattle.cube_queries.specs.Ends.{Ends, IsFlushed}

@@ -6,9 +6,9 @@ use Rattle.node_table.specs.declared.node.Node.TheVariants.{False}
 use Rattle.cnf_base.specs.Formula.{Formula}
 use Rattle.node_table.specs.HandedOn.{no_error}
 use Rattle.schedule_plan.specs.Plan.{clause_of_number}
-use Rattle.term_runner.specs.declared.held.HeldTerm.{HeldTerm}
-use Rattle.term_runner.specs.declared.term.Term.{Term}
-use Rattle.term_runner.specs.Runner.{IsListed, holds_in}
+use Rattle.bdd_terms.specs.declared.held.HeldTerm.{HeldTerm}
+use Rattle.bdd_terms.specs.declared.term.Term.{Term}
+use Rattle.bdd_terms.specs.Runner.{IsListed, holds_in}
 use Rattle.cube_queries.specs.Steps.{formula_holds}
 use Rattle.cube_queries.proofs.Alone.{alone_good}
 use Rattle.cube_queries.proofs.Joined.{over_handed}

@@ -3,7 +3,7 @@ use Rattle.std.proofs.Common.{◌≡◌, ◌≢◌, ◌≤◌, [], None, take, f
 use Rattle.node_table.specs.declared.node.Node.TheVariants.{False}
 use Rattle.std.specs.List.{list_all}
 use Rattle.cnf_base.specs.Truth.{Assignment, clause_holds}
-use Rattle.term_runner.specs.Runner.{IsListed, IsRunner, holds_in}
+use Rattle.bdd_terms.specs.Runner.{IsListed, IsRunner, holds_in}
 use Rattle.cube_queries.specs.Steps.{Goes}
 use Rattle.cube_queries.proofs.Totals.{PaidTo}
 use Rattle.cube_queries.proofs.formula_term.term_of_formula.Given as goal

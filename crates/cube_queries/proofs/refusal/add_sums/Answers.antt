@@ -1,5 +1,5 @@
 -- What is left to show of `add_sums`.
-use Rattle.std.proofs.Common.{◌∙◌, ◌+◌, ℕ, Ok, Err, length, ap, sym, subst, arith}
+use Rattle.std.proofs.Common.{◌≡◌, ◌∙◌, ◌+◌, ℕ, Ok, Err, length, ap, sym, subst, arith}
 use Rattle.std.specs.Prelude.{slice_index_or}
 use Rattle.std.proofs.lemmas.List.{length_push}
 use Rattle.node_table.specs.Diagram.{Graph, branch_at}
@@ -82,3 +82,12 @@ returns-clause-sums g c key branch clause at own =
     let less = c.key_end-key-end.ensures key branch (ap (λ t. branch_at t.graph key) c.table.ensures
     ∙ ap (λ (graph : Graph). branch_at graph key) (sym c.keys.invariant.adds.nodes) ∙ at) in
     c.keys.invariant.sums key (omega (arith, less, c.keys-test.false)) branch clause at own
+
+-- without a key nothing was added
+pub returns-clause-none : goal.returns-clause-none
+returns-clause-none g c is =
+    let nodes = c.args.runner.now.terms.table.graph.nodes in
+    let at_first : c.keys.key ≡ 0 = (let long = c.keys.invariant.long in let empty = ap length is in omega (arith, long, empty)) in
+    let none : standing nodes c.keys.key ≡ 0 = ap (standing nodes) at_first in
+    let top = c.keys.invariant.adds.top in
+    omega (arith, top, none)

@@ -13,12 +13,12 @@ use Rattle.node_table.specs.HandedOn.{no_answer, no_error}
 use Rattle.node_table.specs.Table.{IsSound, live_nodes}
 use Rattle.cube_models.specs.Denied.{AreSums}
 use Rattle.cube_models.specs.Finder.{FindsNone}
-use Rattle.term_runner.specs.declared.held.HeldTerm.{HeldTerm}
-use Rattle.term_runner.specs.Runner.{IsGood, IsListed, IsRunner, holds_in}
+use Rattle.bdd_terms.specs.declared.held.HeldTerm.{HeldTerm}
+use Rattle.bdd_terms.specs.Runner.{IsGood, IsListed, IsRunner, holds_in}
 use Rattle.cube_queries.specs.declared.answer.Answer.TheVariants.{Unsat}
 use Rattle.cube_queries.specs.Steps.{formula_holds}
 use Rattle.cube_queries.specs.Sums.{Adds}
-use Rattle.cube_queries.proofs.Added.{adds_as, adds_failed, adds_further, adds_handed, adds_refused, costs_added, replies_added}
+use Rattle.cube_queries.proofs.Added.{adds_as, adds_failed, adds_further, adds_handed, adds_refused, once_behind, once_failed, replies_added}
 use Rattle.cube_queries.proofs.Added.{stays_added, sums_kept}
 use Rattle.cube_queries.proofs.Alone.{alone_good}
 use Rattle.cube_queries.proofs.Refusing.{proved_good, some_literal, unit_at, unit_there}
@@ -42,61 +42,6 @@ returns-in_err-ready-clause-replies g c =
     (adds_handed c.args.runner.now c.ready.new.runner n (n + 1) (omega arith) came c.in_err-ready.ensures.adds _ c.from_residual.ensures.1)
     (no_answer _ came _ c.from_residual.ensures.1)
 
-pub returns-in_err-ready-clause-costs : goal.returns-in_err-ready-clause-costs
-returns-in_err-ready-clause-costs g c =
-    let came = c.in_err-ready.field-0.0 in
-    let n = live_nodes c.args.runner.now.terms.table.graph in
-    costs_added c.steps_law.ensures c.counting_law.ensures c.args.runner.now c.requires.runner c.requires.reached c.ready.new.runner
-    c.args.term.now.held c.args.cube.now c.requires.alone c.requires.value _
-    (adds_handed c.args.runner.now c.ready.new.runner n (n + 1) (omega arith) came c.in_err-ready.ensures.adds _ c.from_residual.ensures.1)
-
-pub unreachable-requires : goal.unreachable-requires
-unreachable-requires g c =
-    let mid = (goal.at.unreachable-requires g c).In_ok-ready in
-    unit_there c.ready.new.runner (still g mid) c.args.term.now.held (good g mid) c.args.finder.now.dead.items c.requires.found.shut
-    c.in_default.ensures
-
-pub hints-requires-clause-sound : goal.hints-requires-clause-sound
-hints-requires-clause-sound g c =
-    let mid = (goal.at.hints-requires-clause-sound g c).In_ok-ready in
-    subst IsSound (sym c.table.ensures) (still g mid).over.sound
-
-pub hints-requires-clause-none : goal.hints-requires-clause-none
-hints-requires-clause-none g c =
-    let held = c.args.term.now.held in
-    let cube = c.args.cube.now in
-    let finder = c.args.finder.now in
-    subst (λ t. FindsNone t.graph c.node.result cube finder) (sym c.table.ensures)
-    (subst (λ (n : Node). FindsNone c.ready.new.runner.terms.table.graph n cube finder) (sym c.node.ensures)
-    (subst (λ (graph : Graph). FindsNone graph held.node cube finder) (sym c.in_ok-ready.ensures.adds.nodes) c.requires.found))
-
-pub hints-requires-clause-node : goal.hints-requires-clause-node
-hints-requires-clause-node g c =
-    let mid = (goal.at.hints-requires-clause-node g c).In_ok-ready in
-    subst (λ t. is_node t.graph c.node.result ≡ true) (sym c.table.ensures)
-    (subst (λ (n : Node). is_node c.ready.new.runner.terms.table.graph n ≡ true) (sym c.node.ensures)
-    (proved_good c.ready.new.runner (still g mid) c.args.term.now.held (good g mid)).stands)
-
-pub hints-requires-clause-variables : goal.hints-requires-clause-variables
-hints-requires-clause-variables g c =
-    subst (λ t. list_all (is_literal_of (length t.graph.order)) c.args.cube.now ≡ true) (sym c.table.ensures)
-    (subst (λ (graph : Graph). list_all (is_literal_of (length graph.order)) c.args.cube.now ≡ true)
-    (sym c.in_ok-ready.ensures.adds.nodes) c.requires.variables)
-
-pub hints-requires-clause-sums : goal.hints-requires-clause-sums
-hints-requires-clause-sums g c =
-    subst (λ (list : List ℕ). AreSums c.table.result.now.graph c.table.result.now.book.state.live list) (sym c.as_slice.ensures.value)
-    (subst (λ t. AreSums t.graph t.book.state.live c.ready.new.sums.items) (sym c.table.ensures) c.in_ok-ready.ensures.sums)
-
-pub hints-requires-clause-unit : goal.hints-requires-clause-unit
-hints-requires-clause-unit g c =
-    let mid = (goal.at.hints-requires-clause-unit g c).In_ok-ready in
-    let id = c.in-Some.unit in
-    subst (λ t. clause_at t.book.state.live id ≡ clause_from_atoms (atom_of t.graph c.node.result ∷ [])) (sym c.table.ensures)
-    (subst (λ (n : Node). clause_at c.ready.new.runner.terms.table.book.state.live id
-    ≡ clause_from_atoms (atom_of c.ready.new.runner.terms.table.graph n ∷ [])) (sym c.node.ensures)
-    (unit_at c.ready.new.runner (still g mid) c.args.term.now.held (good g mid) id c.in-Some.ensures))
-
 pub returns-in_err-hints-clause-replies : goal.returns-in_err-hints-clause-replies
 returns-in_err-hints-clause-replies g c =
     let n = live_nodes c.args.runner.now.terms.table.graph in
@@ -104,50 +49,6 @@ returns-in_err-hints-clause-replies g c =
     (adds_failed c.args.runner.now c.ready.new.runner n (n + 1) (omega arith) _ c.in_ok-ready.ensures.adds _
     c.from_residual-in_err-hints.ensures.1)
     (no_answer _ _ _ c.from_residual-in_err-hints.ensures.1)
-
-pub returns-in_err-hints-clause-costs : goal.returns-in_err-hints-clause-costs
-returns-in_err-hints-clause-costs g c =
-    let n = live_nodes c.args.runner.now.terms.table.graph in
-    costs_added c.steps_law.ensures c.counting_law.ensures c.args.runner.now c.requires.runner c.requires.reached c.ready.new.runner
-    c.args.term.now.held c.args.cube.now c.requires.alone c.requires.value _
-    (adds_failed c.args.runner.now c.ready.new.runner n (n + 1) (omega arith) _ c.in_ok-ready.ensures.adds _
-    c.from_residual-in_err-hints.ensures.1)
-
-pub refuse-requires-clause-runner : goal.refuse-requires-clause-runner
-refuse-requires-clause-runner g c = still g (goal.at.refuse-requires-clause-runner g c).In_ok-ready
-
-pub refuse-requires-clause-good : goal.refuse-requires-clause-good
-refuse-requires-clause-good g c = good g (goal.at.refuse-requires-clause-good g c).In_ok-ready
-
-pub refuse-requires-clause-variables : goal.refuse-requires-clause-variables
-refuse-requires-clause-variables g c =
-    subst (λ (graph : Graph). list_all (is_literal_of (length graph.order)) c.args.cube.now ≡ true)
-    (sym c.in_ok-ready.ensures.adds.nodes) c.requires.variables
-
--- no assignment makes the term true and the cube
-none_yet : (g : Over) (c : In_ok-ready g) → (a : Assignment) → holds_in c.ready.new.runner c.args.term.now.held a ≡ true
-    → cube_holds a c.args.cube.now ≡ true → ⊥
-none_yet g c a holds =
-    let held = c.args.term.now.held in
-    let stays = stays_added c.args.runner.now c.ready.new.runner _ _ c.in_ok-ready.ensures.adds in
-    c.requires.none a
-    (sym (c.requires.value a) ∙ sym (stays.keeps.values held (alone_good c.args.runner.now held c.requires.alone) a) ∙ holds)
-
-pub refuse-requires-clause-none : goal.refuse-requires-clause-none
-refuse-requires-clause-none g c = none_yet g (goal.at.refuse-requires-clause-none g c).In_ok-ready
-
-pub refuse-requires-clause-strict : goal.refuse-requires-clause-strict
-refuse-requires-clause-strict g c =
-    subst (λ (list : List ℕ). RefutesStrictly c.ready.new.runner.terms.table.book.state.live (forbidding c.args.cube.now) list)
-    (sym c.as_slice-2.ensures.value)
-    (subst (λ t. RefutesStrictly t.book.state.live (forbidding c.args.cube.now) c.in_ok-hints.hints.items) c.table.ensures
-    c.in_ok-hints.ensures.strict)
-
-pub refuse-requires-clause-some : goal.refuse-requires-clause-some
-refuse-requires-clause-some g c =
-    let mid = (goal.at.refuse-requires-clause-some g c).In_ok-ready in
-    some_literal c.ready.new.runner (still g mid) c.args.term.now.held (good g mid) c.canonical_law.ensures c.counting_law.ensures
-    c.args.cube.now (none_yet g mid)
 
 pub returns-in_err-refuse-clause-replies : goal.returns-in_err-refuse-clause-replies
 returns-in_err-refuse-clause-replies g c =
@@ -161,19 +62,6 @@ returns-in_err-refuse-clause-replies g c =
     replies_added c.args.runner.now c.refuse.new.self (n + 1) c.args.cube.now _
     (adds_handed c.args.runner.now c.refuse.new.self (n + 1) (n + 1) (omega arith) came all _ c.from_residual-in_err-refuse.ensures.1)
     (no_answer _ came _ c.from_residual-in_err-refuse.ensures.1)
-
-pub returns-in_err-refuse-clause-costs : goal.returns-in_err-refuse-clause-costs
-returns-in_err-refuse-clause-costs g c =
-    let n = live_nodes c.args.runner.now.terms.table.graph in
-    let came = c.in_err-refuse.field-0.0 in
-    let own = c.in_err-refuse.ensures in
-    let all : Adds {T = _} (n + 1) c.args.runner.now c.refuse.new.self (Err came) =
-    adds_further c.steps_law.ensures c.args.runner.now c.ready.new.runner c.refuse.new.self n 1 (n + 1) (omega arith) _
-    c.in_ok-ready.ensures.adds (Err came)
-    (adds_refused c.ready.new.runner c.refuse.new.self c.args.term.now.held c.args.cube.now (Err came) own.refuses) in
-    costs_added c.steps_law.ensures c.counting_law.ensures c.args.runner.now c.requires.runner c.requires.reached c.refuse.new.self
-    c.args.term.now.held c.args.cube.now c.requires.alone c.requires.value _
-    (adds_handed c.args.runner.now c.refuse.new.self (n + 1) (n + 1) (omega arith) came all _ c.from_residual-in_err-refuse.ensures.1)
 
 pub returns-in_err-refuse-clause-nodes : goal.returns-in_err-refuse-clause-nodes
 returns-in_err-refuse-clause-nodes g c = c.in_err-refuse.ensures.refuses.goes_on.nodes ∙ c.in_ok-ready.ensures.adds.nodes
@@ -192,17 +80,6 @@ returns-clause-replies g c =
       λ is. (own.refuses.forbids.added, (own.refuses.forbids.id, own.refuses.forbids.stands)),
     )
 
-pub returns-clause-costs : goal.returns-clause-costs
-returns-clause-costs g c =
-    let n = live_nodes c.args.runner.now.terms.table.graph in
-    let own = c.in_ok-refuse.ensures in
-    costs_added c.steps_law.ensures c.counting_law.ensures c.args.runner.now c.requires.runner c.requires.reached c.refuse.new.self
-    c.args.term.now.held c.args.cube.now c.requires.alone c.requires.value (Ok Unsat)
-    (adds_further c.steps_law.ensures c.args.runner.now c.ready.new.runner c.refuse.new.self n 1 (n + 1) (omega arith) _
-    c.in_ok-ready.ensures.adds (Ok Unsat)
-    (adds_as c.ready.new.runner c.refuse.new.self 1 1 (omega arith) c.in_ok-refuse.field-0 Unsat
-    (adds_refused c.ready.new.runner c.refuse.new.self c.args.term.now.held c.args.cube.now (Ok c.in_ok-refuse.field-0) own.refuses)))
-
 pub returns-clause-nodes : goal.returns-clause-nodes
 returns-clause-nodes g c = c.in_ok-refuse.ensures.refuses.goes_on.nodes ∙ c.in_ok-ready.ensures.adds.nodes
 
@@ -210,3 +87,68 @@ pub returns-clause-sums : goal.returns-clause-sums
 returns-clause-sums g c =
     sums_kept c.ready.new.runner c.refuse.new.self c.in_ok-refuse.ensures.refuses.goes_on.nodes c.in_ok-refuse.ensures.refuses.goes_on.keeps
     c.ready.new.sums.items c.in_ok-ready.ensures.sums
+
+-- the sums are added once
+pub returns-in_err-ready-clause-once : goal.returns-in_err-ready-clause-once
+returns-in_err-ready-clause-once g c =
+    let own = c.in_err-ready.ensures in
+    once_failed c.args.sums.now.items c.ready.new.sums.items c.args.runner.now c.ready.new.runner c.ready.new.runner own.adds.top own.there
+    (omega arith) _ c.in_err-ready.field-0.0 c.from_residual.ensures.1
+
+pub returns-in_err-hints-clause-once : goal.returns-in_err-hints-clause-once
+returns-in_err-hints-clause-once g c =
+    let own = c.in_ok-ready.ensures in
+    once_failed c.args.sums.now.items c.ready.new.sums.items c.args.runner.now c.ready.new.runner c.ready.new.runner own.adds.top own.there
+    (omega arith) _ _ c.from_residual-in_err-hints.ensures.1
+
+pub returns-in_err-refuse-clause-once : goal.returns-in_err-refuse-clause-once
+returns-in_err-refuse-clause-once g c =
+    let own = c.in_ok-ready.ensures in
+    once_failed c.args.sums.now.items c.ready.new.sums.items c.args.runner.now c.ready.new.runner c.refuse.new.self own.adds.top own.there
+    c.in_err-refuse.ensures.refuses.goes_on.top _ c.in_err-refuse.field-0.0 c.from_residual-in_err-refuse.ensures.1
+
+pub returns-clause-once : goal.returns-clause-once
+returns-clause-once g c =
+    let own = c.in_ok-ready.ensures in
+    once_behind c.args.sums.now.items c.ready.new.sums.items c.args.runner.now c.ready.new.runner c.refuse.new.self own.adds.top own.there
+    c.in_ok-refuse.ensures.refuses.goes_on.top (Ok Unsat) own.none
+
+-- no assignment makes the term true and the cube
+none_yet : (g : Over) (c : In_ok-ready g) → (a : Assignment) → holds_in c.ready.new.runner c.args.term.now.held a ≡ true
+    → cube_holds a c.args.cube.now ≡ true → ⊥
+none_yet g c a holds =
+    let held = c.args.term.now.held in
+    let stays = stays_added c.args.runner.now c.ready.new.runner _ _ c.in_ok-ready.ensures.adds in
+    c.requires.none a
+    (sym (c.requires.value a) ∙ sym (stays.keeps.values held (alone_good c.args.runner.now held c.requires.alone) a) ∙ holds)
+
+pub unreachable-requires : goal.unreachable-requires
+unreachable-requires g c =
+    let mid = (goal.at.unreachable-requires g c).In_ok-ready in
+    unit_there c.ready.new.runner (still g mid) c.args.term.now.held (good g mid) c.args.finder.now.dead.items c.requires.found.shut
+    c.in_default.ensures
+
+pub hints-requires-clause-node : goal.hints-requires-clause-node
+hints-requires-clause-node g c =
+    let mid = (goal.at.hints-requires-clause-node g c).In_ok-ready in
+    subst (λ t. is_node t.graph c.node.result ≡ true) (sym c.table.ensures)
+    (subst (λ (n : Node). is_node c.ready.new.runner.terms.table.graph n ≡ true) (sym c.node.ensures)
+    (proved_good c.ready.new.runner (still g mid) c.args.term.now.held (good g mid)).stands)
+
+pub hints-requires-clause-unit : goal.hints-requires-clause-unit
+hints-requires-clause-unit g c =
+    let mid = (goal.at.hints-requires-clause-unit g c).In_ok-ready in
+    let id = c.in-Some.unit in
+    subst (λ t. clause_at t.book.state.live id ≡ clause_from_atoms (atom_of t.graph c.node.result ∷ [])) (sym c.table.ensures)
+    (subst (λ (n : Node). clause_at c.ready.new.runner.terms.table.book.state.live id
+    ≡ clause_from_atoms (atom_of c.ready.new.runner.terms.table.graph n ∷ [])) (sym c.node.ensures)
+    (unit_at c.ready.new.runner (still g mid) c.args.term.now.held (good g mid) id c.in-Some.ensures))
+
+pub refuse-requires-clause-good : goal.refuse-requires-clause-good
+refuse-requires-clause-good g c = good g (goal.at.refuse-requires-clause-good g c).In_ok-ready
+
+pub refuse-requires-clause-some : goal.refuse-requires-clause-some
+refuse-requires-clause-some g c =
+    let mid = (goal.at.refuse-requires-clause-some g c).In_ok-ready in
+    some_literal c.ready.new.runner (still g mid) c.args.term.now.held (good g mid) c.canonical_law.ensures c.counting_law.ensures
+    c.args.cube.now (none_yet g mid)

@@ -1,12 +1,14 @@
 -- What is left to show of `reply_all`.
 use Rattle.std.proofs.Common.{◌∙◌, [], ℕ, List, length, ap, sym, subst}
 use Rattle.cnf_base.specs.Formula.{Formula}
-use Rattle.term_runner.specs.declared.held.HeldTerm.{HeldTerm}
-use Rattle.term_runner.specs.Runner.{IsListed}
+use Rattle.node_table.specs.declared.error.TableError.TheVariants.{NodeLimit}
+use Rattle.bdd_terms.specs.declared.held.HeldTerm.{HeldTerm}
+use Rattle.bdd_terms.specs.Runner.{IsListed}
 use Rattle.cube_text.specs.CubeText.{AreCubes}
 use Rattle.cube_queries.specs.Steps.{formula_holds}
 use Rattle.cube_queries.proofs.Alone.{alone_good}
 use Rattle.cube_queries.proofs.Asked.{all_released, none_left, none_taken, runner_yet, taken_none}
+use Rattle.cube_queries.proofs.Taken.{error_is}
 use Rattle.cube_queries.proofs.Totals.{costs_all, costs_all_released, costs_plan}
 use Rattle.cube_queries.proofs.session.reply_all.Goals as goal
 
@@ -29,7 +31,8 @@ pub returns-clause-replies : goal.returns-clause-replies
 returns-clause-replies g c =
     all_released c.steps_law.ensures c.args.cubes.now c.args.runner.now c.term_of_formula.new.runner c.reply_each-answers.new.runner
     c.release.new.self c.in_ok-term.term.held c.in_ok-term.ensures.takes.goes c.release.ensures.releases c.release.ensures.torn
-    c.reply_each-answers.result c.reply_each-answers.ensures.no_limit c.reply_each-answers.ensures.replies
+    c.reply_each-answers.result c.reply_each-answers.ensures.no_limit c.reply_each-answers.ensures.spent
+    c.reply_each-answers.ensures.replies
 
 pub returns-in_err-term-clause-costs : goal.returns-in_err-term-clause-costs
 returns-in_err-term-clause-costs g c =
@@ -41,7 +44,8 @@ returns-clause-costs g c =
     costs_all_released c.args.cubes.now c.args.runner.now c.reply_each-answers.new.runner c.release.new.self c.in_ok-term.term.held
     c.release.ensures.releases c.release.ensures.torn _
     (costs_all c.args.cubes.now c.args.runner.now c.term_of_formula.new.runner c.reply_each-answers.new.runner _
-    c.in_ok-term.ensures.takes.goes c.in_ok-term.ensures.costs c.reply_each-answers.ensures.costs)
+    c.in_ok-term.ensures.takes.goes (λ is. c.reply_each-answers.ensures.no_limit (error_is c.reply_each-answers.result NodeLimit is))
+    c.in_ok-term.ensures.costs c.reply_each-answers.ensures.costs)
 
 pub reply_each-answers-requires-clause-value : goal.reply_each-answers-requires-clause-value
 reply_each-answers-requires-clause-value g c a =

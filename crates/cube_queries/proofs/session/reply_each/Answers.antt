@@ -1,22 +1,23 @@
 -- What is left to show of `reply_each`.
-use Rattle.std.proofs.Common.{◌≡◌, ◌∙◌, ◌<◌, ◌+◌, ◌-◌, [], ℕ, ℤ, List, None, Some, Ok, Err, length, take, true, sym, ap, subst, arith, inl}
+use Rattle.std.proofs.Common.{◌≡◌, ◌∙◌, ◌<◌, ◌+◌, ◌-◌, [], ℕ, ℤ, List, None, Some, Ok, Err, length, take, true, refl, sym, ap, subst, arith, inl}
 use Rattle.std.specs.Prelude.{slice_index_or}
 use Rattle.std.specs.List.{list_all}
 use Rattle.cnf_base.specs.Cube.{is_consistent}
 use Rattle.cnf_base.specs.Truth.{is_literal_of}
-use Rattle.node_table.specs.declared.error.TableError.TheVariants.{NodeLimit, OutOfMemory}
-use Rattle.term_runner.specs.declared.held.HeldTerm.{HeldTerm}
+use Rattle.node_table.specs.declared.error.TableError.TheVariants.{IdLimit, NodeLimit, OutOfMemory}
+use Rattle.bdd_terms.specs.declared.held.HeldTerm.{HeldTerm}
 use Rattle.node_table.specs.Made.{inner}
 use Rattle.node_table.specs.Marks.{IsReached}
-use Rattle.term_runner.specs.Runner.{IsListed, nodes_of}
+use Rattle.node_table.specs.Table.{live_nodes}
+use Rattle.bdd_terms.specs.Runner.{IsListed, nodes_of}
 use Rattle.cube_queries.specs.declared.answer.Answer.{Answer}
-use Rattle.cube_queries.proofs.Added.{all_reached}
+use Rattle.cube_queries.proofs.Added.{all_reached, few_more, few_most}
 use Rattle.cube_queries.proofs.Alone.{alone_good}
 use Rattle.cube_queries.proofs.Asked.{AnswersIn, all_at, all_replied, answers_more, no_room_replied, none_reclaimed, none_replied, stays_none}
-use Rattle.cube_queries.proofs.Asked.{handed_limit, stays_replied, value_yet, whole_answers}
+use Rattle.cube_queries.proofs.Asked.{handed_limit, handed_spent, stays_replied, value_yet, whole_answers}
 use Rattle.cube_queries.proofs.Stays.{stays_back, stays_further}
-use Rattle.cube_queries.proofs.Totals.{cube_costs, cube_short, cubes_back, cubes_done, cubes_handed, no_cubes}
-use Rattle.cube_queries.proofs.Taken.{error_is, gives_back}
+use Rattle.cube_queries.proofs.Totals.{cubes_cost, no_cubes_cost}
+use Rattle.cube_queries.proofs.Taken.{gives_back}
 use Rattle.cube_queries.proofs.session.reply_each.Goals as goal
 
 -- the cube of the number behind a place
@@ -33,15 +34,6 @@ returns-in_err-reclaim-clause-replies g c =
 pub returns-in_err-reclaim-clause-out : goal.returns-in_err-reclaim-clause-out
 returns-in_err-reclaim-clause-out g c = ap (λ v. v.items) c.in_err-reclaim.ensures.out
 
-pub returns-in_err-reclaim-clause-costs : goal.returns-in_err-reclaim-clause-costs
-returns-in_err-reclaim-clause-costs g c =
-    let came = c.in_err-reclaim.field-0.0 in
-    cubes_handed c.args.cubes.now c.args.runner.now c.reclaim.new.self came _ c.from_residual.ensures.1
-    (cubes_done c.args.cubes.now 0 c.args.runner.now c.reclaim.new.self (Some came) (omega arith)
-    (λ is. (gives_back c.args.runner.now c.reclaim.new.self _ c.in_err-reclaim.ensures).no_limit (error_is (Err came) NodeLimit is))
-    (cubes_back c.args.cubes.now 0 c.args.runner.now c.args.runner.now c.reclaim.new.self (Err came)
-    (no_cubes c.args.cubes.now c.args.runner.now) (gives_back c.args.runner.now c.reclaim.new.self _ c.in_err-reclaim.ensures)))
-
 pub cubes-init : goal.cubes-init
 cubes-init g c =
     let back = gives_back c.args.runner.now c.reclaim.new.self _ c.in_ok-reclaim.ensures in
@@ -51,8 +43,11 @@ cubes-init g c =
       reached = λ key branch at. subst (λ (l : List HeldTerm). IsReached c.reclaim.new.self.terms.table.graph (nodes_of l) (inner key))
           (sym back.out) (c.in_ok-reclaim.ensures.reached.reached key branch at);
       sums = inl c.new-sums.ensures.items;
-      paid = cubes_back c.args.cubes.now 0 c.args.runner.now c.args.runner.now c.reclaim.new.self (Ok _)
-          (no_cubes c.args.cubes.now c.args.runner.now) back;
+      few = record {
+        begun = λ is. omega (arith, back.top);
+        most = omega (arith, back.top);
+        none = λ is. omega (arith, back.top);
+      };
       answers = subst (λ (l : List Answer). AnswersIn c.reclaim.new.self [] l) (sym c.new-answers.ensures) tt;
     }
 
@@ -65,9 +60,6 @@ reply-requires-clause-finder g c = c.cubes.invariant.finder
 pub reply-requires-clause-alone : goal.reply-requires-clause-alone
 reply-requires-clause-alone g c =
     subst (λ (l : List HeldTerm). IsListed [] l c.args.term.now.held) (sym c.cubes.invariant.stays.out) c.requires.alone
-
-pub reply-requires-clause-reached : goal.reply-requires-clause-reached
-reply-requires-clause-reached g c = c.cubes.invariant.reached
 
 pub reply-requires-clause-sums : goal.reply-requires-clause-sums
 reply-requires-clause-sums g c = c.cubes.invariant.sums
@@ -122,9 +114,8 @@ cubes-preserved g c =
       finder = own.finder;
       reached = all_reached c.cubes.runner c.reply.new.runner own.nodes own.replies.out c.cubes.invariant.reached;
       sums = own.sums;
-      paid = cube_costs c.args.cubes.now c.args.runner.now c.cubes.runner c.reply.new.runner c.cubes.place within
-          c.cubes.invariant.stays.goes c.cubes.invariant.paid None
-          (rw (at_place c.args.cubes.now c.cubes.place c.cube-cube.result.now c.cube-cube.ensures) at own.costs);
+      few = few_more c.cubes.place c.args.runner.now c.cubes.runner c.reply.new.runner own.nodes (Ok c.in_ok-answer.answer) c.cubes.sums.items
+          c.reply.new.sums.items refl c.cubes.invariant.few own.once;
       stays = stays_further c.steps_law.ensures c.args.runner.now c.cubes.runner c.reply.new.runner c.cubes.invariant.stays replied;
       answers = subst (λ (l : List Answer). AnswersIn c.reply.new.runner (take (c.cubes.place + 1) c.args.cubes.now) l)
           (sym c.in_ok-push.ensures) more;
@@ -138,25 +129,6 @@ returns-clause-replies g c =
 
 pub returns-clause-out : goal.returns-clause-out
 returns-clause-out g c = c.cubes.invariant.stays.out
-
-pub returns-in_err-answer-clause-costs : goal.returns-in_err-answer-clause-costs
-returns-in_err-answer-clause-costs g c =
-    cubes_handed c.args.cubes.now c.args.runner.now c.reply.new.runner c.in_err-answer.field-0.0 _ c.from_residual-in_err-answer.ensures.1
-    (cube_short c.args.cubes.now c.args.runner.now c.cubes.runner c.reply.new.runner c.cubes.place (omega (arith, c.cubes-test.true, c.len-place-end.ensures))
-    c.cubes.invariant.stays.goes c.cubes.invariant.paid (Some c.in_err-answer.field-0.0) (rw (at_place c.args.cubes.now c.cubes.place c.cube-cube.result.now c.cube-cube.ensures) at c.in_err-answer.ensures.costs))
-
-pub returns-in_err-push-clause-costs : goal.returns-in_err-push-clause-costs
-returns-in_err-push-clause-costs g c =
-    cubes_handed c.args.cubes.now c.args.runner.now c.reply.new.runner OutOfMemory _ c.from_residual-in_err-push.ensures.1
-    (cubes_done c.args.cubes.now (c.cubes.place + 1) c.args.runner.now c.reply.new.runner (Some OutOfMemory)
-    (omega (arith, c.cubes-test.true, c.len-place-end.ensures)) (λ is. let e : OutOfMemory ≡ NodeLimit = cc in cc)
-    (cube_costs c.args.cubes.now c.args.runner.now c.cubes.runner c.reply.new.runner c.cubes.place (omega (arith, c.cubes-test.true, c.len-place-end.ensures))
-    c.cubes.invariant.stays.goes c.cubes.invariant.paid None (rw (at_place c.args.cubes.now c.cubes.place c.cube-cube.result.now c.cube-cube.ensures) at c.in_ok-answer.ensures.costs)))
-
-pub returns-clause-costs : goal.returns-clause-costs
-returns-clause-costs g c =
-    let all : c.cubes.place ≡ length c.args.cubes.now = omega (arith, c.cubes.auto.place-end, c.len-place-end.ensures, c.cubes-test.false) in
-    cubes_done c.args.cubes.now c.cubes.place c.args.runner.now c.cubes.runner None (omega (arith, all)) (λ is. cc) c.cubes.invariant.paid
 
 -- no limit of nodes is met
 pub returns-in_err-reclaim-clause-no_limit : goal.returns-in_err-reclaim-clause-no_limit
@@ -172,3 +144,67 @@ returns-in_err-answer-clause-no_limit g c =
 pub returns-in_err-push-clause-no_limit : goal.returns-in_err-push-clause-no_limit
 returns-in_err-push-clause-no_limit g c =
     handed_limit OutOfMemory _ c.from_residual-in_err-push.ensures.1 (λ is. let e : OutOfMemory ≡ NodeLimit = is in cc)
+
+-- and that of numbers only where none is left
+pub returns-in_err-reclaim-clause-spent : goal.returns-in_err-reclaim-clause-spent
+returns-in_err-reclaim-clause-spent g c =
+    handed_spent c.in_err-reclaim.field-0.0 _ c.from_residual.ensures.1
+    (λ is. absurd ((gives_back c.args.runner.now c.reclaim.new.self _ c.in_err-reclaim.ensures).no_numbers (ap Err is)))
+
+pub returns-in_err-answer-clause-spent : goal.returns-in_err-answer-clause-spent
+returns-in_err-answer-clause-spent g c =
+    handed_spent c.in_err-answer.field-0.0 _ c.from_residual-in_err-answer.ensures.1
+    (λ is. c.in_err-answer.ensures.replies.spent (ap Err is))
+
+pub returns-in_err-push-clause-spent : goal.returns-in_err-push-clause-spent
+returns-in_err-push-clause-spent g c =
+    handed_spent OutOfMemory _ c.from_residual-in_err-push.ensures.1 (λ is. absurd (let e : OutOfMemory ≡ IdLimit = is in cc))
+
+-- what the cubes cost
+pub returns-in_err-reclaim-clause-costs : goal.returns-in_err-reclaim-clause-costs
+returns-in_err-reclaim-clause-costs g c =
+    no_cubes_cost c.args.cubes.now c.args.runner.now c.reclaim.new.self
+    (gives_back c.args.runner.now c.reclaim.new.self _ c.in_err-reclaim.ensures).top
+
+pub returns-in_err-answer-clause-costs : goal.returns-in_err-answer-clause-costs
+returns-in_err-answer-clause-costs g c =
+    let own = c.in_err-answer.ensures in
+    let most = few_most c.cubes.place c.args.runner.now c.cubes.runner c.reply.new.runner own.nodes (Err c.in_err-answer.field-0.0)
+    c.cubes.sums.items c.reply.new.sums.items c.cubes.invariant.few own.once in
+    let stays = c.cubes.invariant.stays in
+    let held = c.args.term.now.held in
+    let good = alone_good c.args.runner.now held c.requires.alone in
+    let alone = subst (λ (l : List HeldTerm). IsListed [] l held) (sym stays.out) c.requires.alone in
+    cubes_cost c.steps_law.ensures c.counting_law.ensures c.args.cubes.now c.args.runner.now c.cubes.runner c.reply.new.runner held stays.goes
+    stays.runner c.cubes.invariant.reached alone (alone_good c.cubes.runner held alone)
+    (value_yet c.args.runner.now c.cubes.runner stays held good c.requires.value)
+    (omega (arith, most, ap live_nodes own.nodes, c.cubes-test.true, c.len-place-end.ensures))
+    (λ is. absurd (let empty = ap length is in omega (arith, empty, c.cubes-test.true, c.len-place-end.ensures)))
+
+pub returns-in_err-push-clause-costs : goal.returns-in_err-push-clause-costs
+returns-in_err-push-clause-costs g c =
+    let own = c.in_ok-answer.ensures in
+    let most = few_most c.cubes.place c.args.runner.now c.cubes.runner c.reply.new.runner own.nodes (Ok c.in_ok-answer.answer)
+    c.cubes.sums.items c.reply.new.sums.items c.cubes.invariant.few own.once in
+    let stays = c.cubes.invariant.stays in
+    let held = c.args.term.now.held in
+    let good = alone_good c.args.runner.now held c.requires.alone in
+    let alone = subst (λ (l : List HeldTerm). IsListed [] l held) (sym stays.out) c.requires.alone in
+    cubes_cost c.steps_law.ensures c.counting_law.ensures c.args.cubes.now c.args.runner.now c.cubes.runner c.reply.new.runner held stays.goes
+    stays.runner c.cubes.invariant.reached alone (alone_good c.cubes.runner held alone)
+    (value_yet c.args.runner.now c.cubes.runner stays held good c.requires.value)
+    (omega (arith, most, ap live_nodes own.nodes, c.cubes-test.true, c.len-place-end.ensures))
+    (λ is. absurd (let empty = ap length is in omega (arith, empty, c.cubes-test.true, c.len-place-end.ensures)))
+
+pub returns-clause-costs : goal.returns-clause-costs
+returns-clause-costs g c =
+    let most = c.cubes.invariant.few.most in
+    let stays = c.cubes.invariant.stays in
+    let held = c.args.term.now.held in
+    let good = alone_good c.args.runner.now held c.requires.alone in
+    let alone = subst (λ (l : List HeldTerm). IsListed [] l held) (sym stays.out) c.requires.alone in
+    cubes_cost c.steps_law.ensures c.counting_law.ensures c.args.cubes.now c.args.runner.now c.cubes.runner c.cubes.runner held stays.goes
+    stays.runner c.cubes.invariant.reached alone (alone_good c.cubes.runner held alone)
+    (value_yet c.args.runner.now c.cubes.runner stays held good c.requires.value)
+    (omega (arith, most, c.cubes.auto.place-end, c.len-place-end.ensures, c.cubes-test.false))
+    (λ is. c.cubes.invariant.few.begun (let empty = ap length is in omega (arith, empty, c.cubes.auto.place-end, c.len-place-end.ensures)))

@@ -2,9 +2,9 @@
 use Rattle.std.proofs.Common.{take}
 use Rattle.cube_models.specs.Finder.{IsFinder}
 use Rattle.cube_queries.specs.Sums.{AreAllReached, AreReady}
+use Rattle.cube_queries.proofs.Added.{AreFewYet}
 use Rattle.cube_queries.proofs.Asked.{AnswersIn}
 use Rattle.cube_queries.proofs.Stays.{Stays}
-use Rattle.cube_queries.proofs.Totals.{PaidCubes}
 use Rattle.cube_queries.proofs.session.reply_each.Given as goal
 
 abbrev pub invariant-cubes : goal.invariant-cubes
@@ -13,6 +13,6 @@ invariant-cubes g l = record {
   finder : IsFinder l.finder;
   reached : AreAllReached l.runner;
   sums : AreReady l.runner.terms.table.graph l.runner.terms.table.book.state.live l.sums.items;
-  paid : PaidCubes l.cubes l.place l.fn.runner l.runner;
+  few : AreFewYet l.place l.sums.items l.fn.runner l.runner;
   answers : AnswersIn l.runner (take l.place l.cubes) l.answers;
 }

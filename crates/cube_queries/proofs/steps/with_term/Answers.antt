@@ -1,7 +1,7 @@
 -- What is left to show of `with_term`.
 use Rattle.std.proofs.Common.{◌&&◌}
 use Rattle.schedule_plan.specs.Plan.{input as input_term, term_holds}
-use Rattle.term_runner.specs.Runner.{holds_in}
+use Rattle.bdd_terms.specs.Runner.{holds_in}
 use Rattle.node_table.specs.HandedOn.{no_error}
 use Rattle.cube_queries.proofs.Alone.{alone_good}
 use Rattle.cube_queries.proofs.Costed.{costs_handed, costs_with, costs_without}

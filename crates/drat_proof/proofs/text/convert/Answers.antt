@@ -6,7 +6,7 @@ use Rattle.lrat_text.specs.Reader.{steps_ahead, so_far}
 use Rattle.lrat_text.specs.Steps.{steps, steps_so_far}
 use Rattle.lrat_text.specs.Wants.{wants_of, wants_ahead}
 use Rattle.lrat_rules.specs.State.{State}
-use Rattle.lrat_checker.specs.declared.verdict.Verdict.{Verdict}
+use Rattle.proof_judging.specs.declared.verdict.Verdict.{Verdict}
 use Rattle.lrat_checker.specs.TextVerdict.{max_bytes, steps_verdict, text_verdict, verdict_so_far}
 use Rattle.lrat_checker.specs.Memory.{reading_may_want_memory, check_may_want_memory}
 use Rattle.drat_text.specs.declared.step.DratStep.{DratStep}
@@ -16,7 +16,7 @@ use Rattle.drat_proof.specs.Naming.{NamesAhead, names_at_first, names_ahead, nam
 use Rattle.drat_proof.specs.TwoRoles.{added}
 use Rattle.drat_proof.specs.Conversion.{HasVerdict, HasWritten}
 use Rattle.drat_proof.specs.declared.error.ConvertError.TheVariants.{OutOfMemory}
-use Rattle.drat_proof.proofs.Exits.{none_written}
+use Rattle.drat_proof.proofs.Added.{none_written}
 use Rattle.drat_proof.proofs.text.convert.Goals as goal
 
 -- where there was no memory for the formula, nothing was written

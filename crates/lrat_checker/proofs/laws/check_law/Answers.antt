@@ -6,7 +6,8 @@ use Rattle.cnf_base.specs.ProofText.{proof_lines}
 use Rattle.lrat_text.specs.Steps.{steps, no_more, lines_then}
 use Rattle.lrat_rules.specs.State.{start}
 use Rattle.lrat_rules.specs.Run.{verdict}
-use Rattle.lrat_checker.specs.TextVerdict.{max_bytes, steps_verdict, text_verdict, verdict_as}
+use Rattle.proof_judging.specs.Verdict.{verdict_as}
+use Rattle.lrat_checker.specs.TextVerdict.{max_bytes, steps_verdict, text_verdict}
 use Rattle.lrat_checker.proofs.Verdicts.{some_none, lines_verdict, verified_none, refused_some}
 use Rattle.lrat_checker.proofs.Overlong.{long_verdict, verified_fits, long_refused}
 use Rattle.lrat_checker.proofs.laws.check_law.Goals as goal

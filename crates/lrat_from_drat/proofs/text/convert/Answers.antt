@@ -6,7 +6,7 @@ use Rattle.lrat_text.specs.LineSteps.{StepsOf}
 use Rattle.lrat_text.specs.LineReader.{steps_ahead, so_far}
 use Rattle.lrat_text.specs.LineWants.{wants_ahead}
 use Rattle.lrat_rules.specs.State.{start}
-use Rattle.lrat_checker.specs.declared.verdict.Verdict.{Verdict}
+use Rattle.proof_judging.specs.declared.verdict.Verdict.{Verdict}
 use Rattle.drat_text.specs.declared.step.DratStep.{DratStep}
 use Rattle.drat_text.specs.Draft.{drat_form}
 use Rattle.drat_rules.specs.Clauses.{equality_of}

@@ -26,10 +26,11 @@ returns-in-Ok-clause-kept g c =
 pub returns-in-Err-clause-converts : goal.returns-in-Err-clause-converts
 returns-in-Err-clause-converts g c = λ clauses is.
     subst (λ (i : Channel). ConvertsFrom g.H.Host.tells (g.H.Host.channel c.args.host.now ProofIn) i
-    (g.H.Host.channel c.args.host.now ProofOut) (g.H.Host.channel c.begin_in.new.host ProofOut) (equality_of c.args.deletions) clauses
+    (g.H.Host.channel c.args.host.now ProofOut) (g.H.Host.channel c.begin_in.new.host ProofOut)
+    (equality_of c.args.conversion.now.deletions) clauses
     c.args.reader.now (Err c.in-Err.error)) (sym (c.begin_in.ensures.kept.others ProofIn refl))
     (ends-early g.H.Host.tells (g.H.Host.channel c.args.host.now ProofIn) (g.H.Host.channel c.args.host.now ProofOut)
-    (g.H.Host.channel c.begin_in.new.host ProofOut) (equality_of c.args.deletions) clauses c.args.reader.now c.in-Err.error
+    (g.H.Host.channel c.begin_in.new.host ProofOut) (equality_of c.args.conversion.now.deletions) clauses c.args.reader.now c.in-Err.error
     (c.in-Err.ensures.begins clauses is))
 
 pub returns-in-Err-clause-kept : goal.returns-in-Err-clause-kept

@@ -1,5 +1,5 @@
 -- What is left to show of `run_with_parity`.
-use Rattle.std.proofs.Common.{rules, MutBor, ◌≡◌, ◌∙◌, ◌≤◌, max, [], length, false, true, All, sym, ap, subst}
+use Rattle.std.proofs.Common.{rules, MutBor, ◌≡◌, ◌∙◌, [], length, false, true, All, sym, ap, subst}
 use Rattle.std.specs.Prelude.{IfOk}
 use Rattle.std.specs.List.{list_all}
 use Rattle.cnf_base.specs.Formula.{Formula}
@@ -8,12 +8,13 @@ use Rattle.schedule_plan.specs.declared.limits.Limits.{Limits}
 use Rattle.schedule_plan.specs.Plan.{IsAdmissible}
 use Rattle.parity_equations.specs.Equations.{equations}
 use Rattle.parity_equations.specs.Walk.{IsEquationOf}
-use Rattle.term_runner.specs.declared.runner.Runner.{Runner}
+use Rattle.bdd_terms.specs.declared.runner.Runner.{Runner}
 use Rattle.term_runner.specs.Clauses.{has_empty_clause, is_tautology}
+use Rattle.term_runner.specs.Ends.{HasLast}
 use Rattle.parity_runs.specs.Ends.{EndsWithParity}
 use Rattle.parity_runs.proofs.Began.{nothing_ends}
 use Rattle.parity_runs.proofs.Lent.{inner_kept, lender_kept}
-use Rattle.parity_runs.proofs.Told.{last_within, origin_kept, run_ends}
+use Rattle.parity_runs.proofs.Told.{last_within, origin_kept, run_ends, sums_spent}
 use Rattle.parity_runs.proofs.Without.{ends_alone, ends_empty, none_listed, some_found, some_open, told_empty}
 use Rattle.parity_runs.proofs.run.run_with_parity.Given.{Over}
 use Rattle.parity_runs.proofs.run.run_with_parity.Goals as goal
@@ -53,6 +54,9 @@ go_on-sink-requires-clause-plan g c whole =
     subst (λ (f : Formula). IsAdmissible f c.args.plan.now)
     (sym (ap (λ f. f.now) (c.eliminate-found.ensures.ends.keeps whole).formula ∙ c.new-runner.ensures.opened.of_formula))
     c.requires.plan
+
+pub go_on-sink-requires-clause-spent : goal.go_on-sink-requires-clause-spent
+go_on-sink-requires-clause-spent g c is = sums_spent _ c.new-runner.result _ c.eliminate-found.result c.eliminate-found.ensures.ends is
 
 -- the run's end, over the lent sink
 module _ (g : Over) (c : After-go_on-sink g) where
@@ -115,7 +119,7 @@ returns-clause-last g c =
     let result = c.go_on-sink.result.1 in
     let old = c.new-runner.result in
     let opened = c.new-runner.ensures.opened in
-    subst (λ (f : Formula). IfOk result (λ run. run.last_id ≤ max (length f.clauses) c.args.limits.max_ids)) opened.of_formula
-    (subst (λ (l : Limits). IfOk result (λ run. run.last_id ≤ max (length old.formula.now.clauses) l.max_ids)) opened.within
+    subst (λ (f : Formula). IfOk result (HasLast f c.args.limits)) opened.of_formula
+    (subst (λ (l : Limits). IfOk result (HasLast old.formula.now l)) opened.within
     (last_within old c.eliminate-found.new.runner result c.go_on-sink.ensures.last _ _ _ _ _ _ c.eliminate-found.ensures.ends
     c.go_on-sink.ensures.goes))

@@ -1,6 +1,6 @@
 -- What the loop of `term_of_clauses` keeps.
 use Rattle.std.proofs.Common.{◌≤◌, ◌-◌, ◌*◌, ℕ, List, length, take}
-use Rattle.term_runner.specs.declared.held.HeldTerm.{HeldTerm}
+use Rattle.bdd_terms.specs.declared.held.HeldTerm.{HeldTerm}
 use Rattle.parity_terms.specs.Limit.{AreClausesAmong, CostsMoves}
 use Rattle.parity_terms.specs.Owned.{Owns}
 use Rattle.parity_terms.proofs.Joined.{HaveTerm}

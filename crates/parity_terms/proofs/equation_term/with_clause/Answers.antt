@@ -3,8 +3,8 @@ use Rattle.std.proofs.Common.{◌∷◌, ◌&&◌, List, Ok, Err, refl, arith}
 use Rattle.cnf_base.specs.Truth.{Assignment}
 use Rattle.node_table.specs.HandedOn.{no_error}
 use Rattle.schedule_plan.specs.Plan.{input as input_term, term_holds}
-use Rattle.term_runner.specs.declared.held.HeldTerm.{HeldTerm}
-use Rattle.term_runner.specs.Runner.{holds_in}
+use Rattle.bdd_terms.specs.declared.held.HeldTerm.{HeldTerm}
+use Rattle.bdd_terms.specs.Runner.{holds_in}
 use Rattle.parity_terms.specs.Steps.{with_given}
 use Rattle.parity_terms.proofs.Stepped.{step_behind}
 use Rattle.parity_terms.proofs.Joined.{full_released, joins_both, joins_error}

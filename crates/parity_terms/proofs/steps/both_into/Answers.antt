@@ -1,7 +1,7 @@
 -- What is left to show of `both_into`.
 use Rattle.std.proofs.Common.{◌∷◌, ◌&&◌, List, arith, refl}
-use Rattle.term_runner.specs.declared.held.HeldTerm.{HeldTerm}
-use Rattle.term_runner.specs.Runner.{holds_in}
+use Rattle.bdd_terms.specs.declared.held.HeldTerm.{HeldTerm}
+use Rattle.bdd_terms.specs.Runner.{holds_in}
 use Rattle.parity_terms.proofs.Stepped.{step_behind}
 use Rattle.parity_terms.proofs.Joined.{full_released}
 use Rattle.parity_terms.proofs.Owned.{owned_good}

@@ -1,6 +1,6 @@
 -- What is left to show of `sum_into`.
 use Rattle.std.proofs.Common.{◌∷◌, List, arith, refl}
-use Rattle.term_runner.specs.declared.held.HeldTerm.{HeldTerm}
+use Rattle.bdd_terms.specs.declared.held.HeldTerm.{HeldTerm}
 use Rattle.parity_nodes.specs.Sums.{sum_is}
 use Rattle.parity_terms.proofs.Stepped.{step_behind}
 use Rattle.parity_terms.proofs.Joined.{full_released}

@@ -1,5 +1,7 @@
 -- What is left to show of `trim_law`.
+use Rattle.proof_trim.proofs.Closed.{closed}
 use Rattle.proof_trim.proofs.Least.{least}
+use Rattle.proof_trim.proofs.Shortened.{no_longer, shorter}
 use Rattle.proof_trim.proofs.Theorems.{all_named, core-refutes, core-unsatisfiable, trim-again, trim-refutes}
 use Rattle.proof_trim.proofs.laws.trim_law.Goals as goal
 
@@ -11,8 +13,17 @@ returns-clause-refutes c = trim-refutes c.start_law.ensures.none_at_zero c.start
 pub returns-clause-named : goal.returns-clause-named
 returns-clause-named c = all_named
 
+pub returns-clause-closed : goal.returns-clause-closed
+returns-clause-closed c = closed c.start_law.ensures.none_above
+
 pub returns-clause-least : goal.returns-clause-least
 returns-clause-least c = least
+
+pub returns-clause-short : goal.returns-clause-short
+returns-clause-short c = shorter c.whole_text_law.ensures c.long_text_law.ensures.front
+
+pub returns-clause-ended : goal.returns-clause-ended
+returns-clause-ended c = no_longer c.whole_text_law.ensures c.long_text_law.ensures.front
 
 pub returns-clause-verified : goal.returns-clause-verified
 returns-clause-verified c = λ clauses bytes verified short. c.check_law.ensures.refutes clauses _ short

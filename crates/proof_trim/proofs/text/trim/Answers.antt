@@ -3,8 +3,8 @@ use Rattle.std.proofs.Common.{◌≡◌, ◌∙◌, ℕ, Some, Ok, Err, length, 
 use Rattle.text_scan.specs.Decides.{Decides-map}
 use Rattle.lrat_text.specs.Steps.{steps}
 use Rattle.lrat_rules.specs.State.{start}
-use Rattle.lrat_checker.specs.declared.verdict.Verdict.TheVariants.{Verified}
-use Rattle.lrat_checker.specs.declared.verdict.CheckError.TheVariants.{ReadFault, OutOfMemory}
+use Rattle.proof_judging.specs.declared.verdict.Verdict.TheVariants.{Verified}
+use Rattle.proof_judging.specs.declared.verdict.CheckError.TheVariants.{ReadFault, OutOfMemory}
 use Rattle.lrat_checker.specs.TextVerdict.{max_bytes, text_verdict}
 use Rattle.proof_trim.specs.Trimmed.{additions_of_text, cut_steps, trimmed}
 use Rattle.proof_trim.specs.Answer.{AnswersBy}

@@ -37,16 +37,16 @@ returns-in-Ok-Check-clause-stages g c =
     inr (inr (inr (inl (record {
       task = check_of c.in-Ok-Check.task;
       asked = given c.in-Ok-Check.ensures.meant c.in-Ok-Check.field-0-is;
-      came = c.check.ensures.came;
+      came = c.serve.ensures.came;
     }))))
 
 pub returns-in-Ok-Check-clause-told : goal.returns-in-Ok-Check-clause-told
 returns-in-Ok-Check-clause-told g c =
-    subst (λ (on : Bool). IsTold on g.H.Host.tells (g.H.Host.channel c.args.host.now ErrRole) (g.H.Host.channel c.check.new.host ErrRole))
-    (sym (ap progress_asked (given c.in-Ok-Check.ensures.meant c.in-Ok-Check.field-0-is))) c.check.ensures.told
+    subst (λ (on : Bool). IsTold on g.H.Host.tells (g.H.Host.channel c.args.host.now ErrRole) (g.H.Host.channel c.serve.new.host ErrRole))
+    (sym (ap progress_asked (given c.in-Ok-Check.ensures.meant c.in-Ok-Check.field-0-is))) c.serve.ensures.told
 
 pub returns-in-Ok-Check-clause-files : goal.returns-in-Ok-Check-clause-files
-returns-in-Ok-Check-clause-files g c = λ file one other. c.check.ensures.files file none_some
+returns-in-Ok-Check-clause-files g c = c.serve.ensures.files
 
 pub returns-in-Ok-Bench-clause-stages : goal.returns-in-Ok-Bench-clause-stages
 returns-in-Ok-Bench-clause-stages g c =
@@ -83,56 +83,64 @@ returns-in-Ok-Order-clause-stages g c =
     inr (inr (inr (inr (inr (inr (inl (record {
       task = arrange_of c.in-Ok-Order.task;
       asked = given c.in-Ok-Order.ensures.meant c.in-Ok-Order.field-0-is;
-      came = c.arrange.ensures.came;
+      came = c.serve-in-Ok-Order.ensures.came;
     })))))))
 
 pub returns-in-Ok-Order-clause-told : goal.returns-in-Ok-Order-clause-told
-returns-in-Ok-Order-clause-told g c = untold (progress_asked (command (map string_bytes c.args.words.now))) c.arrange.ensures.error
+returns-in-Ok-Order-clause-told g c =
+    subst (λ (on : Bool). IsTold on g.H.Host.tells (g.H.Host.channel c.args.host.now ErrRole) (g.H.Host.channel c.serve-in-Ok-Order.new.host ErrRole))
+    (sym (ap progress_asked (given c.in-Ok-Order.ensures.meant c.in-Ok-Order.field-0-is))) c.serve-in-Ok-Order.ensures.told
 
 pub returns-in-Ok-Order-clause-files : goal.returns-in-Ok-Order-clause-files
-returns-in-Ok-Order-clause-files g c = λ file one other. c.arrange.ensures.files file other
+returns-in-Ok-Order-clause-files g c = c.serve-in-Ok-Order.ensures.files
 
 pub returns-in-Ok-Convert-clause-stages : goal.returns-in-Ok-Convert-clause-stages
 returns-in-Ok-Convert-clause-stages g c =
     inr (inr (inr (inr (inr (inr (inr (inl (record {
       task = convert_of c.in-Ok-Convert.task;
       asked = given c.in-Ok-Convert.ensures.meant c.in-Ok-Convert.field-0-is;
-      came = c.convert.ensures.came;
+      came = c.serve-in-Ok-Convert.ensures.came;
     }))))))))
 
 pub returns-in-Ok-Convert-clause-told : goal.returns-in-Ok-Convert-clause-told
-returns-in-Ok-Convert-clause-told g c = untold (progress_asked (command (map string_bytes c.args.words.now))) c.convert.ensures.error
+returns-in-Ok-Convert-clause-told g c =
+    subst (λ (on : Bool). IsTold on g.H.Host.tells (g.H.Host.channel c.args.host.now ErrRole) (g.H.Host.channel c.serve-in-Ok-Convert.new.host ErrRole))
+    (sym (ap progress_asked (given c.in-Ok-Convert.ensures.meant c.in-Ok-Convert.field-0-is))) c.serve-in-Ok-Convert.ensures.told
 
 pub returns-in-Ok-Convert-clause-files : goal.returns-in-Ok-Convert-clause-files
-returns-in-Ok-Convert-clause-files g c = λ file one other. c.convert.ensures.files file one
+returns-in-Ok-Convert-clause-files g c = c.serve-in-Ok-Convert.ensures.files
 
 pub returns-in-Ok-Trim-clause-stages : goal.returns-in-Ok-Trim-clause-stages
 returns-in-Ok-Trim-clause-stages g c =
     inr (inr (inr (inr (inr (inr (inr (inr (inl (record {
       task = trim_of c.in-Ok-Trim.task;
       asked = given c.in-Ok-Trim.ensures.meant c.in-Ok-Trim.field-0-is;
-      came = c.trim.ensures.came;
+      came = c.serve-in-Ok-Trim.ensures.came;
     })))))))))
 
 pub returns-in-Ok-Trim-clause-told : goal.returns-in-Ok-Trim-clause-told
-returns-in-Ok-Trim-clause-told g c = untold (progress_asked (command (map string_bytes c.args.words.now))) c.trim.ensures.error
+returns-in-Ok-Trim-clause-told g c =
+    subst (λ (on : Bool). IsTold on g.H.Host.tells (g.H.Host.channel c.args.host.now ErrRole) (g.H.Host.channel c.serve-in-Ok-Trim.new.host ErrRole))
+    (sym (ap progress_asked (given c.in-Ok-Trim.ensures.meant c.in-Ok-Trim.field-0-is))) c.serve-in-Ok-Trim.ensures.told
 
 pub returns-in-Ok-Trim-clause-files : goal.returns-in-Ok-Trim-clause-files
-returns-in-Ok-Trim-clause-files g c = c.trim.ensures.files
+returns-in-Ok-Trim-clause-files g c = c.serve-in-Ok-Trim.ensures.files
 
 pub returns-in-Ok-Ask-clause-stages : goal.returns-in-Ok-Ask-clause-stages
 returns-in-Ok-Ask-clause-stages g c =
     inr (inr (inr (inr (inr (inr (inr (inr (inr (record {
       task = ask_of c.in-Ok-Ask.task;
       asked = given c.in-Ok-Ask.ensures.meant c.in-Ok-Ask.field-0-is;
-      came = c.ask.ensures.came;
+      came = c.serve-in-Ok-Ask.ensures.came;
     })))))))))
 
 pub returns-in-Ok-Ask-clause-told : goal.returns-in-Ok-Ask-clause-told
-returns-in-Ok-Ask-clause-told g c = untold (progress_asked (command (map string_bytes c.args.words.now))) c.ask.ensures.error
+returns-in-Ok-Ask-clause-told g c =
+    subst (λ (on : Bool). IsTold on g.H.Host.tells (g.H.Host.channel c.args.host.now ErrRole) (g.H.Host.channel c.serve-in-Ok-Ask.new.host ErrRole))
+    (sym (ap progress_asked (given c.in-Ok-Ask.ensures.meant c.in-Ok-Ask.field-0-is))) c.serve-in-Ok-Ask.ensures.told
 
 pub returns-in-Ok-Ask-clause-files : goal.returns-in-Ok-Ask-clause-files
-returns-in-Ok-Ask-clause-files g c = λ file one other. c.ask.ensures.files file one
+returns-in-Ok-Ask-clause-files g c = c.serve-in-Ok-Ask.ensures.files
 
 pub returns-in-Err-OutOfMemory-clause-told : goal.returns-in-Err-OutOfMemory-clause-told
 returns-in-Err-OutOfMemory-clause-told g c = untold (progress_asked (command (map string_bytes c.args.words.now))) refl

@@ -3,7 +3,7 @@ use Rattle.std.proofs.Common.{◌≡◌, ℕ, Bool, Result, Ok, refl, sym, subst
 use Rattle.std.specs.Prelude.{IfOk}
 use Rattle.host_io.specs.Channel.{Channel}
 use Rattle.node_table.specs.HandedOn.{handed_on}
-use Rattle.term_runner.specs.declared.error.RunError.{RunError}
+use Rattle.bdd_terms.specs.declared.error.RunError.{RunError}
 use Rattle.term_runner.specs.declared.outcome.Outcome.{Outcome}
 use Rattle.term_runner.specs.declared.outcome.Run.{Run}
 use Rattle.term_runner.specs.Opened.{EndsWithinFrom, IsFlushed, Leads}

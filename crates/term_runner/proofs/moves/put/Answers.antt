@@ -7,10 +7,12 @@ use Rattle.std.proofs.lemmas.List.{drop_more, length_push, reverse-append, take-
 use Rattle.node_table.specs.Table.{TableState, IsAddedTo}
 use Rattle.node_table.specs.declared.node.Justification.{Justification}
 use Rattle.node_table.specs.declared.node.Justification.TheVariants.{Clause}
-use Rattle.term_runner.specs.declared.held.HeldTerm.{HeldTerm}
-use Rattle.term_runner.specs.Held.{IsUnitOf, MayGiveUp, RetiresUnits, UnitsApart}
-use Rattle.term_runner.proofs.Replaced.{apart_parts, first_unit, none_retired, one_more_retired}
-use Rattle.term_runner.proofs.Units.{not_both}
+use Rattle.bdd_terms.specs.declared.held.HeldTerm.{HeldTerm}
+use Rattle.bdd_terms.specs.Units.{IsUnitOf, RetiresUnits, UnitsApart}
+use Rattle.term_runner.specs.Held.{MayGiveUp}
+use Rattle.bdd_terms.proofs.Replaced.{apart_parts, first_unit, none_retired}
+use Rattle.term_runner.proofs.Placing.{one_more_retired}
+use Rattle.bdd_terms.proofs.Units.{not_both}
 use Rattle.term_runner.proofs.moves.put.Goals as goal
 
 -- the last one goes

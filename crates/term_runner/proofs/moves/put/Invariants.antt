@@ -2,7 +2,7 @@
 use Rattle.std.proofs.Common.{◌≡◌, ◌+◌, None, reverse, take, drop}
 use Rattle.std.specs.Prelude.{vec_len, vec_capacity}
 use Rattle.node_table.specs.Progress.{Steps}
-use Rattle.term_runner.specs.Held.{RetiresUnits}
+use Rattle.bdd_terms.specs.Units.{RetiresUnits}
 use Rattle.term_runner.proofs.moves.put.Given as goal
 
 abbrev pub invariant-operands : goal.invariant-operands

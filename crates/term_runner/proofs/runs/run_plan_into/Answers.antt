@@ -1,13 +1,13 @@
 -- What is left to show of `run_plan_into`.
-use Rattle.std.proofs.Common.{rules, MutBor, ◌≡◌, List, ℕ, length, max, refl, ap, ◌∙◌, subst}
-use Rattle.std.specs.Prelude.{◌≤◌, IfOk, IsTrue}
+use Rattle.std.proofs.Common.{rules, MutBor, ◌≡◌, List, ℕ, length, refl, ap, ◌∙◌, subst}
+use Rattle.std.specs.Prelude.{IfOk, IsTrue}
 use Rattle.cnf_base.specs.Formula.{Formula}
 use Rattle.schedule_plan.specs.declared.limits.Limits.{Limits}
 use Rattle.host_io.specs.Channel.{Channel}
-use Rattle.term_runner.specs.declared.runner.Runner.{Runner}
+use Rattle.bdd_terms.specs.declared.runner.Runner.{Runner}
 use Rattle.lrat_rules.specs.State.{start}
 use Rattle.lrat_rules.specs.Derivation.{IsWritten}
-use Rattle.term_runner.specs.Ends.{Ends}
+use Rattle.term_runner.specs.Ends.{Ends, HasLast}
 use Rattle.term_runner.specs.Price.{IsPaidFor}
 use Rattle.term_runner.specs.Proofs.{KeepsWithin}
 use Rattle.term_runner.proofs.Ending.{inner_kept, lender_kept, nothing_ends}
@@ -60,13 +60,13 @@ module _ (g : Over) (c : After-run-sink g) where
       (subst (λ (l : Limits). Ends tells (channel origin.now) after runner.formula.now runner.terms.table.graph.order moves l result)
       opened.within (c.run-sink.ensures.unused opened.unused))))
 
-  -- no number is above the greatest
-  last_within : IfOk c.run-sink.result.1 (λ run. run.last_id ≤ max (length c.args.formula.now.clauses) c.args.limits.max_ids)
+  -- its last number
+  last_within : IfOk c.run-sink.result.1 (HasLast c.args.formula.now c.args.limits)
   last_within =
       let opened = c.new-runner.ensures.opened in
       let result = c.run-sink.result.1 in
-      subst (λ (f : Formula). IfOk result (λ run. run.last_id ≤ max (length f.clauses) c.args.limits.max_ids)) opened.of_formula
-      (subst (λ (l : Limits). IfOk result (λ run. run.last_id ≤ max (length runner.formula.now.clauses) l.max_ids)) opened.within
+      subst (λ (f : Formula). IfOk result (HasLast f c.args.limits)) opened.of_formula
+      (subst (λ (l : Limits). IfOk result (HasLast runner.formula.now l)) opened.within
       c.run-sink.ensures.last)
 
   -- what is beside it

@@ -1,0 +1,8 @@
+-- What is left to show of `sort`.
+use Rattle.std.proofs.Common.{rules, ℕ}
+use Rattle.std.proofs.lemmas.List.Sorted.{IsNonDecreasingBy-from_sort_by_key}
+use Rattle.bdd_terms.proofs.sets.sort.Goals as goal
+
+pub returns-clause-sorted : goal.returns-clause-sorted
+returns-clause-sorted c = IsNonDecreasingBy-from_sort_by_key (λ (level : ℕ). level) _ c.sort_unstable_by_key.ensures.sorted
+    (λ a r q k. search rules)

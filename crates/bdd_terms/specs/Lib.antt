@@ -1,0 +1,17 @@
+pub mod Caches
+pub mod Counting
+pub mod Derived
+pub mod Finds
+pub mod Full
+pub mod OverFormula
+pub mod Parity
+pub mod Parts
+pub mod Price
+pub mod Proves
+pub mod Runner
+pub mod Sets
+pub mod Takes
+pub mod Tidy
+pub mod Units
+pub mod Unused
+pub mod Handover

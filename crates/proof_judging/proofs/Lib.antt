@@ -1,0 +1,5 @@
+pub mod Running
+pub mod Verdicts
+pub mod Ending
+pub mod Covered
+pub mod Plain

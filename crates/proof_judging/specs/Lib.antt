@@ -1,0 +1,4 @@
+pub mod Verdict
+pub mod Rules
+pub mod Run
+pub mod Checks

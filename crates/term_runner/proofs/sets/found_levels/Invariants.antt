@@ -1,7 +1,0 @@
--- What the loops of `found_levels` keep.
-use Rattle.std.proofs.Common.{take}
-use Rattle.term_runner.specs.Sets.{AreLevelsOf}
-use Rattle.term_runner.proofs.sets.found_levels.Given as goal
-
-abbrev pub invariant-variables : goal.invariant-variables
-invariant-variables g l = AreLevelsOf l.table.graph (take l.variable-index l.set) l.found.items
